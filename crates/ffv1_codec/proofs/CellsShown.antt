@@ -8,19 +8,18 @@ use Rattle.ffv1_samples.specs.Samples.{bytes_of, samples_of}
 use Rattle.ffv1_samples.proofs.Depths.{samples_back}
 use Rattle.ffv1_rct.specs.Transform.{IsCodedIn, luma_of, chroma_in}
 use Rattle.ffv1_record.specs.Configuration.{Configuration, is_rct}
-use Rattle.ffv1_slice.specs.Grid.{Side, begin_of, length_of, whole_of, across, down, division_of, factor_of}
+use Rattle.ffv1_slice.specs.Grid.{Side, begin_of, length_of, first_of, coded_of, shared_of, whole_of, across, down, division_of, factor_of}
 use Rattle.ffv1_codec.specs.Sides.{Alike, Tiles}
 use Rattle.ffv1_codec.specs.Picture.{Planes, plane, plane_count, plane_width, plane_samples, line_bytes, green_of, blue_of, sample_at, transformed_at, coded_at}
 use Rattle.ffv1_codec.specs.SliceList.{Line}
-use Rattle.ffv1_codec.specs.Order.{numbered}
-use Rattle.ffv1_codec.specs.Decoding.{Slice, FinishesBy, width_in, left_of, row_in, top_of}
+use Rattle.ffv1_codec.specs.Order.{numbered, new_planes}
+use Rattle.ffv1_codec.specs.Decoding.{Slice, FinishesBy, width_in, left_of, own_row, row_in, top_of}
 use Rattle.ffv1_codec.proofs.Machines.{each_left, each_right, Each, each_append}
 use Rattle.ffv1_codec.proofs.OneColour.{AreFew}
 use Rattle.ffv1_codec.proofs.Groups.{Group, IsGroup, group_lines}
 use Rattle.ffv1_codec.proofs.LinesRead.{lines_at}
 use Rattle.ffv1_codec.proofs.LinesMade.{MadeOf, handed, joined_line}
-use Rattle.ffv1_codec.proofs.Keys.{parts_from}
-use Rattle.ffv1_codec.proofs.JoinedLines.{tiled_at, row_long, row_at}
+use Rattle.ffv1_codec.proofs.JoinedLines.{tiled_at, own_long, own_at, row_at}
 use Rattle.ffv1_codec.proofs.LineSizes.{by_number}
 use Rattle.ffv1_codec.proofs.Words.{get_or_bytes, row_samples, sample_row, green_few, blue_few}
 
@@ -40,12 +39,9 @@ down_alike c alike p =
     let side : ℕ → Side = λ log2. record { size = c.height; count = c.rows; log2 = log2 } in
     ap (λ n. side (factor_of n p)) alike.v ∙ ap side (factor_zero p)
 
--- a sample of a part is a sample of the side
-pub inside_side : (s : Side) → Tiles s → (k x : ℕ) → k < s.count → x < length_of s k → begin_of s k + x < whole_of s
-inside_side s tiles k x here small =
-    let rest = parts_from s tiles (suc k) (s.count - suc k) (omega (arith, here)) in
-    let end : begin_of s (suc k + (s.count - suc k)) ≡ whole_of s = ap (begin_of s) (let same : suc k + (s.count - suc k) ≡ s.count = omega (arith, here) in same) ∙ tiles.last in
-    omega (arith, tiles.next k here, rest.ends, end, small)
+-- a sample of a cell is a sample of the side
+pub inside_side : (s : Side) → Tiles s → (k x : ℕ) → k < s.count → x < coded_of s k → first_of s k + x < whole_of s
+inside_side s tiles k x here small = omega (arith, tiles.ends k here, small)
 
 -- of lines with their numbers the line of a number
 pub at_own : (Q : ℕ × ℕ → Type 0) (from count p : ℕ) → from ≤ p → p < from + count → Each Q (numbered from (range_with_len from count)) → Q (p, p)
@@ -84,13 +80,24 @@ module _ (c : Configuration) (planes : Planes) where
     abbrev pub IsThere : Line → Type 0
     IsThere l = (k : ℕ) → k < c.columns → suc l.y * width_in c l.plane k ≤ length (plane (slice k).cells l.plane)
 
-    -- a position of the slices' line
+    -- a position of the slices' line that the column before does not code
     pub joined_at : (y p k x : ℕ) → ((k : ℕ) → k < c.columns → suc y * width_in c p k ≤ length (plane (slice k).cells p)) → k < c.columns → x < width_in c p k →
-        get_or (joined_line c slice y p) (left_of c p k + x) 0 ≡ get_or (plane (slice k).cells p) (y * width_in c p k + x) 0
-    joined_at y p k x there inside small =
-        tiled_at (across (division_of c) p) (tiles p) (λ k. row_in (width_in c p k) y (plane (slice k).cells p))
-        (λ k inside. row_long (width_in c p k) y (plane (slice k).cells p) (there k inside)) k x inside small
-        ∙ row_at (width_in c p k) y x (plane (slice k).cells p) small
+        shared_of (across (division_of c) p) k ≤ x → get_or (joined_line c slice y p) (left_of c p k + x) 0 ≡ get_or (plane (slice k).cells p) (y * width_in c p k + x) 0
+    joined_at y p k x there inside small own =
+        let s = across (division_of c) p in
+        let shared = shared_of s k in
+        let begins = (tiles p).begins k inside in
+        let place : first_of s k + x ≡ begin_of s k + (x - shared) = omega (arith, begins, own) in
+        let from : shared + (x - shared) ≡ x = omega (arith, own) in
+        let here : x - shared < length_of s k = omega (arith, begins, own, small) in
+        ap (λ n. get_or (joined_line c slice y p) n 0) place
+        ∙ tiled_at s (tiles p) (λ k. own_row c p k y (plane (slice k).cells p))
+        (λ k inside. own_long c p k y (plane (slice k).cells p) ((tiles p).begins k inside) (there k inside)) k (x - shared) inside here
+        ∙ own_at c p k y (x - shared) (plane (slice k).cells p) begins here
+        ∙ ap (λ n. get_or (plane (slice k).cells p) (y * width_in c p k + n) 0) from
+
+    nothing_shared : (p k x : ℕ) → k < c.columns → shared_of (across (division_of c) p) k ≤ x
+    nothing_shared p k x inside = omega (arith, (tiles p).none k inside)
 
     -- a position of the picture's line
     picture_at : (y p k x : ℕ) → k < c.columns → x < width_in c p k → get_or (sample_row c planes y p) (left_of c p k + x) 0 ≡ sample_at c planes p (left_of c p k + x) y
@@ -99,7 +106,7 @@ module _ (c : Configuration) (planes : Planes) where
     plain_shown : (y p : ℕ) → is_rct c.colour ≡ false → ((k : ℕ) → k < c.columns → suc y * width_in c p k ≤ length (plane (slice k).cells p)) →
         joined_line c slice y p ≡ sample_row c planes (top_of c p r + y) p → Shown (record { plane = p; y = y })
     plain_shown y p rct there same = λ k x inside small.
-        sym (joined_at y p k x there inside small)
+        sym (joined_at y p k x there inside small (nothing_shared p k x inside))
         ∙ ap (λ xs. get_or xs (left_of c p k + x) 0) same
         ∙ picture_at (top_of c p r + y) p k x inside small
         ∙ ap (λ b. if b then transformed_at c planes p (left_of c p k + x) (top_of c p r + y) else sample_at c planes p (left_of c p k + x) (top_of c p r + y)) (sym rct)
@@ -121,7 +128,7 @@ module _ (c : Configuration) (planes : Planes) where
       read_is p x inside = ap (λ xs. get_or xs x 0) (get_or-map-range_with_len (joined_line c slice y) 0 (plane_count c) p p [] inside (omega arith))
 
       top_alike : (i p : ℕ) → top_of c i r ≡ top_of c p r
-      top_alike i p = ap (λ s. begin_of s r) (down_alike c alike i ∙ sym (down_alike c alike p))
+      top_alike i p = ap (λ s. first_of s r) (down_alike c alike i ∙ sym (down_alike c alike p))
 
       -- what was made is the picture's
       out_is : (i p x : ℕ) → i < plane_count c → x < c.width → out_at i x ≡ sample_at c planes i x (top_of c p r + y)
@@ -176,7 +183,7 @@ module _ (c : Configuration) (planes : Planes) where
       pub colours_shown : (p : ℕ) → p < plane_count c → ((k : ℕ) → k < c.columns → suc y * width_in c p k ≤ length (plane (slice k).cells p)) → Shown (record { plane = p; y = y })
       colours_shown p inside there = λ k x here small.
           let place : left_of c p k + x < c.width = subst (λ n. left_of c p k + x < n) (wide p) (inside_side (across (division_of c) p) (tiles p) k x here small) in
-          sym (joined_at y p k x there here small)
+          sym (joined_at y p k x there here small (nothing_shared p k x here))
           ∙ transformed p (left_of c p k + x) inside place
           ∙ ap (λ b. if b then transformed_at c planes p (left_of c p k + x) (top_of c p r + y) else sample_at c planes p (left_of c p k + x) (top_of c p r + y)) (sym rct)
 
@@ -214,14 +221,17 @@ module _ (c : Configuration) (planes : Planes) where
         all_plain g.y 0 made g.planes e there
         (subst (λ xs. Each (λ (ip : ℕ × ℕ). get_or xs ip.0 [] ≡ joined_line c slice g.y ip.1) (numbered 0 g.planes)) (sym f) (by_number (joined_line c slice g.y) [] g.planes)) lines
 
-    pub groups_shown : InRct c → (gs : List Group) (ls : List wire.Line) → Each (IsGroup c r) gs → Each IsThere (flat_map group_lines gs) → MadeOf c r slice gs ls → Each IsLine ls →
+    -- where each line is handed over
+    pub groups_shown : InRct c → ((ps : List ℕ) (y : ℕ) → new_planes c r ps y ≡ ps) → (gs : List Group) (ls : List wire.Line) → Each (IsGroup c r) gs → Each IsThere (flat_map group_lines gs) → MadeOf c r slice gs ls → Each IsLine ls →
         Each Shown (flat_map group_lines gs)
-    groups_shown in_rct [] ls are there made lines = tt
-    groups_shown in_rct (g ∷ gs) ls are there made lines =
-        let here = map (handed c r g.y made.0) (numbered 0 g.planes) in
+    groups_shown in_rct new [] ls are there made lines = tt
+    groups_shown in_rct new (g ∷ gs) ls are there made lines =
+        let ips = numbered 0 (new_planes c r g.planes g.y) in
+        let here = map (handed c r g.y made.0) ips in
         let f = made.2 in
         let all : Each IsLine (here ++ made.1) = subst (Each IsLine) made.4 lines in
         each_append Shown (group_lines g) (flat_map group_lines gs)
         (group_shown in_rct (is_rct c.colour) refl g f.made are.0 (each_left IsThere (group_lines g) (flat_map group_lines gs) there) f.by
-        (made_lines g.y f.made (numbered 0 g.planes) (subst (λ out. Each IsLine (map (handed c r g.y out) (numbered 0 g.planes))) f.bytes (each_left IsLine here made.1 all))))
-        (groups_shown in_rct gs made.1 are.1 (each_right IsThere (group_lines g) (flat_map group_lines gs) there) made.3 (each_right IsLine here made.1 all))
+        (subst (λ ps. Each (λ (ip : ℕ × ℕ). get_or f.made ip.0 [] ≡ sample_row c planes (top_of c ip.1 r + g.y) ip.1) (numbered 0 ps)) (new g.planes g.y)
+        (made_lines g.y f.made ips (subst (λ out. Each IsLine (map (handed c r g.y out) ips)) f.bytes (each_left IsLine here made.1 all)))))
+        (groups_shown in_rct new gs made.1 are.1 (each_right IsThere (group_lines g) (flat_map group_lines gs) there) made.3 (each_right IsLine here made.1 all))

@@ -7,7 +7,7 @@ use Rattle.ffv1_record.specs.declared.config.Colour.{Colour}
 use Rattle.ffv1_record.specs.declared.config.Colour.TheVariants.{YCbCr, Rct}
 use Rattle.ffv1_slice.specs.Grid.{planes_in}
 use Rattle.ffv1_codec.specs.Picture.{plane_count}
-use Rattle.ffv1_codec.specs.Order.{Series, events_of, row_events, series_events, line_events, column_events, hand_events, series_of, numbered, lines_down}
+use Rattle.ffv1_codec.specs.Order.{Series, events_of, row_events, series_events, line_events, column_events, hand_events, new_planes, series_of, numbered, lines_down}
 use Rattle.ffv1_codec.specs.Order.Event.{Open, Read, Finish, Hand, Close}
 use Rattle.ffv1_codec.proofs.Machines.{Each, each_append, each_range, each_map_range, each_flat, each_map}
 use Rattle.ffv1_codec.proofs.OneColour.{AreFew}
@@ -31,9 +31,9 @@ module _ (c : Configuration) (chroma : is_rct c.colour ≡ true → c.chroma_pla
 
   line_are : (r y : ℕ) (s : Series) → HasPlanes s → Each (IsEvent c) (line_events c r s.planes y)
   line_are r y s few =
-      each_append (IsEvent c) (flat_map (column_events r s.planes y) (range_with_len 0 c.columns)) (Finish r s.planes y ∷ hand_events r s.planes y)
+      each_append (IsEvent c) (flat_map (column_events r s.planes y) (range_with_len 0 c.columns)) (Finish r s.planes y ∷ hand_events r (new_planes c r s.planes y) y)
       (each_range (IsEvent c) (column_events r s.planes y) 0 c.columns (λ k least most. each_map (IsEvent c) (λ p. Read r k p y) s.planes (λ p. omega (arith, most))))
-      (few, each_map (IsEvent c) (λ (ip : ℕ × ℕ). Hand r ip.0 ip.1 y) (numbered 0 s.planes) (λ ip. tt))
+      (few, each_map (IsEvent c) (λ (ip : ℕ × ℕ). Hand r ip.0 ip.1 y) (numbered 0 (new_planes c r s.planes y)) (λ ip. tt))
 
   series_are : (r : ℕ) (s : Series) → HasPlanes s → Each (IsEvent c) (series_events c r s)
   series_are r s few = each_range (IsEvent c) (line_events c r s.planes) 0 s.height (λ y least most. line_are r y s few)

@@ -1,22 +1,21 @@
--- Few decisions are made for the samples of a picture, wherever decoding stands.
+-- Few decisions are made for the samples that the slices of a picture code, wherever decoding
+-- stands.
 use Rattle.std.proofs.Common.{◌≡◌, ℕ, ◌+◌, ◌*◌, ◌≤◌, true, List, ap, ◌∙◌, arith, mul_assoc}
-use Rattle.std.specs.List.{range_with_len}
+use Rattle.std.specs.List.{sum_by, range_with_len}
 use Rattle.ffv1_record.specs.Configuration.{is_rct}
 use Rattle.ffv1_record.specs.Accepted.{Accepted}
-use Rattle.ffv1_slice.specs.Grid.{across, down, division_of}
-use Rattle.ffv1_codec.specs.Sides.{Tiles}
-use Rattle.ffv1_codec.specs.Picture.{plane_count, plane_width, plane_height}
+use Rattle.ffv1_codec.specs.Picture.{plane_count}
 use Rattle.ffv1_codec.specs.Order.{events_of, lines_down}
-use Rattle.ffv1_codec.specs.Bounds.{samples_of, most_decisions}
+use Rattle.ffv1_codec.specs.Bounds.{coded_samples, most_decisions}
 use Rattle.ffv1_codec.specs.Answer.{decisions_in}
 use Rattle.ffv1_codec.specs.Decoding.{State, StepsBy, FaultsWith, at_first, slice_number, width_in, after_line, steps_of_line}
 use Rattle.ffv1_codec.proofs.Machines.{Reaches}
 use Rattle.ffv1_codec.proofs.FromCoded.{number_inside}
-use Rattle.ffv1_codec.proofs.Totals.{total, total_is, total_same, total_add, total_scaled, total_each, total_swapped, total_parts}
+use Rattle.ffv1_codec.proofs.Totals.{total, total_is, total_same, total_add, total_scaled, total_each, total_swapped}
 use Rattle.ffv1_codec.proofs.FewDecisions.{StepLaws, opening_most, reason_few, capacity, HasFew, few_in_all, few_opened, few_read, few_stopped}
 use Rattle.ffv1_codec.proofs.FewInFrame.{SliceLaws, few_in, frame_reached}
 
-module _ (a : Accepted) (coded : ℕ → List ℕ) (laws : StepLaws a) (tiles_h : (p : ℕ) → Tiles (across (division_of a.configuration) p)) (tiles_v : (p : ℕ) → Tiles (down (division_of a.configuration) p)) where
+module _ (a : Accepted) (coded : ℕ → List ℕ) (laws : StepLaws a) where
   -- the bounds of a slice, and of the slices of a row
   abbrev slice_most : ℕ → ℕ → ℕ
   slice_most r k = opening_most a.configuration + 63 * capacity a coded laws r k
@@ -47,25 +46,33 @@ module _ (a : Accepted) (coded : ℕ → List ℕ) (laws : StepLaws a) (tiles_h 
   abbrev pub all_rows : List ℕ
   all_rows = range_with_len 0 a.configuration.rows
 
+  -- how wide the cells of a plane are together, and how high
+  abbrev pub wide : ℕ → ℕ
+  wide p = total (width_in a.configuration p) (range_with_len 0 a.configuration.columns)
+
+  abbrev pub high : ℕ → ℕ
+  high p = total (lines_down a.configuration p) (range_with_len 0 a.configuration.rows)
+
   -- the samples of the slices of a row, plane by plane
-  row_samples : (r : ℕ) → total (capacity a coded laws r) all_columns ≡ total (λ p. plane_width a.configuration p * lines_down a.configuration p r) all_planes
+  row_samples : (r : ℕ) → total (capacity a coded laws r) all_columns ≡ total (λ p. wide p * lines_down a.configuration p r) all_planes
   row_samples r =
       let c = a.configuration in
       total_swapped (λ k p. width_in c p k * lines_down c p r) all_columns all_planes
-      ∙ total_same (λ p. total (λ k. width_in c p k * lines_down c p r) all_columns) (λ p. plane_width c p * lines_down c p r) all_planes (λ p.
+      ∙ total_same (λ p. total (λ k. width_in c p k * lines_down c p r) all_columns) (λ p. wide p * lines_down c p r) all_planes (λ p.
       total_same (λ k. width_in c p k * lines_down c p r) (λ k. lines_down c p r * width_in c p k) all_columns (λ k. let turned : width_in c p k * lines_down c p r ≡ lines_down c p r * width_in c p k = omega arith in turned)
       ∙ total_scaled (lines_down c p r) (width_in c p) all_columns
-      ∙ ap (λ n. lines_down c p r * n) (total_parts (across (division_of c) p) (tiles_h p))
-      ∙ (let turned : lines_down c p r * plane_width c p ≡ plane_width c p * lines_down c p r = omega arith in turned))
+      ∙ (let turned : lines_down c p r * wide p ≡ wide p * lines_down c p r = omega arith in turned))
 
-  all_samples : total (λ r. total (capacity a coded laws r) all_columns) all_rows ≡ samples_of a.configuration
+  all_samples : total (λ r. total (capacity a coded laws r) all_columns) all_rows ≡ coded_samples a.configuration
   all_samples =
       let c = a.configuration in
-      total_same (λ r. total (capacity a coded laws r) all_columns) (λ r. total (λ p. plane_width c p * lines_down c p r) all_planes) all_rows row_samples
-      ∙ total_swapped (λ r p. plane_width c p * lines_down c p r) all_rows all_planes
-      ∙ total_same (λ p. total (λ r. plane_width c p * lines_down c p r) all_rows) (λ p. plane_width c p * plane_height c p) all_planes (λ p.
-      total_scaled (plane_width c p) (lines_down c p) all_rows ∙ ap (λ n. plane_width c p * n) (total_parts (down (division_of c) p) (tiles_v p)))
-      ∙ total_is (λ p. plane_width c p * plane_height c p) all_planes
+      let size : ℕ → ℕ = λ p. sum_by (width_in c p) all_columns * sum_by (lines_down c p) all_rows in
+      total_same (λ r. total (capacity a coded laws r) all_columns) (λ r. total (λ p. wide p * lines_down c p r) all_planes) all_rows row_samples
+      ∙ total_swapped (λ r p. wide p * lines_down c p r) all_rows all_planes
+      ∙ total_same (λ p. total (λ r. wide p * lines_down c p r) all_rows) (λ p. wide p * high p) all_planes (λ p. total_scaled (wide p) (lines_down c p) all_rows)
+      ∙ total_same (λ p. wide p * high p) size all_planes (λ p.
+      ap (λ n. n * high p) (total_is (width_in c p) all_columns) ∙ ap (λ n. sum_by (width_in c p) all_columns * n) (total_is (lines_down c p) all_rows))
+      ∙ total_is size all_planes
 
   row_sum : (r : ℕ) → row_total r ≡ opening_most a.configuration * a.configuration.columns + 63 * total (capacity a coded laws r) all_columns
   row_sum r =

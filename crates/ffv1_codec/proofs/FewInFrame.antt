@@ -13,7 +13,7 @@ use Rattle.ffv1_codec.specs.declared.fault.FrameFault.{FrameFault}
 use Rattle.ffv1_codec.specs.Overread.{IsWithin}
 use Rattle.ffv1_codec.specs.Picture.{plane_count}
 use Rattle.ffv1_codec.specs.SliceList.{Said}
-use Rattle.ffv1_codec.specs.Order.{Event, events_of, row_events, series_events, series_of, column_events, hand_events, numbered, lines_down}
+use Rattle.ffv1_codec.specs.Order.{Event, events_of, row_events, series_events, series_of, column_events, hand_events, new_planes, numbered, lines_down}
 use Rattle.ffv1_codec.specs.Order.Event.{Open, Read, Finish, Hand, Close}
 use Rattle.ffv1_codec.specs.Runs.{Runs}
 use Rattle.ffv1_codec.specs.Answer.{decisions_in}
@@ -37,9 +37,9 @@ column_in_lines c r k y (p ∷ planes) here inside below = ((refl, here, inside.
 
 group_in_lines : (c : Configuration) (r : ℕ) (g : Group) → IsGroup c r g → Each (IsInLines c r) (group_events c r g)
 group_in_lines c r g is =
-    each_append (IsInLines c r) (flat_map (column_events r g.planes g.y) (range_with_len 0 c.columns)) (Finish r g.planes g.y ∷ hand_events r g.planes g.y)
+    each_append (IsInLines c r) (flat_map (column_events r g.planes g.y) (range_with_len 0 c.columns)) (Finish r g.planes g.y ∷ hand_events r (new_planes c r g.planes g.y) g.y)
     (each_range (IsInLines c r) (column_events r g.planes g.y) 0 c.columns (λ k least most. column_in_lines c r k g.y g.planes (omega (arith, most)) is.inside is.down))
-    (tt, each_map (IsInLines c r) (λ (ip : ℕ × ℕ). Hand r ip.0 ip.1 g.y) (numbered 0 g.planes) (λ ip. tt))
+    (tt, each_map (IsInLines c r) (λ (ip : ℕ × ℕ). Hand r ip.0 ip.1 g.y) (numbered 0 (new_planes c r g.planes g.y)) (λ ip. tt))
 
 lines_in_lines : (c : Configuration) (r : ℕ) → (is_rct c.colour ≡ true → (p : ℕ) → lines_down c p r ≡ lines_down c 0 r) → Each (IsInLines c r) (flat_map (series_events c r) (series_of c r))
 lines_in_lines c r same =

@@ -3,7 +3,7 @@ use Rattle.std.proofs.Common.{◌≡◌, refl, ℕ, suc, ◌+◌, ◌-◌, ◌*�
 use Rattle.std.specs.List.{All, sum_by, range_with_len}
 use Rattle.std.proofs.lemmas.List.Elements.{All-nil, All-cons}
 use Rattle.std.proofs.lemmas.Nat.{pow-add}
-use Rattle.std.proofs.Math.Nat.{mul-le-mul_left, pow-succ', pow-zero}
+use Rattle.std.proofs.Math.Nat.{div-le_self, mul-le-mul_left, pow-succ', pow-zero}
 use Rattle.ffv1_range.specs.declared.tally.Tally.{Tally}
 use Rattle.ffv1_range.specs.Interval.{Decision, Interval, interval_of, narrow, narrowed, part, renormalised, start}
 use Rattle.ffv1_range.specs.Table.{Table, IsTable}
@@ -16,16 +16,16 @@ use Rattle.ffv1_range.proofs.FewDecisions.{after_held}
 use Rattle.ffv1_codec.specs.Decoding.{Slice, State}
 use Rattle.ffv1_codec.specs.Answer.{HasDecided, decisions_in, renormalisations_in, slices_in, tally_of}
 use Rattle.ffv1_wire.specs.Runs.{LineStep}
-use Rattle.ffv1_record.specs.Accepted.{Accepted}
+use Rattle.ffv1_record.specs.Accepted.{Accepted, edge}
 use Rattle.ffv1_record.specs.Configuration.{Configuration}
 use Rattle.ffv1_slice.specs.Cutting.{coded_of}
 use Rattle.ffv1_slice.specs.Footer.{foot_length}
-use Rattle.ffv1_slice.specs.Grid.{across, down, factor_of, planes_in}
+use Rattle.ffv1_slice.specs.Grid.{Side, across, down, coded_of as length_in, division_of, planes_in}
 use Rattle.ffv1_slice.specs.declared.cutting.CutFault.{CutFault}
 use Rattle.ffv1_codec.specs.declared.fault.FrameFault.{FrameFault}
 use Rattle.ffv1_codec.specs.SliceList.{Said}
-use Rattle.ffv1_codec.specs.Picture.{plane_count, plane_height, plane_width}
-use Rattle.ffv1_codec.specs.Bounds.{most_decisions, samples_of}
+use Rattle.ffv1_codec.specs.Picture.{plane_count}
+use Rattle.ffv1_codec.specs.Bounds.{most_decisions, coded_samples}
 use Rattle.ffv1_codec.specs.Decoding as decoding
 use Rattle.ffv1_codec.specs.Decoding.{Decodes, Offers}
 use Rattle.ffv1_codec.specs.Answer.{AnswersCut}
@@ -179,16 +179,30 @@ four_planes chroma true = omega arith
 four_planes true false = omega arith
 four_planes false false = omega arith
 
-planes_small : (c : Configuration) (m : ℕ) → c.width ≤ m → c.height ≤ m → samples_of c ≤ m * m * 4
-planes_small c m wide high =
-    let size : ℕ → ℕ = λ p. plane_width c p * plane_height c p in
-    let each = total_most size (λ p. m * m) 0 (plane_count c) (λ p least most.
-    let w = reduced_less (factor_of c.log2_h p) c.width in
-    let h = reduced_less (factor_of c.log2_v p) c.height in
-    both (plane_width c p) m (plane_height c p) m (omega (arith, w, wide)) (omega (arith, h, high))) in
-    let all = total_each (m * m) 0 (plane_count c) in
+-- no cell is wider than its last edge says, and there are few
+coded_few : (s : Side) (m n k : ℕ) → s.size ≤ m → suc k ≤ n → length_in s k ≤ n * m
+coded_few s m n k size inside =
+    let less = reduced_less s.log2 (edge (suc k) s.size s.count - edge k s.size s.count) in
+    let end = div-le_self (suc k * s.size) s.count in
+    let most = both (suc k) n s.size m inside size in
+    omega (arith, less, end, most)
+
+side_few : (s : Side) (m n : ℕ) → s.size ≤ m → s.count ≤ n → sum_by (length_in s) (range_with_len 0 s.count) ≤ n * m * n
+side_few s m n size count =
+    let each = total_most (length_in s) (λ k. n * m) 0 s.count (λ k least most. coded_few s m n k size (omega (arith, most, count))) in
+    let all = total_each (n * m) 0 s.count in
+    let is = total_is (length_in s) (range_with_len 0 s.count) in
+    let many = mul-le-mul_left {m = s.count} {n = n} (n * m) count in
+    omega (arith, each, all, is, many)
+
+planes_small : (c : Configuration) (m n : ℕ) → c.width ≤ m → c.height ≤ m → c.columns ≤ n → c.rows ≤ n → coded_samples c ≤ (n * m * n) * (n * m * n) * 4
+planes_small c m n wide high columns rows =
+    let most : ℕ = n * m * n in
+    let size : ℕ → ℕ = λ p. sum_by (length_in (across (division_of c) p)) (range_with_len 0 c.columns) * sum_by (length_in (down (division_of c) p)) (range_with_len 0 c.rows) in
+    let each = total_most size (λ p. most * most) 0 (plane_count c) (λ p least inside. both _ most _ most (side_few (across (division_of c) p) m n wide columns) (side_few (down (division_of c) p) m n high rows)) in
+    let all = total_each (most * most) 0 (plane_count c) in
     let sum = total_is size (range_with_len 0 (plane_count c)) in
-    let planes = mul-le-mul_left {m = plane_count c} {n = 4} (m * m) (four_planes c.chroma_planes c.extra_plane) in
+    let planes = mul-le-mul_left {m = plane_count c} {n = 4} (most * most) (four_planes c.chroma_planes c.extra_plane) in
     omega (arith, each, all, sum, planes)
 
 extra_small : (extra : Bool) → 559 + (if extra then 62 else 0) ≤ 621
@@ -197,7 +211,7 @@ extra_small false = omega arith
 
 pub most_small : (c : Configuration) → c.width ≤ 8192 → c.height ≤ 8192 → c.columns ≤ 32 → c.rows ≤ 32 → most_decisions c < 2 ^ 64
 most_small c wide high across down =
-    let samples = planes_small c 8192 wide high in
+    let samples = planes_small c 8192 32 wide high across down in
     let grid = both c.columns 32 c.rows 32 across down in
     let heads = both (559 + (if c.extra_plane then 62 else 0)) 621 (c.columns * c.rows) (32 * 32) (extra_small c.extra_plane) grid in
     omega (arith, samples, heads)

@@ -7,7 +7,7 @@ use Rattle.ffv1_range.specs.Codes.{AreBytes}
 use Rattle.ffv1_line.specs.Cell.{Cell}
 use Rattle.ffv1_record.specs.Configuration.{Configuration, is_rct}
 use Rattle.ffv1_record.specs.Accepted.{Accepted}
-use Rattle.ffv1_slice.specs.Grid.{length_of, across, division_of, whole_of}
+use Rattle.ffv1_slice.specs.Grid.{coded_of as length_in, across, division_of, whole_of}
 use Rattle.ffv1_slice.specs.Cutting.{coded_of}
 use Rattle.ffv1_codec.specs.Sides.{Alike, HasPart, Sides}
 use Rattle.ffv1_codec.specs.Picture.{Planes, IsPicture, plane_width, plane_height, coded_at}
@@ -35,7 +35,7 @@ high_in_rct c alike p = ap whole_of (down_alike c alike p) ∙ reduced_none c.he
 
 -- in RCT all planes have as many lines
 pub lines_alike : (c : Configuration) → Sides c → is_rct c.colour ≡ true → (p r : ℕ) → lines_down c p r ≡ lines_down c 0 r
-lines_alike c sides e p r = ap (λ s. length_of s r) (down_alike c (sides.rct e) p)
+lines_alike c sides e p r = ap (λ s. length_in s r) (down_alike c (sides.rct e) p)
 
 pub picture_laws : (a : Accepted) → Sides a.configuration → CellLaws → SuitsFew → PictureLaws a
 picture_laws a sides cells few = record {

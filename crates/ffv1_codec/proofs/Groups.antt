@@ -6,7 +6,7 @@ use Rattle.ffv1_wire.specs.Runs as wire
 use Rattle.ffv1_record.specs.Configuration.{Configuration, is_rct}
 use Rattle.ffv1_codec.specs.Picture.{Planes, plane_count}
 use Rattle.ffv1_codec.specs.SliceList.{Line}
-use Rattle.ffv1_codec.specs.Order.{Event, Series, series_events, line_events, series_of, lines_down}
+use Rattle.ffv1_codec.specs.Order.{Event, Series, series_events, line_events, series_of, lines_down, new_planes}
 use Rattle.ffv1_codec.specs.Decoding.{top_of}
 use Rattle.ffv1_codec.specs.Lines.{line_in, lines_of_series}
 use Rattle.ffv1_codec.proofs.Machines.{Each, each_range, each_map_range, each_numbers}
@@ -31,7 +31,7 @@ abbrev pub group_lines : Group → List Line
 group_lines g = lines_at g.planes g.y
 
 abbrev pub group_out : Configuration → Planes → ℕ → Group → List wire.Line
-group_out c planes r g = map (λ p. line_in c planes (top_of c p r + g.y) p) g.planes
+group_out c planes r g = map (λ p. line_in c planes (top_of c p r + g.y) p) (new_planes c r g.planes g.y)
 
 pub regrouped : {B : Type 0} (f : List ℕ → ℕ → List B) (sers : List Series) →
     flat_map (λ (s : Series). flat_map (f s.planes) (range_with_len 0 s.height)) sers ≡ flat_map (λ (g : Group). f g.planes g.y) (flat_map groups_in sers)
@@ -47,7 +47,7 @@ pub lines_by_groups : (c : Configuration) (r : ℕ) → row_lines c r ≡ flat_m
 lines_by_groups c r = sym (by_colour c r (is_rct c.colour)) ∙ regrouped lines_at (series_of c r)
 
 pub out_by_groups : (c : Configuration) (planes : Planes) (r : ℕ) → flat_map (lines_of_series c planes r) (series_of c r) ≡ flat_map (group_out c planes r) (groups_of c r)
-out_by_groups c planes r = regrouped (λ ps y. map (λ p. line_in c planes (top_of c p r + y) p) ps) (series_of c r)
+out_by_groups c planes r = regrouped (λ ps y. map (λ p. line_in c planes (top_of c p r + y) p) (new_planes c r ps y)) (series_of c r)
 
 -- how a group may be: in RCT it has all planes, and else one
 pub record IsGroup (c : Configuration) (r : ℕ) (g : Group) : Type 0 where

@@ -1,5 +1,5 @@
 -- Each line that was handed over is the finish of a line that the bytes of its slices code.
-use Rattle.std.proofs.Common.{◌≡◌, refl, ℕ, zero, suc, ◌+◌, ◌*◌, ◌<◌, ◌≤◌, List, [], ◌∷◌, ◌++◌, map, length, get_or, inl, inr, ap, sym, subst, ◌∙◌, arith, append-nil, append_assoc, length-append}
+use Rattle.std.proofs.Common.{◌≡◌, refl, ℕ, zero, suc, ◌+◌, ◌*◌, ◌<◌, ◌≤◌, List, [], ◌∷◌, ◌++◌, map, length, get_or, drop, inl, inr, ap, sym, subst, ◌∙◌, arith, append-nil, append_assoc, length-append}
 use Rattle.std.proofs.Math.Nat.{mul-le-mul_left}
 use Rattle.std.specs.List.{All, Contains, flat_map, range_with_len}
 use Rattle.std.proofs.lemmas.Grind.{flat_map-append}
@@ -7,14 +7,15 @@ use Rattle.std.proofs.lemmas.List.Elements.{All-nil, All-cons, All-contains, Con
 use Rattle.std.proofs.lemmas.List.{get_or_append_left, get_or-append-add}
 use Rattle.ffv1_wire.specs.Runs as wire
 use Rattle.ffv1_record.specs.Accepted.{Accepted}
+use Rattle.ffv1_slice.specs.Grid.{across, division_of, shared_of}
 use Rattle.ffv1_codec.specs.Picture.{plane}
 use Rattle.ffv1_codec.specs.SliceList.{Line}
-use Rattle.ffv1_codec.specs.Order.{Event, events_of, row_events, series_events, series_of, column_events, hand_events, numbered}
+use Rattle.ffv1_codec.specs.Order.{Event, events_of, row_events, series_events, series_of, column_events, hand_events, new_planes, numbered}
 use Rattle.ffv1_codec.specs.Order.Event.{Open, Read, Finish, Hand, Close}
 use Rattle.ffv1_codec.specs.Runs.{Runs}
 use Rattle.ffv1_codec.specs.declared.fault.FrameFault.{FrameFault}
 use Rattle.ffv1_codec.specs.Decoding.{Decodes, FaultsWith, Offers, Refuses}
-use Rattle.ffv1_codec.specs.Decoding.{State, Slice, StepsBy, Finishes, at_first, row_in, slice_at, slice_number, unread, width_in}
+use Rattle.ffv1_codec.specs.Decoding.{State, Slice, StepsBy, Finishes, at_first, own_row, slice_at, slice_number, unread, width_in}
 use Rattle.ffv1_codec.specs.Handed.{CodesLine, IsFinishOf, line_across, offered, slice_of}
 use Rattle.ffv1_codec.proofs.Machines.{Each, each_append, each_left, each_map, each_range, each_both, runs_append, runs_split, stops_at}
 use Rattle.ffv1_codec.proofs.FlatLists.{flat_range_same}
@@ -23,6 +24,7 @@ use Rattle.ffv1_codec.proofs.Groups.{Group, IsGroup, group_events, groups_of, gr
 use Rattle.ffv1_codec.proofs.ColumnSteps.{IsOfRow, columns_kept_along}
 use Rattle.ffv1_codec.proofs.SliceBodies.{HasRead, IsRead, Longer}
 use Rattle.ffv1_codec.proofs.LinesMade.{AllHave, IsReading, joined_line, handed, map_each, row_before, goes_on, group_of_row, reads_of_row, have_more, hands_made, reads_keep}
+use Rattle.ffv1_codec.proofs.NewPlanes.{each_new}
 use Rattle.ffv1_codec.proofs.RowsDone.{opens}
 use Rattle.ffv1_codec.proofs.PictureMade.{PictureLaws, alike_lines, some_wide}
 use Rattle.ffv1_codec.proofs.KnownSlices.{parts_of, beginning_of, codes_read, list_is, Above, above_same, done_kept, RowStart, RowOpen, start_long, row_open, row_closed, first_start}
@@ -87,11 +89,11 @@ module _ (a : Accepted) (coded : ℕ → List ℕ) (laws : PictureLaws a) (r : �
   joined_same slice other y [] more are = tt
   joined_same slice other y (p ∷ planes) more are =
       let c = a.configuration in (
-        flat_range_same (λ k. row_in (width_in c p k) y (plane (slice k).cells p)) (λ k. row_in (width_in c p k) y (plane (other k).cells p)) 0 c.columns
+        flat_range_same (λ k. own_row c p k y (plane (slice k).cells p)) (λ k. own_row c p k y (plane (other k).cells p)) 0 c.columns
             (λ k least most.
             let inside : k < c.columns = omega (arith, most) in
             let longer = (more k inside).more p in
-            sym (ap (row_in (width_in c p k) y) longer.1 ∙ row_before (width_in c p k) y (plane (slice k).cells p) longer.0 (are k inside).0)),
+            sym (ap (own_row c p k y) longer.1 ∙ ap (drop (shared_of (across (division_of c) p) k)) (row_before (width_in c p k) y (plane (slice k).cells p) longer.0 (are k inside).0))),
         joined_same slice other y planes more (λ k inside. (are k inside).1),
       )
 
@@ -167,7 +169,7 @@ module _ (a : Accepted) (coded : ℕ → List ℕ) (laws : PictureLaws a) (r : �
 
     -- a group is read and finished, and some of its lines are handed over
     stand_handed : (g : Group) (es hs rest : List Event) (s t : State) → IsGroup a.configuration r g → Stand o es s → Runs Step s (reads_in g ++ (Finish r g.planes g.y ∷ hs)) t →
-        hand_events r g.planes g.y ≡ hs ++ rest → Stand o (es ++ (reads_in g ++ (Finish r g.planes g.y ∷ hs))) t
+        hand_events r (new_planes a.configuration r g.planes g.y) g.y ≡ hs ++ rest → Stand o (es ++ (reads_in g ++ (Finish r g.planes g.y ∷ hs))) t
     stand_handed g es hs rest s t is stand f parts =
         let c = a.configuration in
         let reads = reads_in g in
@@ -177,7 +179,7 @@ module _ (a : Accepted) (coded : ℕ → List ℕ) (laws : PictureLaws a) (r : �
         let m = split.0 in
         let u = split.2.0 in
         let finish = split.2.1 in
-        let begun = begins_map (hand_of g.y) (numbered 0 g.planes) hs rest parts in
+        let begun = begins_map (hand_of g.y) (numbered 0 (new_planes c r g.planes g.y)) hs rest parts in
         let hands = hands_made a coded r g.y begun.0 u t (subst (λ zs. Runs Step u zs t) begun.3 split.2.2) in
         let of_row : Each (IsOfRow c r) all =
         each_left (IsOfRow c r) all rest
@@ -206,6 +208,7 @@ module _ (a : Accepted) (coded : ℕ → List ℕ) (laws : PictureLaws a) (r : �
               (each_image (Made (slice_at t) (λ k. reads_of k (es ++ all))) (handed c r g.y out) begun.0
               (each_left (λ ip. Made (slice_at t) (λ k. reads_of k (es ++ all)) (handed c r g.y out ip)) begun.0 begun.1
               (subst (Each (λ ip. Made (slice_at t) (λ k. reads_of k (es ++ all)) (handed c r g.y out ip))) begun.2
+              (each_new (λ ip. Made (slice_at t) (λ k. reads_of k (es ++ all)) (handed c r g.y out ip)) c r g.planes g.y
               (each_numbered (λ ip. Made (slice_at t) (λ k. reads_of k (es ++ all)) (handed c r g.y out ip)) 0 g.planes (λ i j inside place. record {
                 group = g;
                 is_group = is;
@@ -217,24 +220,24 @@ module _ (a : Accepted) (coded : ℕ → List ℕ) (laws : PictureLaws a) (r : �
                 number = i;
                 inside = inside;
                 is = ap (λ n. handed c r g.y out (n, get_or g.planes i 0)) (let same : j ≡ i = omega (arith, place) in same);
-              })))));
+              }))))));
         }
 
     stand_finish : (g : Group) (es more rest : List Event) (s t : State) → IsGroup a.configuration r g → Stand o es s → Runs Step s (reads_in g ++ more) t →
-        Finish r g.planes g.y ∷ hand_events r g.planes g.y ≡ more ++ rest → Stand o (es ++ (reads_in g ++ more)) t
+        Finish r g.planes g.y ∷ hand_events r (new_planes a.configuration r g.planes g.y) g.y ≡ more ++ rest → Stand o (es ++ (reads_in g ++ more)) t
     stand_finish g es [] rest s t is stand f parts =
         let only = subst (Each IsReading) (sym (append-nil (reads_in g))) (reading g) in
         stand_later es (reads_in g ++ []) s t stand (subst (Each (IsOfRow a.configuration r)) (sym (append-nil (reads_in g))) (reads_of_row a.configuration r g is)) f (reads_keep a coded r (reads_in g ++ []) s t only f)
     stand_finish g es (e ∷ hs) rest s t is stand f parts =
         let here : Finish r g.planes g.y ≡ e = cc in
-        let there : hand_events r g.planes g.y ≡ hs ++ rest = cc in
+        let there : hand_events r (new_planes a.configuration r g.planes g.y) g.y ≡ hs ++ rest = cc in
         subst (λ z. Stand o (es ++ (reads_in g ++ (z ∷ hs))) t) here
         (stand_handed g es hs rest s t is stand (subst (λ z. Runs Step s (reads_in g ++ (z ∷ hs)) t) (sym here) f) there)
 
     stand_group : (g : Group) (es before rest : List Event) (s t : State) → IsGroup a.configuration r g → Stand o es s → group_events a.configuration r g ≡ before ++ rest → Runs Step s before t → Stand o (es ++ before) t
     stand_group g es before rest s t is stand parts f =
         let c = a.configuration in
-        elim (parts_of (reads_in g) (Finish r g.planes g.y ∷ hand_events r g.planes g.y) before rest parts) [
+        elim (parts_of (reads_in g) (Finish r g.planes g.y ∷ hand_events r (new_planes c r g.planes g.y) g.y) before rest parts) [
           | inl sooner ↦
               let only = each_left IsReading before sooner.0 (subst (Each IsReading) sooner.1 (reading g)) in
               let of_row = each_left (IsOfRow c r) before sooner.0 (subst (Each (IsOfRow c r)) sooner.1 (reads_of_row c r g is)) in
@@ -285,8 +288,8 @@ module _ (a : Accepted) (coded : ℕ → List ℕ) (laws : PictureLaws a) where
       let c = a.configuration in
       let n = slice_number c row in
       let here : line_across c slice row y p ≡ line_across c other row y p =
-      flat_range_same (λ k. row_in (width_in c p k) y (plane (slice (n k)).cells p)) (λ k. row_in (width_in c p k) y (plane (other (n k)).cells p)) 0 c.columns
-      (λ k least most. ap (λ (q : Slice). row_in (width_in c p k) y (plane q.cells p)) (same k (omega (arith, most)))) in
+      flat_range_same (λ k. own_row c p k y (plane (slice (n k)).cells p)) (λ k. own_row c p k y (plane (other (n k)).cells p)) 0 c.columns
+      (λ k least most. ap (λ (q : Slice). own_row c p k y (plane q.cells p)) (same k (omega (arith, most)))) in
       ap (λ z. z ∷ map (line_across c slice row y) planes) here ∙ ap (λ zs. line_across c other row y p ∷ zs) (across_same slice other row y same planes)
 
   -- later slices are not its own
@@ -332,8 +335,8 @@ module _ (a : Accepted) (coded : ℕ → List ℕ) (laws : PictureLaws a) where
   joined_across r y t above (p ∷ planes) =
       let c = a.configuration in
       let here : joined_line c (slice_at t) y p ≡ line_across c (slice_of t) r y p =
-      flat_range_same (λ k. row_in (width_in c p k) y (plane (slice_at t k).cells p)) (λ k. row_in (width_in c p k) y (plane (slice_of t (slice_number c r k)).cells p)) 0 c.columns
-      (λ k least most. ap (λ (q : Slice). row_in (width_in c p k) y (plane q.cells p)) (sym (column_slice r k t above))) in
+      flat_range_same (λ k. own_row c p k y (plane (slice_at t k).cells p)) (λ k. own_row c p k y (plane (slice_of t (slice_number c r k)).cells p)) 0 c.columns
+      (λ k least most. ap (λ (q : Slice). own_row c p k y (plane q.cells p)) (sym (column_slice r k t above))) in
       ap (λ z. z ∷ map (joined_line c (slice_at t) y) planes) here ∙ ap (λ zs. line_across c (slice_of t) r y p ∷ zs) (joined_across r y t above planes)
 
   -- a line of the row that is decoded

@@ -3,9 +3,10 @@ use Rattle.std.proofs.Common.{◌≡◌, ℕ, zero, suc, ◌+◌, ◌-◌, ◌*�
 use Rattle.std.specs.List.{flat_map, range_with_len}
 use Rattle.std.proofs.lemmas.Grind.{flat_map-append}
 use Rattle.std.proofs.lemmas.List.{get_or_append_left, get_or-append-add, length-take-le, length-drop, get_or-take, get_or-drop}
-use Rattle.ffv1_slice.specs.Grid.{Side, begin_of, length_of, whole_of}
+use Rattle.ffv1_record.specs.Configuration.{Configuration}
+use Rattle.ffv1_slice.specs.Grid.{Side, begin_of, length_of, first_of, shared_of, whole_of, across, division_of}
 use Rattle.ffv1_codec.specs.Sides.{Tiles}
-use Rattle.ffv1_codec.specs.Decoding.{row_in}
+use Rattle.ffv1_codec.specs.Decoding.{row_in, own_row, width_in}
 use Rattle.ffv1_codec.proofs.FlatLists.{range_parts}
 
 pub row_long : (width y : ℕ) (samples : List ℕ) → suc y * width ≤ length samples → length (row_in width y samples) ≡ width
@@ -14,6 +15,19 @@ row_long width y samples long =
 
 pub row_at : (width y x : ℕ) (samples : List ℕ) → x < width → get_or (row_in width y samples) x 0 ≡ get_or samples (y * width + x) 0
 row_at width y x samples inside = get_or-take width (drop (y * width) samples) x 0 inside ∙ get_or-drop (y * width) samples x 0
+
+-- what of a row the column before does not code
+pub own_long : (c : Configuration) (p k y : ℕ) (samples : List ℕ) → first_of (across (division_of c) p) k ≤ begin_of (across (division_of c) p) k → suc y * width_in c p k ≤ length samples →
+    length (own_row c p k y samples) ≡ length_of (across (division_of c) p) k
+own_long c p k y samples begins long =
+    let row = row_long (width_in c p k) y samples long in
+    rw (length-drop (shared_of (across (division_of c) p) k) (row_in (width_in c p k) y samples)) (omega (arith, row, begins))
+
+pub own_at : (c : Configuration) (p k y x : ℕ) (samples : List ℕ) → first_of (across (division_of c) p) k ≤ begin_of (across (division_of c) p) k → x < length_of (across (division_of c) p) k →
+    get_or (own_row c p k y samples) x 0 ≡ get_or samples (y * width_in c p k + (shared_of (across (division_of c) p) k + x)) 0
+own_at c p k y x samples begins inside =
+    get_or-drop (shared_of (across (division_of c) p) k) (row_in (width_in c p k) y samples) x 0
+    ∙ row_at (width_in c p k) y (shared_of (across (division_of c) p) k + x) samples (omega (arith, inside, begins))
 
 module _ (s : Side) (tiles : Tiles s) (f : ℕ → List ℕ) (long : (k : ℕ) → k < s.count → length (f k) ≡ length_of s k) where
   long_from : (from count : ℕ) → from + count ≤ s.count → begin_of s from + length (flat_map f (range_with_len from count)) ≡ begin_of s (from + count)
@@ -69,3 +83,8 @@ pub row_small : (bound width y : ℕ) (samples : List ℕ) → ((i : ℕ) → ge
 row_small bound width y samples all i =
     let any : 0 < bound = omega (arith, all 0) in
     take_small bound any width (drop (y * width) samples) (λ j. rw (get_or-drop (y * width) samples j 0) (all (y * width + j))) i
+
+pub own_small : (bound : ℕ) (c : Configuration) (p k y : ℕ) (samples : List ℕ) → ((i : ℕ) → get_or samples i 0 < bound) → (i : ℕ) → get_or (own_row c p k y samples) i 0 < bound
+own_small bound c p k y samples all i =
+    let s = shared_of (across (division_of c) p) k in
+    rw (get_or-drop s (row_in (width_in c p k) y samples) i 0) (row_small bound (width_in c p k) y samples all (s + i))

@@ -116,7 +116,7 @@ module _ (c : Configuration) (tiles : (p : ℕ) → Tiles (down (division_of c) 
   rows_kept : (planes : Planes) (s t : Kept) → s.grid ≡ division_of c → AreOf s.grid s.planes → Grows Keeps s (lines_of c planes) t → (q z : ℕ) → q < (division_of c).planes →
       z < whole_of (down (division_of c) q) → row_of c q z t.planes ≡ row_of c q z planes
   rows_kept planes s t own are grows q z inside below =
-      let rows = rows_of_plane c q inside (tiles q) (λ rct r. same_lines rct q r) in
+      let rows = rows_of_plane c q inside tiles (λ rct r. same_lines rct q r) in
       kept_from c planes q z inside below s t s.planes (keys_of c) own (subst (λ d. AreOf d s.planes) own are) (subst (λ ls. Grows Keeps s ls t) (lines_by_keys c planes) grows)
       (inr (among_rows q z (keys_of c) (subst (Has z) (sym rows) (has_range z 0 (whole_of (down (division_of c) q)) (omega arith) (omega (arith, below))))))
 

@@ -22,11 +22,11 @@ use Rattle.ffv1_line.specs.Length.{decisions_of, row_decisions, AreSmall, AreSma
 use Rattle.ffv1_record.specs.Configuration.{Configuration, is_rct}
 use Rattle.ffv1_slice.specs.declared.head.SliceHead.{SliceHead}
 use Rattle.ffv1_slice.specs.Head.{key_steps}
-use Rattle.ffv1_slice.specs.Grid.{Division, IsDivision, factor_of, reduced, planes_in, slices_in, across, down, length_of, whole_of, division_of}
+use Rattle.ffv1_slice.specs.Grid.{Division, IsDivision, factor_of, reduced, planes_in, slices_in, across, down, coded_of, whole_of, division_of}
 use Rattle.ffv1_codec.specs.Picture.{Planes, plane_count, cell_in, cell_height}
 use Rattle.ffv1_codec.specs.SliceList.{Line, base_of, bits_of, set_in, lines_of_plane, planes_of_line, lines_in, chosen_line, chosen_body}
 use Rattle.ffv1_codec.specs.Length.{line_residuals, body_residuals}
-use Rattle.ffv1_codec.proofs.Lines.{Sides, ends, column_inside, row_inside}
+use Rattle.ffv1_codec.proofs.Lines.{Sides, column_inside, row_inside}
 
 -- the laws of rows
 pub record Rows : Type 0 where
@@ -98,19 +98,19 @@ whole_wide d p is = let whole = reduced_few (factor_of d.log2_h p) d.width (fact
 pub whole_high : (d : Division) (p : ℕ) → IsDivision d → whole_of (down d p) ≤ 8192
 whole_high d p is = let whole = reduced_few (factor_of d.log2_v p) d.height (factor_few d.log2_v p is.log2_v) in omega (arith, whole, is.height)
 
-pub width_few : (d : Division) (n p : ℕ) → Sides → IsDivision d → length_of (across d p) (n % d.columns) ≤ 8192
+pub width_few : (d : Division) (n p : ℕ) → Sides → IsDivision d → coded_of (across d p) (n % d.columns) ≤ 8192
 width_few d n p laws is =
     let column = column_inside n d.columns d.rows is.some_columns in
     let sound = laws.across d p is in
-    let end = ends (across d p) (n % d.columns) column (laws.some (across d p) _ sound column) (λ x k. laws.inside (across d p) x k sound) in
+    let end = laws.ends (across d p) (n % d.columns) sound column in
     let whole = reduced_few (factor_of d.log2_h p) d.width (factor_few d.log2_h p is.log2_h) in
     omega (arith, end, whole, is.width)
 
-pub height_few : (d : Division) (n p : ℕ) → Sides → IsDivision d → n < slices_in d → length_of (down d p) (n / d.columns) ≤ 8192
+pub height_few : (d : Division) (n p : ℕ) → Sides → IsDivision d → n < slices_in d → coded_of (down d p) (n / d.columns) ≤ 8192
 height_few d n p laws is inside =
     let row = row_inside n d.columns d.rows is.some_columns inside in
     let sound = laws.down d p is in
-    let end = ends (down d p) (n / d.columns) row (laws.some (down d p) _ sound row) (λ x k. laws.inside (down d p) x k sound) in
+    let end = laws.ends (down d p) (n / d.columns) sound row in
     let whole = reduced_few (factor_of d.log2_v p) d.height (factor_few d.log2_v p is.log2_v) in
     omega (arith, end, whole, is.height)
 

@@ -1,6 +1,7 @@
 pub mod CodedSamples
 pub mod Lines
 pub mod PlacesOnce
+pub mod NewPlanes
 pub mod HandedLines
 pub mod HandedAnswers
 pub mod FrameCost

@@ -1,5 +1,5 @@
 -- A line is read, made and handed over: its run.
-use Rattle.std.proofs.Common.{◌≡◌, refl, ℕ, ◌+◌, ◌*◌, inl, List, ◌∷◌, ◌++◌, get_or, ap, sym, subst, ◌∙◌, arith, append_assoc}
+use Rattle.std.proofs.Common.{◌≡◌, refl, ℕ, ◌+◌, ◌*◌, inl, List, [], ◌∷◌, ◌++◌, get_or, ap, sym, subst, ◌∙◌, arith, append_assoc}
 use Rattle.std.specs.List.{flat_map, range_with_len}
 use Rattle.ffv1_wire.specs.Runs.{LineStep, Grows}
 use Rattle.ffv1_record.specs.Accepted.{Accepted}
@@ -8,7 +8,7 @@ use Rattle.ffv1_codec.specs.declared.decode.column.Column.{Column}
 use Rattle.ffv1_codec.specs.declared.fault.FrameFault.{FrameFault}
 use Rattle.ffv1_codec.specs.Runs.{Runs}
 use Rattle.ffv1_codec.specs.Internal.Places.{AreParts}
-use Rattle.ffv1_codec.specs.Order.{Event, column_events, hand_events, line_events}
+use Rattle.ffv1_codec.specs.Order.{Event, column_events, hand_events, new_planes, line_events}
 use Rattle.ffv1_codec.specs.Order.Event.{Finish, Hand}
 use Rattle.ffv1_codec.specs.Picture.{plane}
 use Rattle.ffv1_codec.specs.Decoding.{State, StepsBy, FaultsWith, unread}
@@ -42,7 +42,7 @@ module _ {S : Type 0} (takes refuses : LineStep S) (a : Accepted) (coded : ℕ �
   reads = flat_map (column_events r planes y) (range_with_len 0 a.configuration.columns)
 
   abbrev hands : List Event
-  hands = hand_events r planes y
+  hands = hand_events r (new_planes a.configuration r planes y) y
 
   pub read_fails : (columns : List Column) (f : FrameFault) (now : S) → Grows takes initial s.lines now → Stopped a coded columns reads f s → FaultsIn takes refuses a coded initial columns (line_events a.configuration r planes y) f now s
   read_fails columns f now grows stopped = record {
@@ -83,8 +83,8 @@ module _ {S : Type 0} (takes refuses : LineStep S) (a : Accepted) (coded : ℕ �
       pub grows_finished : Grows takes initial finished.lines now
       grows_finished = grows_read
 
-      pub hand_fails : (f : FrameFault) (after : S) → RefusedIn takes refuses a coded initial r columns hands f after finished → RefusedIn takes refuses a coded initial r columns (line_events a.configuration r planes y) f after s
-      hand_fails f after refused = record {
+      pub hand_fails : new_planes a.configuration r planes y ≡ planes → (f : FrameFault) (after : S) → RefusedIn takes refuses a coded initial r columns (hand_events r planes y) f after finished → RefusedIn takes refuses a coded initial r columns (line_events a.configuration r planes y) f after s
+      hand_fails new f after stopped = let refused = subst (λ ps. RefusedIn takes refuses a coded initial r columns (hand_events r ps y) f after finished) (sym new) stopped in record {
         state = refused.state;
         number = refused.number;
         plane = refused.plane;
@@ -101,14 +101,14 @@ module _ {S : Type 0} (takes refuses : LineStep S) (a : Accepted) (coded : ℕ �
         last = refused.last;
       }
 
-      pub line_decoded : ((p : ℕ) → AreParts (across (division_of a.configuration) p)) → (after : S) → Handed takes refuses a coded initial r first count y after finished →
+      -- after what is handed over, if anything
+      line_by : ((p : ℕ) → AreParts (across (division_of a.configuration) p)) → (after : S) (t : State) → Runs (StepsBy a coded) finished hands t → t ≡ record finished { lines = t.lines } → Grows takes initial t.lines after →
           LineDecoded takes refuses a coded initial r next payload first count y columns states one cur after s
-      line_decoded parts after handed =
-          let t = handed.state in
-          let same_columns : t.columns ≡ read.state.columns = ap (λ (z : State). z.columns) handed.same in
+      line_by parts after t handed same grown =
+          let same_columns : t.columns ≡ read.state.columns = ap (λ (z : State). z.columns) same in
           record {
             state = t;
-            runs = runs_finish hands t handed.runs;
+            runs = runs_finish hands t handed;
             columns_are = tied_again a coded r next payload columns states read.state t same_columns read.columns_are;
             planes_are = record {
               done = λ j less. absurd (omega (arith, less));
@@ -117,8 +117,19 @@ module _ {S : Type 0} (takes refuses : LineStep S) (a : Accepted) (coded : ℕ �
                   (λ k. ap (λ z. plane (get_or z k unread).cells (first + j)) same_columns);
             };
             kept = record {
-              info = ap (λ (z : State). z.info) handed.same ∙ ap (λ (z : State). z.info) read.same;
-              done = ap (λ (z : State). z.done) handed.same ∙ ap (λ (z : State). z.done) read.same;
+              info = ap (λ (z : State). z.info) same ∙ ap (λ (z : State). z.info) read.same;
+              done = ap (λ (z : State). z.done) same ∙ ap (λ (z : State). z.done) read.same;
             };
-            grows = handed.grows;
+            grows = grown;
           }
+
+      pub line_decoded : new_planes a.configuration r planes y ≡ planes → ((p : ℕ) → AreParts (across (division_of a.configuration) p)) → (after : S) → Handed takes refuses a coded initial r first count y after finished →
+          LineDecoded takes refuses a coded initial r next payload first count y columns states one cur after s
+      line_decoded new parts after handed =
+          line_by parts after handed.state (subst (λ ps. Runs (StepsBy a coded) finished (hand_events r ps y) handed.state) (sym new) handed.runs) handed.same handed.grows
+
+      -- a line that the row above has handed over
+      pub line_kept : new_planes a.configuration r planes y ≡ [] → ((p : ℕ) → AreParts (across (division_of a.configuration) p)) →
+          LineDecoded takes refuses a coded initial r next payload first count y columns states one cur now s
+      line_kept none parts =
+          line_by parts now finished (subst (λ ps. Runs (StepsBy a coded) finished (hand_events r ps y) finished) (sym none) refl) refl grows_finished

@@ -2,18 +2,18 @@
 use Rattle.std.proofs.Common.{◌≡◌, refl, ℕ, zero, suc, ◌+◌, ◌-◌, ◌*◌, ◌^◌, ◌<◌, ◌≤◌, inl, inr, min, List, ◌++◌, length, get_or, slice_index, take, drop, ap, sym, subst, ◌∙◌, arith}
 use Rattle.std.specs.List.{flat_map, range_with_len}
 use Rattle.std.proofs.lemmas.Bool.{cases_lt}
-use Rattle.std.proofs.lemmas.List.{drop-drop, get_or_past, length-take}
+use Rattle.std.proofs.lemmas.List.{drop-drop, drop-take, get_or_past, get_or-drop, length-take}
 use Rattle.std.proofs.lemmas.Grind.{same_number_lists}
 use Rattle.std.proofs.Math.Seq.{take-add}
 use Rattle.ffv1_record.specs.Configuration.{Configuration}
 use Rattle.ffv1_record.specs.Accepted.{Accepted}
 use Rattle.ffv1_line.specs.Cell.{Rolls, Above, cell_of, seen}
-use Rattle.ffv1_slice.specs.Grid.{division_of, across}
+use Rattle.ffv1_slice.specs.Grid.{Side, division_of, across, begin_of, length_of, first_of, coded_of, shared_of}
 use Rattle.ffv1_codec.specs.declared.decode.column.Column.{Column}
 use Rattle.ffv1_codec.specs.Picture.{plane, plane_width}
 use Rattle.ffv1_codec.specs.SliceList.{bits_of}
 use Rattle.ffv1_codec.specs.Internal.Places.{AreParts}
-use Rattle.ffv1_codec.specs.Decoding.{State, slice_at, left_of, width_in, row_in, coded_line}
+use Rattle.ffv1_codec.specs.Decoding.{State, slice_at, left_of, width_in, own_row, row_in, coded_line}
 use Rattle.ffv1_codec.specs.Internal.Stands.{window}
 use Rattle.ffv1_codec.specs.Internal.Tied.{TiedColumns, TiedLine, TiedPlanes, part_of}
 use Rattle.ffv1_codec.specs.Internal.Tied.{row_slices, rolling_lines, plane_group}
@@ -43,19 +43,36 @@ module _ (w y : ℕ) (samples two one : List ℕ) (rolls : Rolls w samples two o
 -- the samples of a line are those of its columns
 module _ (c : Configuration) (p offset y : ℕ) (two one cur : List ℕ) (s : State) (tied : TiedLine c p offset c.columns y (rolling_lines two one cur) s) (are : AreParts (across (division_of c) p)) where
   abbrev row_of : ℕ → List ℕ
-  row_of k = row_in (width_in c p k) y (plane (slice_at s k).cells p)
+  row_of k = own_row c p k y (plane (slice_at s k).cells p)
 
-  up_to : (k : ℕ) → k ≤ c.columns → flat_map row_of (range_with_len 0 k) ≡ window offset (left_of c p k) cur
+  abbrev side : Side
+  side = across (division_of c) p
+
+  -- what of a column the column before does not code
+  own_part : (k : ℕ) → k < c.columns → drop (shared_of side k) (part_of c p offset k cur) ≡ window (offset + begin_of side k) (length_of side k) cur
+  own_part k inside =
+      let shared = shared_of side k in
+      let begins = are.begins k inside in
+      let next : begin_of side k + length_of side k ≡ first_of side k + coded_of side k = are.next k inside in
+      let whole : coded_of side k ≡ shared + length_of side k = omega (arith, begins, next) in
+      let place : offset + left_of c p k + shared ≡ offset + begin_of side k = omega (arith, begins) in
+      ap (λ n. drop shared (take n (drop (offset + left_of c p k) cur))) whole
+      ∙ drop-take shared (length_of side k) (drop (offset + left_of c p k) cur)
+      ∙ ap (take (length_of side k)) (drop-drop shared (offset + left_of c p k) cur)
+      ∙ ap (λ n. window n (length_of side k) cur) place
+
+  up_to : (k : ℕ) → k ≤ c.columns → flat_map row_of (range_with_len 0 k) ≡ window offset (begin_of side k) cur
   up_to zero h = ap (λ m. take m (drop offset cur)) (sym are.first)
   up_to (suc k) h =
       let before = up_to k (omega (arith, h)) in
       let inside : k < c.columns = omega (arith, h) in
-      let here : row_of k ≡ part_of c p offset k cur = sym (rolled_row (width_in c p k) y (plane (slice_at s k).cells p) (part_of c p offset k one) (part_of c p offset k cur) (tied.read k inside inside)) in
+      let here : row_of k ≡ window (offset + begin_of side k) (length_of side k) cur =
+      ap (drop (shared_of side k)) (sym (rolled_row (width_in c p k) y (plane (slice_at s k).cells p) (part_of c p offset k one) (part_of c p offset k cur) (tied.read k inside inside))) ∙ own_part k inside in
       let zero_is : 0 + k ≡ k = omega arith in
       joined_more row_of 0 k ∙ ap (λ n. flat_map row_of (range_with_len 0 k) ++ row_of n) zero_is
-      ∙ ap (λ z. z ++ row_of k) before ∙ ap (λ z. window offset (left_of c p k) cur ++ z) here
-      ∙ ap (λ z. window offset (left_of c p k) cur ++ take (width_in c p k) z) (sym (drop-drop (left_of c p k) offset cur))
-      ∙ sym (take-add (left_of c p k) (width_in c p k) (drop offset cur))
+      ∙ ap (λ z. z ++ row_of k) before ∙ ap (λ z. window offset (begin_of side k) cur ++ z) here
+      ∙ ap (λ z. window offset (begin_of side k) cur ++ take (length_of side k) z) (sym (drop-drop (begin_of side k) offset cur))
+      ∙ sym (take-add (begin_of side k) (length_of side k) (drop offset cur))
       ∙ ap (λ m. window offset m cur) (are.next k inside)
 
   pub whole_line : coded_line c s y p ≡ window offset (plane_width c p) cur
@@ -88,8 +105,12 @@ pub line_small : (a : Accepted) (coded : ℕ → List ℕ) (r next : ℕ) (paylo
     (p y i : ℕ) → slice_index (coded_line a.configuration s y p) i < 2 ^ bits_of a.configuration
 line_small a coded r next payload columns states s tied many p y i =
     let some : 0 < 2 ^ bits_of a.configuration = omega (arith, (tied.each 0 many).small p 0) in
-    joined_small (2 ^ bits_of a.configuration) (λ k. row_in (width_in a.configuration p k) y (plane (slice_at s k).cells p)) a.configuration.columns some
-    (λ k h j. row_small (2 ^ bits_of a.configuration) (width_in a.configuration p k) y (plane (slice_at s k).cells p) some ((tied.each k h).small p) j) i
+    joined_small (2 ^ bits_of a.configuration) (λ k. own_row a.configuration p k y (plane (slice_at s k).cells p)) a.configuration.columns some
+    (λ k h j.
+    let shared = shared_of (across (division_of a.configuration) p) k in
+    let samples = plane (slice_at s k).cells p in
+    subst (λ z. z < 2 ^ bits_of a.configuration) (sym (get_or-drop shared (row_in (width_in a.configuration p k) y samples) j 0))
+    (row_small (2 ^ bits_of a.configuration) (width_in a.configuration p k) y samples some ((tied.each k h).small p) (shared + j))) i
 
 -- what was read stands in the line
 pub stand_read : (a : Accepted) (coded : ℕ → List ℕ) (r next : ℕ) (payload : List ℕ) (columns : List Column) (states two one cur : List ℕ) (first count y : ℕ) (s : State) → TiedColumns a coded r next payload (row_slices columns states) s → 0 < a.configuration.columns →

@@ -1,25 +1,26 @@
 -- Where the lines that are handed over stand: in one order, whatever they hold.
-use Rattle.std.proofs.Common.{◌≡◌, refl, ℕ, zero, suc, ◌+◌, true, false, if◌then◌else◌, List, [], ◌∷◌, ◌++◌, map, inl, inr, ap, sym, ◌∙◌, arith, append-nil, append_assoc}
+use Rattle.std.proofs.Common.{◌≡◌, refl, ℕ, zero, suc, ◌+◌, ◌<◌, true, false, if◌then◌else◌, List, [], ◌∷◌, ◌++◌, map, inl, inr, ap, sym, ◌∙◌, arith, append-nil, append_assoc}
 use Rattle.std.specs.List.{flat_map, range_with_len}
 use Rattle.std.proofs.lemmas.Grind.{flat_map-append}
 use Rattle.std.proofs.lemmas.List.{map-append}
 use Rattle.ffv1_wire.specs.Runs.{Line, places_in}
 use Rattle.ffv1_record.specs.Configuration.{Configuration, is_rct}
 use Rattle.ffv1_record.specs.Accepted.{Accepted}
-use Rattle.ffv1_slice.specs.Grid.{begin_of, division_of, down, length_of, planes_in}
+use Rattle.ffv1_slice.specs.Grid.{begin_of, division_of, down, first_of, length_of, planes_in}
 use Rattle.ffv1_codec.specs.declared.fault.FrameFault.{FrameFault}
 use Rattle.ffv1_codec.specs.Picture.{Planes, plane_count}
 use Rattle.ffv1_codec.specs.Sides.{Sides}
-use Rattle.ffv1_codec.specs.Order.{Event, Series, column_events, events_of, hand_events, line_events, lines_down, numbered, row_events, series_events, series_of}
+use Rattle.ffv1_codec.specs.Order.{Event, Series, column_events, events_of, hand_events, line_events, lines_down, new_planes, numbered, row_events, series_events, series_of}
 use Rattle.ffv1_codec.specs.Order.Event.{Open, Read, Finish, Hand, Close}
 use Rattle.ffv1_codec.specs.Runs.{Runs}
 use Rattle.ffv1_codec.specs.Decoding as decoding
 use Rattle.ffv1_codec.specs.Decoding.{State, StepsBy, FaultsWith, Decodes, at_first, top_of}
 use Rattle.ffv1_codec.specs.Lines.{line_in, lines_of, lines_of_series, places_of, places_of_series}
 use Rattle.ffv1_codec.proofs.Machines.{stops_at}
-use Rattle.ffv1_codec.proofs.FlatLists.{flat_flat, flat_same, flat_none, map_flat}
-use Rattle.ffv1_codec.proofs.Keys.{parts_joined}
+use Rattle.ffv1_codec.proofs.FlatLists.{flat_flat, flat_same, flat_range_same, flat_none, map_flat}
+use Rattle.ffv1_codec.proofs.Keys.{parts_joined, own_lines}
 use Rattle.ffv1_codec.proofs.CellsShown.{down_alike}
+use Rattle.ffv1_codec.proofs.NewPlanes.{all_new}
 use Rattle.ffv1_codec.proofs.LineFinished.{reduced_none}
 
 module _ (c : Configuration) where
@@ -33,9 +34,9 @@ module _ (c : Configuration) where
 
   series_there : (planes : Planes) (r : ℕ) (s : Series) → lines_of_series c planes r s ≡ map (line_at planes) (places_of_series c r s)
   series_there planes r s =
-      flat_same (λ y. map (λ p. line_in c planes (top_of c p r + y) p) s.planes) (λ y. map (line_at planes) (map (λ p. (p, top_of c p r + y)) s.planes)) (range_with_len 0 s.height)
-      (λ y. lines_there planes r y s.planes)
-      ∙ sym (map_flat (line_at planes) (λ y. map (λ p. (p, top_of c p r + y)) s.planes) (range_with_len 0 s.height))
+      flat_same (λ y. map (λ p. line_in c planes (top_of c p r + y) p) (new_planes c r s.planes y)) (λ y. map (line_at planes) (map (λ p. (p, top_of c p r + y)) (new_planes c r s.planes y)))
+      (range_with_len 0 s.height) (λ y. lines_there planes r y (new_planes c r s.planes y))
+      ∙ sym (map_flat (line_at planes) (λ y. map (λ p. (p, top_of c p r + y)) (new_planes c r s.planes y)) (range_with_len 0 s.height))
 
   -- the lines of a picture are those at its places
   pub picture_there : (planes : Planes) → lines_of c planes ≡ map (line_at planes) (places_of c)
@@ -76,17 +77,17 @@ module _ (c : Configuration) where
   hands_places r y i [] = refl
   hands_places r y i (p ∷ ps) = ap (λ z. (p, top_of c p r + y) ∷ z) (hands_places r y (suc i) ps)
 
-  line_events_places : (r y : ℕ) (ps : List ℕ) → places_at (line_events c r ps y) ≡ map (λ p. (p, top_of c p r + y)) ps
+  line_events_places : (r y : ℕ) (ps : List ℕ) → places_at (line_events c r ps y) ≡ map (λ p. (p, top_of c p r + y)) (new_planes c r ps y)
   line_events_places r y ps =
-      flat_map-append place_at (flat_map (column_events r ps y) (range_with_len 0 c.columns)) (Finish r ps y ∷ hand_events r ps y)
-      ∙ ap (λ z. z ++ places_at (hand_events r ps y))
+      flat_map-append place_at (flat_map (column_events r ps y) (range_with_len 0 c.columns)) (Finish r ps y ∷ hand_events r (new_planes c r ps y) y)
+      ∙ ap (λ z. z ++ places_at (hand_events r (new_planes c r ps y) y))
       (flat_flat place_at (column_events r ps y) (range_with_len 0 c.columns) ∙ flat_none (λ k. places_at (column_events r ps y k)) 0 c.columns (λ k least most. reads_none r y k ps))
-      ∙ hands_places r y 0 ps
+      ∙ hands_places r y 0 (new_planes c r ps y)
 
   series_events_places : (r : ℕ) (s : Series) → places_at (series_events c r s) ≡ places_of_series c r s
   series_events_places r s =
       flat_flat place_at (line_events c r s.planes) (range_with_len 0 s.height)
-      ∙ flat_same (λ y. places_at (line_events c r s.planes y)) (λ y. map (λ p. (p, top_of c p r + y)) s.planes) (range_with_len 0 s.height) (λ y. line_events_places r y s.planes)
+      ∙ flat_same (λ y. places_at (line_events c r s.planes y)) (λ y. map (λ p. (p, top_of c p r + y)) (new_planes c r s.planes y)) (range_with_len 0 s.height) (λ y. line_events_places r y s.planes)
 
   row_events_places : (r : ℕ) → places_at (row_events c r) ≡ flat_map (places_of_series c r) (series_of c r)
   row_events_places r =
@@ -167,7 +168,7 @@ module _ (c : Configuration) (sides : Sides c) (rct : is_rct c.colour ≡ true) 
   count = ap (λ b. planes_in b c.extra_plane) (sides.rct rct).chroma ∙ ap (planes_in true) three
 
   top_alike : (p r : ℕ) → top_of c p r ≡ top_of c 0 r
-  top_alike p r = ap (λ s. begin_of s r) (down_alike c (sides.rct rct) p)
+  top_alike p r = ap (λ s. first_of s r) (down_alike c (sides.rct rct) p)
 
   three_places : (r y : ℕ) → map (λ p. (p, top_of c p r + y)) (range_with_len 0 (plane_count c)) ≡ three_at (top_of c 0 r + y)
   three_places r y =
@@ -175,13 +176,16 @@ module _ (c : Configuration) (sides : Sides c) (rct : is_rct c.colour ≡ true) 
       let all : map (λ p. (p, top_of c p r + y)) (range_with_len 0 (plane_count c)) ≡ first = ap (λ n. map (λ p. (p, top_of c p r + y)) (range_with_len 0 n)) count in
       all ∙ ap (λ n. (0, top_of c 0 r + y) ∷ (1, n + y) ∷ (2, top_of c 2 r + y) ∷ []) (top_alike 1 r) ∙ ap (λ n. (0, top_of c 0 r + y) ∷ (1, top_of c 0 r + y) ∷ (2, n + y) ∷ []) (top_alike 2 r)
 
-  row_colours : (r : ℕ) → flat_map (places_of_series c r) (series_of c r) ≡ flat_map three_at (range_with_len (top_of c 0 r) (lines_down c 0 r))
-  row_colours r =
+  row_colours : (r : ℕ) → r < c.rows → flat_map (places_of_series c r) (series_of c r) ≡ flat_map three_at (range_with_len (top_of c 0 r) (lines_down c 0 r))
+  row_colours r r_inside =
+      let new : (y : ℕ) → new_planes c r (range_with_len 0 (plane_count c)) y ≡ range_with_len 0 (plane_count c) = λ y.
+      all_new c r (range_with_len 0 (plane_count c)) y (λ p. let none = (sides.rows_tile p).none r r_inside in omega (arith, none)) in
       let one : Series = record { planes = range_with_len 0 (plane_count c); height = lines_down c 0 r } in
       let others : List Series = map (λ p. record { planes = p ∷ []; height = lines_down c p r }) (range_with_len 0 (plane_count c)) in
       ap (λ b. flat_map (places_of_series c r) (if b then one ∷ [] else others)) rct
       ∙ append-nil (places_of_series c r one)
-      ∙ flat_same (λ y. map (λ p. (p, top_of c p r + y)) one.planes) (λ y. three_at (top_of c 0 r + y)) (range_with_len 0 (lines_down c 0 r)) (three_places r)
+      ∙ flat_same (λ y. map (λ p. (p, top_of c p r + y)) (new_planes c r one.planes y)) (λ y. three_at (top_of c 0 r + y)) (range_with_len 0 (lines_down c 0 r))
+      (λ y. ap (map (λ p. (p, top_of c p r + y))) (new y) ∙ three_places r y)
       ∙ rows_raised three_at (top_of c 0 r) 0 (lines_down c 0 r)
       ∙ ap (λ k. flat_map three_at (range_with_len k (lines_down c 0 r))) (let here : top_of c 0 r + 0 ≡ top_of c 0 r = omega arith in here)
 
@@ -189,7 +193,8 @@ module _ (c : Configuration) (sides : Sides c) (rct : is_rct c.colour ≡ true) 
   pub colour_places : places_of c ≡ flat_map three_at (range_with_len 0 c.height)
   colour_places =
       let side = down (division_of c) 0 in
-      flat_same (λ r. flat_map (places_of_series c r) (series_of c r)) (λ r. flat_map three_at (range_with_len (begin_of side r) (length_of side r))) (range_with_len 0 c.rows) row_colours
+      flat_range_same (λ r. flat_map (places_of_series c r) (series_of c r)) (λ r. flat_map three_at (range_with_len (begin_of side r) (length_of side r))) 0 c.rows
+      (λ r least most. row_colours r (omega (arith, most)) ∙ ap (flat_map three_at) (own_lines side (sides.rows_tile 0) r (omega (arith, most))))
       ∙ sym (flat_flat three_at (λ r. range_with_len (begin_of side r) (length_of side r)) (range_with_len 0 c.rows))
       ∙ ap (flat_map three_at) (parts_joined side (sides.rows_tile 0))
       ∙ ap (λ n. flat_map three_at (range_with_len 0 n)) (reduced_none c.height)

@@ -14,14 +14,15 @@ use Rattle.ffv1_slice.specs.Grid.{across, division_of}
 use Rattle.ffv1_codec.specs.Sides.{Tiles}
 use Rattle.ffv1_codec.specs.Picture.{plane, plane_count, plane_width, line_bytes}
 use Rattle.ffv1_codec.specs.SliceList.{Line, bits_of}
-use Rattle.ffv1_codec.specs.Order.{numbered}
-use Rattle.ffv1_codec.specs.Decoding.{Slice, FinishesBy, width_in, row_in, top_of}
+use Rattle.ffv1_codec.specs.Order.{numbered, new_planes}
+use Rattle.ffv1_codec.specs.Decoding.{Slice, FinishesBy, width_in, own_row, top_of}
 use Rattle.ffv1_codec.proofs.Machines.{each_left, each_right, Each, each_append}
 use Rattle.ffv1_codec.proofs.OneColour.{AreFew}
+use Rattle.ffv1_codec.proofs.NewPlanes.{each_new}
 use Rattle.ffv1_codec.proofs.Groups.{Group, IsGroup, group_lines}
 use Rattle.ffv1_codec.proofs.LinesRead.{lines_at}
 use Rattle.ffv1_codec.proofs.LinesMade.{MadeOf, handed, joined_line}
-use Rattle.ffv1_codec.proofs.JoinedLines.{tiled_long, flat_small, row_long, row_small}
+use Rattle.ffv1_codec.proofs.JoinedLines.{tiled_long, flat_small, own_long, own_small}
 use Rattle.ffv1_codec.proofs.Words.{bytes_below, get_or_bytes, green_blue}
 
 pub each_of : {A B : Type 0} (P : B → Type 0) (f : A → B) (xs : List A) → Each (λ x. P (f x)) xs → Each P (map f xs)
@@ -110,16 +111,16 @@ module _ (c : Configuration) (slice : ℕ → Slice) (tiles : (p : ℕ) → Tile
 
   pub joined_long : (y p : ℕ) → IsThere (record { plane = p; y = y }) → length (joined_line c slice y p) ≡ plane_width c p
   joined_long y p there =
-      tiled_long (across (division_of c) p) (tiles p) (λ k. row_in (width_in c p k) y (plane (slice k).cells p))
-      (λ k inside. row_long (width_in c p k) y (plane (slice k).cells p) (there k inside))
+      tiled_long (across (division_of c) p) (tiles p) (λ k. own_row c p k y (plane (slice k).cells p))
+      (λ k inside. own_long c p k y (plane (slice k).cells p) ((tiles p).begins k inside) (there k inside))
 
   module _ (small : (k p i : ℕ) → k < c.columns → get_or (plane (slice k).cells p) i 0 < 2 ^ bits_of c) (most : c.depth ≤ 16) where
     joined_depth : (y p : ℕ) → is_rct c.colour ≡ false → AreBelow (2 ^ c.depth) (joined_line c slice y p)
     joined_depth y p rct x =
-        flat_small (2 ^ c.depth) (pow_pos c.depth) (λ k. row_in (width_in c p k) y (plane (slice k).cells p)) 0 c.columns
+        flat_small (2 ^ c.depth) (pow_pos c.depth) (λ k. own_row c p k y (plane (slice k).cells p)) 0 c.columns
         (λ k i less.
         let inside : k < c.columns = omega (arith, less) in
-        row_small (2 ^ c.depth) (width_in c p k) y (plane (slice k).cells p)
+        own_small (2 ^ c.depth) c p k y (plane (slice k).cells p)
         (λ j. subst (λ b. get_or (plane (slice k).cells p) j 0 < 2 ^ (if b then c.depth + 1 else c.depth)) rct (small k p j inside)) i)
         x
 
@@ -169,10 +170,11 @@ module _ (c : Configuration) (slice : ℕ → Slice) (tiles : (p : ℕ) → Tile
     pub sized_groups : (gs : List Group) (ls : List wire.Line) → Each (IsGroup c r) gs → Each IsThere (flat_map group_lines gs) → MadeOf c r slice gs ls → Each (IsSized c) ls
     sized_groups [] ls are there made = subst (Each (IsSized c)) (sym made) tt
     sized_groups (g ∷ gs) ls are there made =
-        let here = map (handed c r g.y made.0) (numbered 0 g.planes) in
+        let new = numbered 0 (new_planes c r g.planes g.y) in
+        let here = map (handed c r g.y made.0) new in
         let f = made.2 in
         subst (Each (IsSized c)) (sym made.4)
         (each_append (IsSized c) here made.1
-        (subst (λ out. Each (IsSized c) (map (handed c r g.y out) (numbered 0 g.planes))) (sym f.bytes)
-        (sized_lines g.y f.made (numbered 0 g.planes) (made_by (is_rct c.colour) refl g.y g.planes f.made are.0.rct (each_left IsThere (group_lines g) (flat_map group_lines gs) there) f.by)))
+        (subst (λ out. Each (IsSized c) (map (handed c r g.y out) new)) (sym f.bytes)
+        (sized_lines g.y f.made new (each_new (AreMade f.made) c r g.planes g.y (made_by (is_rct c.colour) refl g.y g.planes f.made are.0.rct (each_left IsThere (group_lines g) (flat_map group_lines gs) there) f.by))))
         (sized_groups gs made.1 are.1 (each_right IsThere (group_lines g) (flat_map group_lines gs) there) made.3))

@@ -7,18 +7,12 @@ use Rattle.std.specs.declared.vec.Vec.{Vec}
 use Rattle.std.proofs.lemmas.Nat.{pow_pos}
 use Rattle.ffv1_samples.specs.Samples.{AreBelow, sample_bytes, samples_of}
 use Rattle.ffv1_record.specs.Configuration.{Configuration}
-use Rattle.ffv1_slice.specs.Grid.{Side, IsDivided, Division, IsDivision, slices_in, begin_of, length_of, whole_of, Lies, division_of, across, down}
+use Rattle.ffv1_slice.specs.Grid.{Side, IsDivided, Division, IsDivision, slices_in, first_of, coded_of, whole_of, division_of, across, down}
 use Rattle.ffv1_codec.specs.Picture.{Planes, planes_of, plane, AreOf, AreInDepth, AreSamples, IsPicture}
 use Rattle.ffv1_codec.specs.Internal.CellRows.{IsLine}
 use Rattle.ffv1_codec.specs.Internal.Stands.{window}
 use Rattle.ffv1_codec.proofs.WrittenParts.{window_long}
 use Rattle.ffv1_codec.proofs.Words.{none_samples, window_samples, window_small, picture_small}
-
--- a part ends inside its side
-pub ends : (s : Side) (k : ℕ) → k < s.count → 0 < length_of s k → ((x k : ℕ) → Lies s x k → x < whole_of s) → begin_of s k + length_of s k ≤ whole_of s
-ends s k inside some lies =
-    let last = lies (begin_of s k + (length_of s k - 1)) k (record { inside = inside; least = omega arith; most = omega (arith, some) }) in
-    omega (arith, last, some)
 
 -- a line of a rectangle ends inside a plane
 pub line_inside : (top y width left wide height : ℕ) → top + y < height → left + wide ≤ width → (top + y) * width + left + wide ≤ width * height
@@ -36,18 +30,18 @@ part_long : (b start wide long : ℕ) → b * (start + wide) ≤ long → b * st
 part_long b start wide long fits = omega (arith, fits)
 
 pub is_line : (c : Configuration) (planes : Planes) (n p y : ℕ) (samples line : List ℕ) → samples ≡ plane planes p →
-    (let d = division_of c in let s = across d p in let k = n % c.columns in let begin = (begin_of (down d p) (n / c.columns) + y) * whole_of s + begin_of s k in
-    (sample_bytes c.depth * (begin + length_of s k) ≤ length samples) → line ≡ take (sample_bytes c.depth * length_of s k) (drop (sample_bytes c.depth * begin) samples) → IsLine c planes n p y line)
+    (let d = division_of c in let s = across d p in let k = n % c.columns in let begin = (first_of (down d p) (n / c.columns) + y) * whole_of s + first_of s k in
+    (sample_bytes c.depth * (begin + coded_of s k) ≤ length samples) → line ≡ take (sample_bytes c.depth * coded_of s k) (drop (sample_bytes c.depth * begin) samples) → IsLine c planes n p y line)
 is_line c planes n p y samples line is inside same =
     let s = across (division_of c) p in
     let k = n % c.columns in
-    let wide : ℕ = length_of s k in
-    let start : ℕ = (begin_of (down (division_of c) p) (n / c.columns) + y) * whole_of s + begin_of s k in
+    let wide : ℕ = coded_of s k in
+    let start : ℕ = (first_of (down (division_of c) p) (n / c.columns) + y) * whole_of s + first_of s k in
     let room = part_long (sample_bytes c.depth) start wide (length samples) inside in
     record {
       wide = ap length same ∙ window_long (sample_bytes c.depth * start) (sample_bytes c.depth * wide) samples room;
       each = λ x here.
-          let place : start + x ≡ (begin_of (down (division_of c) p) (n / c.columns) + y) * whole_of s + (begin_of s k + x) = omega arith in
+          let place : start + x ≡ (first_of (down (division_of c) p) (n / c.columns) + y) * whole_of s + (first_of s k + x) = omega arith in
           ap (λ (l : List ℕ). get_or (samples_of c.depth l) x 0) same
           ∙ ap (λ (l : List ℕ). get_or l x 0) (window_samples c.depth start wide samples)
           ∙ get_or-take wide (drop start (samples_of c.depth samples)) x 0 here ∙ get_or-drop start (samples_of c.depth samples) x 0
@@ -67,32 +61,31 @@ row_inside n columns rows some inside =
 pub record Sides : Type 0 where
   pub across : (d : Division) (p : ℕ) → IsDivision d → IsDivided (across d p)
   pub down : (d : Division) (p : ℕ) → IsDivision d → IsDivided (down d p)
-  pub some : (s : Side) (k : ℕ) → IsDivided s → k < s.count → 0 < length_of s k
-  pub inside : (s : Side) (x k : ℕ) → IsDivided s → Lies s x k → x < whole_of s
+  pub ends : (s : Side) (k : ℕ) → IsDivided s → k < s.count → first_of s k + coded_of s k ≤ whole_of s
 
 -- a line of a cell ends inside its plane
-pub cell_inside : (d : Division) (n p y : ℕ) → Sides → IsDivision d → n < slices_in d → y < length_of (down d p) (n / d.columns) →
-    (begin_of (down d p) (n / d.columns) + y) * whole_of (across d p) + begin_of (across d p) (n % d.columns) + length_of (across d p) (n % d.columns) ≤ whole_of (across d p) * whole_of (down d p)
+pub cell_inside : (d : Division) (n p y : ℕ) → Sides → IsDivision d → n < slices_in d → y < coded_of (down d p) (n / d.columns) →
+    (first_of (down d p) (n / d.columns) + y) * whole_of (across d p) + first_of (across d p) (n % d.columns) + coded_of (across d p) (n % d.columns) ≤ whole_of (across d p) * whole_of (down d p)
 cell_inside d n p y laws is inside high =
     let column = column_inside n d.columns d.rows is.some_columns in
     let row = row_inside n d.columns d.rows is.some_columns inside in
     let wide = laws.across d p is in
     let tall = laws.down d p is in
-    let right = ends (across d p) (n % d.columns) column (laws.some (across d p) _ wide column) (λ x k. laws.inside (across d p) x k wide) in
-    let low = ends (down d p) (n / d.columns) row (laws.some (down d p) _ tall row) (λ x k. laws.inside (down d p) x k tall) in
-    line_inside (begin_of (down d p) (n / d.columns)) y (whole_of (across d p)) (begin_of (across d p) (n % d.columns)) (length_of (across d p) (n % d.columns)) (whole_of (down d p))
+    let right = laws.ends (across d p) (n % d.columns) wide column in
+    let low = laws.ends (down d p) (n / d.columns) tall row in
+    line_inside (first_of (down d p) (n / d.columns)) y (whole_of (across d p)) (first_of (across d p) (n % d.columns)) (coded_of (across d p) (n % d.columns)) (whole_of (down d p))
     (omega (arith, high, low)) right
 
 -- where a cell lies, by a division that is a configuration's
 pub record Lay (e : Division) (n p left top wide whole : ℕ) : Type 0 where
-  pub left_is : left ≡ begin_of (across e p) (n % e.columns)
-  pub top_is : top ≡ begin_of (down e p) (n / e.columns)
-  pub wide_is : wide ≡ length_of (across e p) (n % e.columns)
+  pub left_is : left ≡ first_of (across e p) (n % e.columns)
+  pub top_is : top ≡ first_of (down e p) (n / e.columns)
+  pub wide_is : wide ≡ coded_of (across e p) (n % e.columns)
   pub whole_is : whole ≡ whole_of (across e p)
 
 -- its line ends inside its plane
 pub lay_inside : (c : Configuration) (planes : Planes) (e : Division) (n p y left top wide whole : ℕ) (samples : List ℕ) → Sides → IsDivision e → e ≡ division_of c → Lay e n p left top wide whole →
-    n < c.columns * c.rows → y < length_of (down (division_of c) p) (n / c.columns) → length (plane planes p) ≡ sample_bytes c.depth * (whole_of (across (division_of c) p) * whole_of (down (division_of c) p)) → samples ≡ plane planes p →
+    n < c.columns * c.rows → y < coded_of (down (division_of c) p) (n / c.columns) → length (plane planes p) ≡ sample_bytes c.depth * (whole_of (across (division_of c) p) * whole_of (down (division_of c) p)) → samples ≡ plane planes p →
     sample_bytes c.depth * ((top + y) * whole + left + wide) ≤ length samples
 lay_inside c planes e n p y left top wide whole samples laws is same lay inside high size samples_are =
     let d : Division = division_of c in

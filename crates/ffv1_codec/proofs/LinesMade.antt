@@ -5,12 +5,13 @@ use Rattle.std.proofs.lemmas.List.{drop-append-le, take-append-le, length-drop}
 use Rattle.ffv1_wire.specs.Runs as wire
 use Rattle.ffv1_record.specs.Configuration.{Configuration}
 use Rattle.ffv1_record.specs.Accepted.{Accepted}
+use Rattle.ffv1_slice.specs.Grid.{across, division_of, shared_of}
 use Rattle.ffv1_codec.specs.Picture.{plane, plane_count}
 use Rattle.ffv1_codec.specs.SliceList.{Line}
-use Rattle.ffv1_codec.specs.Order.{Event, column_events, hand_events, numbered}
+use Rattle.ffv1_codec.specs.Order.{Event, column_events, hand_events, new_planes, numbered}
 use Rattle.ffv1_codec.specs.Order.Event.{Open, Read, Finish, Hand, Close}
 use Rattle.ffv1_codec.specs.Runs.{Runs}
-use Rattle.ffv1_codec.specs.Decoding.{State, Slice, StepsBy, Finishes, slice_at, unread, width_in, top_of, row_in, coded_line}
+use Rattle.ffv1_codec.specs.Decoding.{State, Slice, StepsBy, Finishes, slice_at, unread, width_in, top_of, row_in, own_row, coded_line}
 use Rattle.ffv1_codec.proofs.Machines.{Each, each_right, each_append, each_range, each_map, each_flat, runs_split}
 use Rattle.ffv1_codec.proofs.FlatLists.{flat_range_same}
 use Rattle.ffv1_codec.proofs.LinesRead.{reads_of, lines_at, columns_read}
@@ -20,7 +21,7 @@ use Rattle.ffv1_codec.proofs.SliceBodies.{CellLaws, HasRead, IsRead, Longer, lon
 
 -- line y of plane p, of the slices of a row side by side
 abbrev pub joined_line : Configuration → (ℕ → Slice) → ℕ → ℕ → List ℕ
-joined_line c slice y p = flat_map (λ k. row_in (width_in c p k) y (plane (slice k).cells p)) (range_with_len 0 c.columns)
+joined_line c slice y p = flat_map (λ k. own_row c p k y (plane (slice k).cells p)) (range_with_len 0 c.columns)
 
 abbrev pub handed : Configuration → ℕ → ℕ → List (List ℕ) → ℕ × ℕ → wire.Line
 handed c r y out ip = record { plane = ip.1; row = top_of c ip.1 r + y; samples = get_or out ip.0 [] }
@@ -40,7 +41,7 @@ MadeOf c r slice (g ∷ gs) ls =
     (out : List (List ℕ)) × (more : List wire.Line)
     × Finishes c (map (joined_line c slice g.y) g.planes) out
     × MadeOf c r slice gs more
-    × (ls ≡ map (handed c r g.y out) (numbered 0 g.planes) ++ more)
+    × (ls ≡ map (handed c r g.y out) (numbered 0 (new_planes c r g.planes g.y)) ++ more)
 
 pub map_each : {A B : Type 0} (f g : A → B) (xs : List A) → Each (λ x. f x ≡ g x) xs → map f xs ≡ map g xs
 map_each f g [] same = refl
@@ -63,9 +64,9 @@ module _ (c : Configuration) (r : ℕ) where
 
   pub group_of_row : (g : Group) → IsGroup c r g → Each (IsOfRow c r) (group_events c r g)
   group_of_row g is =
-      each_append (IsOfRow c r) (flat_map (column_events r g.planes g.y) (range_with_len 0 c.columns)) (Finish r g.planes g.y ∷ hand_events r g.planes g.y)
+      each_append (IsOfRow c r) (flat_map (column_events r g.planes g.y) (range_with_len 0 c.columns)) (Finish r g.planes g.y ∷ hand_events r (new_planes c r g.planes g.y) g.y)
       (reads_of_row g is)
-      (refl, each_map (IsOfRow c r) (λ (ip : ℕ × ℕ). Hand r ip.0 ip.1 g.y) (numbered 0 g.planes) (λ ip. refl))
+      (refl, each_map (IsOfRow c r) (λ (ip : ℕ × ℕ). Hand r ip.0 ip.1 g.y) (numbered 0 (new_planes c r g.planes g.y)) (λ ip. refl))
 
   pub groups_of_row : (gs : List Group) → Each (IsGroup c r) gs → Each (IsOfRow c r) (flat_map (group_events c r) gs)
   groups_of_row gs are = each_flat (IsOfRow c r) (IsGroup c r) (group_events c r) gs are group_of_row
@@ -101,7 +102,7 @@ module _ (a : Accepted) (coded : ℕ → List ℕ) (r : ℕ) where
     pub reads : Runs (StepsBy a coded) s (flat_map (column_events r g.planes g.y) (range_with_len 0 a.configuration.columns)) middle
     pub finishes : Finishes a.configuration (map (coded_line a.configuration middle g.y) g.planes) out
     pub columns : t.columns ≡ middle.columns
-    pub lines : t.lines ≡ s.lines ++ map (handed a.configuration r g.y out) (numbered 0 g.planes)
+    pub lines : t.lines ≡ s.lines ++ map (handed a.configuration r g.y out) (numbered 0 (new_planes a.configuration r g.planes g.y))
 
   pub hands_made : (y : ℕ) (ips : List (ℕ × ℕ)) (s t : State) → Runs (StepsBy a coded) s (map (λ (ip : ℕ × ℕ). Hand r ip.0 ip.1 y) ips) t →
       (t.columns ≡ s.columns) × (t.lines ≡ s.lines ++ map (handed a.configuration r y s.out) ips)
@@ -125,10 +126,10 @@ module _ (a : Accepted) (coded : ℕ → List ℕ) (r : ℕ) where
   group_made g s t f =
       let c = a.configuration in
       let reads = flat_map (column_events r g.planes g.y) (range_with_len 0 c.columns) in
-      let parts = runs_split (StepsBy a coded) s t reads (Finish r g.planes g.y ∷ hand_events r g.planes g.y) f in
+      let parts = runs_split (StepsBy a coded) s t reads (Finish r g.planes g.y ∷ hand_events r (new_planes c r g.planes g.y) g.y) f in
       let m = parts.0 in
       let finish = parts.2 in
-      let hands = hands_made g.y (numbered 0 g.planes) finish.0 t finish.2 in
+      let hands = hands_made g.y (numbered 0 (new_planes c r g.planes g.y)) finish.0 t finish.2 in
       let keeps = reads_keep reads s m (each_range IsReading (column_events r g.planes g.y) 0 c.columns (λ k least most. each_map IsReading (λ p. Read r k p g.y) g.planes (λ p. tt))) parts.1 in
       record {
         middle = m;
@@ -137,8 +138,8 @@ module _ (a : Accepted) (coded : ℕ → List ℕ) (r : ℕ) where
         finishes = finish.1.1;
         columns = hands.0 ∙ ap (λ (z : State). z.columns) finish.1.2;
         lines =
-            hands.1 ∙ ap (λ (z : State). z.lines ++ map (handed c r g.y z.out) (numbered 0 g.planes)) finish.1.2
-            ∙ ap (λ ls. ls ++ map (handed c r g.y finish.1.0) (numbered 0 g.planes)) keeps;
+            hands.1 ∙ ap (λ (z : State). z.lines ++ map (handed c r g.y z.out) (numbered 0 (new_planes c r g.planes g.y))) finish.1.2
+            ∙ ap (λ ls. ls ++ map (handed c r g.y finish.1.0) (numbered 0 (new_planes c r g.planes g.y))) keeps;
       }
 
 module _ (a : Accepted) (coded : ℕ → List ℕ) (r : ℕ) (laws : CellLaws) (some : (p k : ℕ) → k < a.configuration.columns → 0 < width_in a.configuration p k) where
@@ -158,11 +159,11 @@ module _ (a : Accepted) (coded : ℕ → List ℕ) (r : ℕ) (laws : CellLaws) (
   joined_each m t y [] more are = tt
   joined_each m t y (p ∷ planes) more are =
       let c = a.configuration in (
-        flat_range_same (λ k. row_in (width_in c p k) y (plane (slice_at m k).cells p)) (λ k. row_in (width_in c p k) y (plane (slice_at t k).cells p)) 0 c.columns
+        flat_range_same (λ k. own_row c p k y (plane (slice_at m k).cells p)) (λ k. own_row c p k y (plane (slice_at t k).cells p)) 0 c.columns
             (λ k least most.
             let inside : k < c.columns = omega (arith, most) in
             let longer = (more k inside).more p in
-            sym (ap (row_in (width_in c p k) y) longer.1 ∙ row_before (width_in c p k) y (plane (slice_at m k).cells p) longer.0 (are k inside).0)),
+            sym (ap (own_row c p k y) longer.1 ∙ ap (drop (shared_of (across (division_of c) p) k)) (row_before (width_in c p k) y (plane (slice_at m k).cells p) longer.0 (are k inside).0))),
         joined_each m t y planes more (λ k inside. (are k inside).1),
       )
 
@@ -200,7 +201,7 @@ module _ (a : Accepted) (coded : ℕ → List ℕ) (r : ℕ) (laws : CellLaws) (
       (goes_on a coded r k (flat_map (group_events c r) gs) u t (groups_of_row c r gs are.1) (rw u_long inside) (have_u k inside).many parts.2) in
       let joined = map_each (joined_line c (slice_at m) g.y) (joined_line c (slice_at t) g.y) g.planes
       (joined_each m t g.y g.planes more (λ k inside. each_right (IsRead a coded r k (slice_at m k)) pre (group_lines g) (have_m k inside).are)) in
-      let here = map (handed c r g.y made.out) (numbered 0 g.planes) in
+      let here = map (handed c r g.y made.out) (numbered 0 (new_planes c r g.planes g.y)) in
       record {
         lines = here ++ rest.lines;
         made = (made.out, rest.lines, subst (λ read. Finishes c read made.out) joined made.finishes, rest.made, refl);

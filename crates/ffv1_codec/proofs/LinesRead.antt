@@ -8,7 +8,7 @@ use Rattle.std.proofs.lemmas.List.Folds.{flat_map-map}
 use Rattle.ffv1_record.specs.Configuration.{Configuration, is_rct}
 use Rattle.ffv1_codec.specs.Picture.{plane_count}
 use Rattle.ffv1_codec.specs.SliceList.{Line, lines_of_plane, planes_of_line}
-use Rattle.ffv1_codec.specs.Order.{Event, Series, series_events, line_events, column_events, hand_events, series_of, numbered, lines_down}
+use Rattle.ffv1_codec.specs.Order.{Event, Series, series_events, line_events, column_events, hand_events, series_of, new_planes, numbered, lines_down}
 use Rattle.ffv1_codec.specs.Order.Event.{Open, Read, Finish, Hand, Close}
 use Rattle.ffv1_codec.proofs.FlatLists.{flat_flat, flat_same, pick_one}
 
@@ -57,9 +57,9 @@ columns_read columns r k y planes inside =
 
 pub line_reads : (c : Configuration) (r k y : ℕ) (planes : List ℕ) → k < c.columns → reads_of k (line_events c r planes y) ≡ lines_at planes y
 line_reads c r k y planes inside =
-    flat_map-append (read_at k) (flat_map (column_events r planes y) (range_with_len 0 c.columns)) (Finish r planes y ∷ hand_events r planes y)
-    ∙ ap (λ z. z ++ reads_of k (hand_events r planes y)) (columns_read c.columns r k y planes inside)
-    ∙ ap (λ z. lines_at planes y ++ z) (hands_read r k y (numbered 0 planes))
+    flat_map-append (read_at k) (flat_map (column_events r planes y) (range_with_len 0 c.columns)) (Finish r planes y ∷ hand_events r (new_planes c r planes y) y)
+    ∙ ap (λ z. z ++ reads_of k (hand_events r (new_planes c r planes y) y)) (columns_read c.columns r k y planes inside)
+    ∙ ap (λ z. lines_at planes y ++ z) (hands_read r k y (numbered 0 (new_planes c r planes y)))
     ∙ append-nil (lines_at planes y)
 
 pub series_reads : (c : Configuration) (r k : ℕ) (s : Series) → k < c.columns → reads_of k (series_events c r s) ≡ flat_map (lines_at s.planes) (range_with_len 0 s.height)

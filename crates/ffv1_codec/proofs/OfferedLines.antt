@@ -21,7 +21,7 @@ use Rattle.ffv1_codec.specs.declared.fault.CodecFault.TheVariants as fault
 use Rattle.ffv1_codec.specs.declared.fault.FrameFault.{FrameFault}
 use Rattle.ffv1_codec.specs.Picture.{plane_count, plane_width, line_bytes}
 use Rattle.ffv1_codec.specs.SliceList as list
-use Rattle.ffv1_codec.specs.Order.{Event, events_of, row_events, series_events, series_of, column_events, hand_events, numbered, lines_down}
+use Rattle.ffv1_codec.specs.Order.{Event, events_of, row_events, series_events, series_of, column_events, hand_events, new_planes, numbered, lines_down}
 use Rattle.ffv1_codec.specs.Order.Event.{Open, Read, Finish, Hand, Close}
 use Rattle.ffv1_codec.specs.Runs.{Steps, Runs}
 use Rattle.ffv1_codec.specs.Answer.{AnswersCut, cut_fault}
@@ -36,6 +36,7 @@ use Rattle.ffv1_codec.proofs.SliceBodies.{HasRead, IsRead}
 use Rattle.ffv1_codec.proofs.LinesMade.{AllHave, have_more, reads_of_row, groups_of_row, joined_line}
 use Rattle.ffv1_codec.proofs.LineSizes.{IsThere, by_number, joined_long, numbered_range}
 use Rattle.ffv1_codec.proofs.CellsShown.{inside_side}
+use Rattle.ffv1_codec.proofs.NewPlanes.{each_new}
 use Rattle.ffv1_codec.proofs.RowsDone.{opens}
 use Rattle.ffv1_codec.proofs.Words.{get_or_bytes}
 use Rattle.ffv1_codec.proofs.PictureMade.{PictureLaws, alike_lines, some_wide, each_all}
@@ -161,7 +162,7 @@ module _ (a : Accepted) (coded : ℕ → List ℕ) (laws : PictureLaws a) where
     group_good g pre s is long have =
         let c = a.configuration in
         let reads = flat_map (column_events r g.planes g.y) (range_with_len 0 c.columns) in
-        fine_append (StepsBy a coded) IsOffered s reads (Finish r g.planes g.y ∷ hand_events r g.planes g.y)
+        fine_append (StepsBy a coded) IsOffered s reads (Finish r g.planes g.y ∷ hand_events r (new_planes c r g.planes g.y) g.y)
         (fine_each (StepsBy a coded) IsOffered IsQuiet quiet reads s (reads_quiet g))
         (λ m run.
         let have_m : (k : ℕ) → k < c.columns → HasRead a coded r k (pre ++ group_lines g) (slice_at m k) = λ k inside.
@@ -171,8 +172,8 @@ module _ (a : Accepted) (coded : ℕ → List ℕ) (laws : PictureLaws a) where
         each_all c.columns (λ k l. IsRead a coded r k (slice_at m k) l) (group_lines g)
         (λ k inside. each_right (IsRead a coded r k (slice_at m k)) pre (group_lines g) (have_m k inside).are) in (
           tt,
-          λ t finish. hands r g.y finish.0 (numbered 0 g.planes) t (ap (λ (z : State). z.out) finish.2)
-              (own_lines g.y finish.0 g.planes 0 is.inside is.down (long_by m g finish.0 is there finish.1)),
+          λ t finish. hands r g.y finish.0 (numbered 0 (new_planes c r g.planes g.y)) t (ap (λ (z : State). z.out) finish.2)
+              (each_new (IsOwn r g.y finish.0) c r g.planes g.y (own_lines g.y finish.0 g.planes 0 is.inside is.down (long_by m g finish.0 is there finish.1))),
         ))
 
     groups_good : (gs : List Group) (pre : List list.Line) (s : State) → Each (IsGroup a.configuration r) gs → length s.columns ≡ a.configuration.columns → Have pre s →

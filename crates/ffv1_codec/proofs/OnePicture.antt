@@ -72,7 +72,7 @@ module _ (c : Configuration) (tiles : (p : ℕ) → Tiles (down (division_of c) 
   plane_of_lines planes fits p inside =
       ap (samples_in p) (lines_by_keys c planes)
       ∙ rows_are c planes p (keys_of c)
-      ∙ ap (flat_map (row c planes p)) (rows_of_plane c p inside (tiles p) (λ rct r. same_lines rct p r))
+      ∙ ap (flat_map (row c planes p)) (rows_of_plane c p inside tiles (λ rct r. same_lines rct p r))
       ∙ plane_by_rows c planes fits p inside
 
   -- planes with the same lines are the same
@@ -108,4 +108,4 @@ module _ (c : Configuration) (tiles : (p : ℕ) → Tiles (down (division_of c) 
       rows_filtered p (lines_of c planes)
       ∙ ap (λ ls. rows_in p (map key_of ls)) (lines_by_keys c planes)
       ∙ ap (rows_in p) (own_keys planes (keys_of c))
-      ∙ rows_of_plane c p inside (tiles p) (λ rct r. same_lines rct p r)
+      ∙ rows_of_plane c p inside tiles (λ rct r. same_lines rct p r)

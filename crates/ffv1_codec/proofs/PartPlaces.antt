@@ -1,6 +1,6 @@
 -- Where the parts of a side lie.
 use Rattle.std.proofs.Common.{◌≡◌, ℕ, zero, suc, ◌+◌, ◌-◌, ◌<◌, ◌≤◌, sym, subst, arith}
-use Rattle.ffv1_slice.specs.Grid.{Side, begin_of, length_of}
+use Rattle.ffv1_slice.specs.Grid.{Side, begin_of, first_of, coded_of}
 use Rattle.ffv1_codec.specs.Internal.Places.{AreParts}
 
 module _ (s : Side) (are : AreParts s) where
@@ -18,17 +18,15 @@ module _ (s : Side) (are : AreParts s) where
       let h = rises_by (k - j) j (omega (arith, less, upto)) in
       subst (λ n. begin_of s j ≤ begin_of s n) same h
 
-  -- a part ends at or before a later one begins
-  pub before : (j k : ℕ) → j < k → k ≤ s.count → begin_of s j + length_of s j ≤ begin_of s k
-  before j k less upto =
-      let next = are.next j (omega (arith, less, upto)) in
-      let h = rises (suc j) k (omega (arith, less)) upto in
-      omega (arith, next, h)
+  -- a cell ends at or before a later one begins
+  pub before : (j k : ℕ) → j < k → k < s.count → first_of s j + coded_of s j ≤ first_of s k
+  before j k less here =
+      let h : first_of s j + coded_of s j ≤ begin_of s k = rises (suc j) k (omega (arith, less)) (omega (arith, here)) in
+      omega (arith, h, are.begins k here, are.none k here)
 
   -- and within the whole
-  pub inside : (k : ℕ) → k < s.count → begin_of s k + length_of s k ≤ s.size
+  pub inside : (k : ℕ) → k < s.count → first_of s k + coded_of s k ≤ s.size
   inside k h =
-      let b = before k s.count h (omega arith) in
-      let last = are.last in
+      let ends = are.ends k h in
       let fits = are.fits in
-      omega (arith, b, last, fits)
+      omega (arith, ends, fits)

@@ -1,5 +1,5 @@
 -- Of slices that have read a line of a picture the picture's line is made.
-use Rattle.std.proofs.Common.{◌≡◌, refl, ℕ, suc, ◌+◌, ◌-◌, ◌*◌, ◌^◌, ◌<◌, Bool, true, false, if◌then◌else◌, List, [], ◌∷◌, map, length, get_or, inl, inr, ap, sym, subst, ◌∙◌, arith, unsigned_abs}
+use Rattle.std.proofs.Common.{◌≡◌, refl, ℕ, suc, ◌+◌, ◌-◌, ◌*◌, ◌^◌, ◌<◌, ◌≤◌, Bool, true, false, if◌then◌else◌, List, [], ◌∷◌, map, length, get_or, inl, inr, ap, sym, subst, ◌∙◌, arith, unsigned_abs}
 use Rattle.std.specs.List.{range_with_len}
 use Rattle.std.proofs.Math.Nat.{mul-le-mul_left}
 use Rattle.std.proofs.lemmas.List.{ext_get_or}
@@ -8,19 +8,19 @@ use Rattle.ffv1_samples.specs.Samples.{bytes_of}
 use Rattle.ffv1_samples.proofs.Depths.{length_samples}
 use Rattle.ffv1_rct.specs.Transform.{IsCodedIn, IsColourIn, IsOnlyColourIn, luma_of, chroma_in}
 use Rattle.ffv1_record.specs.Configuration.{Configuration, is_rct}
-use Rattle.ffv1_slice.specs.Grid.{begin_of, whole_of, across, down, division_of, planes_in}
+use Rattle.ffv1_slice.specs.Grid.{begin_of, length_of, first_of, shared_of, whole_of, across, down, division_of, planes_in}
 use Rattle.ffv1_codec.specs.Sides.{HasPart, Tiles}
 use Rattle.ffv1_codec.specs.Picture.{Planes, IsPicture, plane, plane_count, plane_width, plane_height, plane_samples, green_of, blue_of, sample_at, transformed_at, coded_at}
 use Rattle.ffv1_codec.specs.SliceList.{Line}
 use Rattle.ffv1_codec.specs.Order.{lines_down}
-use Rattle.ffv1_codec.specs.Decoding.{Slice, Finishes, FinishesBy, width_in, left_of, row_in, top_of}
+use Rattle.ffv1_codec.specs.Decoding.{Slice, Finishes, FinishesBy, width_in, left_of, own_row, top_of}
 use Rattle.ffv1_codec.proofs.CodedSamples.{Small, is_colour}
 use Rattle.ffv1_codec.proofs.Machines.{Each}
 use Rattle.ffv1_codec.proofs.Groups.{Group, IsGroup, group_lines}
 use Rattle.ffv1_codec.proofs.LinesRead.{lines_at}
 use Rattle.ffv1_codec.proofs.LinesMade.{joined_line, map_each}
 use Rattle.ffv1_codec.proofs.SlicesMade.{at_number, at_range}
-use Rattle.ffv1_codec.proofs.JoinedLines.{row_long, row_at, tiled_long}
+use Rattle.ffv1_codec.proofs.JoinedLines.{row_long, row_at, own_long, tiled_long}
 use Rattle.ffv1_codec.proofs.Words.{picture_small, row_bytes, sample_row, green_few, blue_few}
 use Rattle.ffv1_codec.proofs.CellsShown.{InRct, down_alike, inside_side, Shown, IsThere, joined_at, picture_row}
 
@@ -39,17 +39,20 @@ module _ (c : Configuration) (planes : Planes) (picture : IsPicture c planes) (t
       let has = part p x inside in
       let k = has.part in
       let offset = x - left_of c p k in
-      let place : left_of c p k + offset ≡ x = omega (arith, has.lies.least) in
-      let small : offset < width_in c p k = omega (arith, has.lies.least, has.lies.most) in
+      let begins = (tiles p).begins k has.lies.inside in
+      let next : begin_of side k + length_of side k ≡ left_of c p k + width_in c p k = (tiles p).next k has.lies.inside in
+      let place : left_of c p k + offset ≡ x = omega (arith, has.lies.least, begins) in
+      let small : offset < width_in c p k = omega (arith, has.lies.least, has.lies.most, begins, next) in
+      let own : shared_of side k ≤ offset = omega (arith, has.lies.least, begins) in
       ap (λ n. get_or (joined_line c slice y p) n 0) (sym place)
-      ∙ joined_at c planes slice tiles r y p k offset there has.lies.inside small
+      ∙ joined_at c planes slice tiles r y p k offset there has.lies.inside small own
       ∙ shown k offset has.lies.inside small
       ∙ ap (λ n. coded_at c planes p n (top_of c p r + y)) place
 
   joined_wide : (y p : ℕ) → IsThere c planes slice tiles r (record { plane = p; y = y }) → length (joined_line c slice y p) ≡ plane_width c p
   joined_wide y p there =
-      tiled_long (across (division_of c) p) (tiles p) (λ k. row_in (width_in c p k) y (plane (slice k).cells p))
-      (λ k inside. row_long (width_in c p k) y (plane (slice k).cells p) (there k inside))
+      tiled_long (across (division_of c) p) (tiles p) (λ k. own_row c p k y (plane (slice k).cells p))
+      (λ k inside. own_long c p k y (plane (slice k).cells p) ((tiles p).begins k inside) (there k inside))
 
   -- the picture's line is as long as the plane is wide
   picture_wide : (y p : ℕ) → p < plane_count c → y < lines_down c p r → length (sample_row c planes (top_of c p r + y) p) ≡ plane_width c p
@@ -113,7 +116,7 @@ module _ (c : Configuration) (planes : Planes) (picture : IsPicture c planes) (t
     sample p x = sample_at c planes p x (top_of c 0 r + y)
 
     top_alike : (p : ℕ) → top_of c p r ≡ top_of c 0 r
-    top_alike p = ap (λ s. begin_of s r) (down_alike c (in_rct.alike rct) p)
+    top_alike p = ap (λ s. first_of s r) (down_alike c (in_rct.alike rct) p)
 
     out_sample : (p x : ℕ) → p < plane_count c → x < c.width → get_or (get_or out p []) x 0 ≡ sample_at c planes p x (top_of c 0 r + y)
     out_sample p x inside small =

@@ -10,7 +10,7 @@ use Rattle.ffv1_samples.specs.Samples.{AreBelow, sample_bytes, samples_of}
 use Rattle.ffv1_samples.proofs.Depths.{samples_append}
 use Rattle.ffv1_record.specs.Configuration.{is_rct}
 use Rattle.ffv1_record.specs.Accepted.{Accepted}
-use Rattle.ffv1_slice.specs.Grid.{length_of, across, down, division_of}
+use Rattle.ffv1_slice.specs.Grid.{coded_of, across, down, division_of}
 use Rattle.ffv1_codec.specs.Sides.{Tiles}
 use Rattle.ffv1_codec.specs.Picture.{Planes, AreOf, IsPicture, plane, plane_count, plane_width, plane_height, line_bytes}
 use Rattle.ffv1_codec.specs.SliceList.{Line, Said}
@@ -49,7 +49,7 @@ each_all count P (l ∷ ls) all = ((λ k inside. (all k inside).0), each_all cou
 
 module _ (a : Accepted) (laws : PictureLaws a) where
   pub alike_lines : is_rct a.configuration.colour ≡ true → (p r : ℕ) → lines_down a.configuration p r ≡ lines_down a.configuration 0 r
-  alike_lines rct p r = ap (λ s. length_of s r) (down_alike a.configuration (laws.in_rct.alike rct) p)
+  alike_lines rct p r = ap (λ s. coded_of s r) (down_alike a.configuration (laws.in_rct.alike rct) p)
 
   pub some_wide : (p k : ℕ) → k < a.configuration.columns → 0 < width_in a.configuration p k
   some_wide p k inside = (laws.tiles_h p).some k inside
@@ -107,7 +107,7 @@ module _ (a : Accepted) (laws : PictureLaws a) where
         stand (line_bytes a.configuration p) p 0 (plane_height a.configuration p) ls
         (each_both (IsSized a.configuration) (λ (l : wire.Line). l.plane ≡ p → length l.samples ≡ line_bytes a.configuration p) ls sized
         (λ l is same. is.long ∙ ap (line_bytes a.configuration) same))
-        (ap (rows_in p) keys ∙ rows_of_plane a.configuration p inside (laws.tiles_v p) (λ rct r. alike_lines rct p r))
+        (ap (rows_in p) keys ∙ rows_of_plane a.configuration p inside laws.tiles_v (λ rct r. alike_lines rct p r))
 
     lines_stand : (some : List wire.Line) → Each (λ (l : wire.Line). l.plane < plane_count a.configuration) some →
         ((p : ℕ) → p < plane_count a.configuration → Each (IsRowOf (line_bytes a.configuration p) p 0 (samples_in p ls)) some) → Each (IsLine a.configuration (planes_made ls)) some

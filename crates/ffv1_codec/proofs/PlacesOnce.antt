@@ -84,7 +84,7 @@ module _ (c : Configuration) (planes : Planes) where
         ap (lines_at p y) (lines_by_keys c planes) ∙ at_keys p y (keys_of c) ∙ ap (λ zs. map (λ z. line_in c planes z p) (only y zs)) are
 
     rows_are : (p : ℕ) → p < plane_count c → rows_in p (keys_of c) ≡ range_with_len 0 (plane_height c p)
-    rows_are p inside = rows_of_plane c p inside (tiles p) (λ rct r. same_lines rct p r)
+    rows_are p inside = rows_of_plane c p inside tiles (λ rct r. same_lines rct p r)
 
     past_plane : (p y : ℕ) → plane_count c ≤ p → lines_at p y (lines_of c planes) ≡ []
     past_plane p y past = by_rows p y [] (no_rows p (keys_of c) past (keys_are c same_lines))

@@ -11,7 +11,7 @@ use Rattle.ffv1_slice.specs.Grid.{across, down, division_of, whole_of}
 use Rattle.ffv1_codec.specs.Sides.{HasPart, Tiles}
 use Rattle.ffv1_codec.specs.Picture.{Planes, IsPicture, plane, plane_count}
 use Rattle.ffv1_codec.specs.SliceList.{Line, Said, said_by}
-use Rattle.ffv1_codec.specs.Order.{Event, column_events, hand_events, numbered}
+use Rattle.ffv1_codec.specs.Order.{Event, column_events, hand_events, new_planes, numbered}
 use Rattle.ffv1_codec.specs.Order.Event.{Open, Read, Finish, Hand, Close}
 use Rattle.ffv1_codec.specs.Runs.{Runs}
 use Rattle.ffv1_codec.specs.Lines.{line_in}
@@ -24,6 +24,7 @@ use Rattle.ffv1_codec.proofs.ColumnSteps.{IsOfRow}
 use Rattle.ffv1_codec.proofs.SliceBodies.{CellLaws, HasRead, IsRead}
 use Rattle.ffv1_codec.proofs.LinesMade.{IsReading, AllHave, have_more, reads_of_row}
 use Rattle.ffv1_codec.proofs.LineSizes.{by_number}
+use Rattle.ffv1_codec.proofs.NewPlanes.{each_new}
 use Rattle.ffv1_codec.proofs.CellsShown.{InRct, Shown, IsThere, picture_row}
 use Rattle.ffv1_codec.proofs.PictureMade.{each_all}
 use Rattle.ffv1_codec.proofs.PictureLines.{ColourLaws, picture_finishes}
@@ -199,11 +200,13 @@ module _ (a : Accepted) (coded : ℕ → List ℕ) (planes : Planes) (info : Sai
         let out = map f g.planes in
         let finishes = picture_finishes c planes picture tiles tiles_v part colours in_rct (slice_at m) r r_inside g is there shown in
         let made : State = record m { out = out } in
-        let hands = hands_over g.y 0 g.planes made (by_number f [] g.planes) in
+        let new = new_planes c r g.planes g.y in
+        let hands = hands_over g.y 0 new made
+        (each_new (λ (ip : ℕ × ℕ). get_or out ip.0 [] ≡ picture_row c planes (top_of c ip.1 r + g.y) ip.1) c r g.planes g.y (by_number f [] g.planes)) in
         let same : (k : ℕ) → slice_at hands.end k ≡ slice_at m k = λ k. ap (λ qs. get_or qs k unread) hands.columns_same in
         record {
           end = hands.end;
-          runs = runs_append (StepsBy a coded) s m hands.end reads (Finish r g.planes g.y ∷ hand_events r g.planes g.y) on.runs (made, (out, finishes, refl), hands.runs);
+          runs = runs_append (StepsBy a coded) s m hands.end reads (Finish r g.planes g.y ∷ hand_events r new g.y) on.runs (made, (out, finishes, refl), hands.runs);
           stand = λ k inside. subst (Standing k (more k)) (sym (same k)) (on.stand k inside);
           have = λ k inside. subst (HasRead a coded r k (pre ++ group_lines g)) (sym (same k)) (have_m k inside);
           long = ap (λ qs. length qs) hands.columns_same ∙ on.long;

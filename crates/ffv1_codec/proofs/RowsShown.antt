@@ -7,7 +7,7 @@ use Rattle.ffv1_rct.specs.Lines.{AreCodedIn}
 use Rattle.ffv1_record.specs.Configuration.{Configuration, is_rct}
 use Rattle.ffv1_record.specs.declared.config.Colour.{Colour}
 use Rattle.ffv1_record.specs.declared.config.Colour.TheVariants as colour
-use Rattle.ffv1_slice.specs.Grid.{begin_of, length_of, division_of, across, down}
+use Rattle.ffv1_slice.specs.Grid.{first_of, coded_of, division_of, across, down}
 use Rattle.ffv1_codec.specs.Picture.{Planes, green_of, blue_of, sample_at, coded_at, transformed_at, cell_in}
 use Rattle.ffv1_codec.specs.Internal.CellRows.{IsLine}
 
@@ -22,10 +22,10 @@ shows_cell c y row each = record {
 
 -- where a cell begins
 abbrev pub left_of : Configuration → ℕ → ℕ → ℕ
-left_of c n p = begin_of (across (division_of c) p) (n % c.columns)
+left_of c n p = first_of (across (division_of c) p) (n % c.columns)
 
 abbrev pub top_of : Configuration → ℕ → ℕ → ℕ
-top_of c n p = begin_of (down (division_of c) p) (n / c.columns)
+top_of c n p = first_of (down (division_of c) p) (n / c.columns)
 
 -- a line that is coded as it is
 pub plain_shows : (c : Configuration) (planes : Planes) (n p y : ℕ) (row : List ℕ) → IsLine c planes n p y row → ((u v : ℕ) → coded_at c planes p u v ≡ sample_at c planes p u v) →
@@ -40,20 +40,20 @@ is_colour colour.Rct e = refl
 -- in RCT all planes are as wide and as high as the first
 pub same_left : (c : Configuration) (n p : ℕ) → c.log2_h ≡ 0 → left_of c n p ≡ left_of c n 0
 same_left c n zero flat = refl
-same_left c n (suc zero) flat = ap (λ k. begin_of (record { size = c.width; count = c.columns; log2 = k }) (n % c.columns)) flat
-same_left c n (suc (suc zero)) flat = ap (λ k. begin_of (record { size = c.width; count = c.columns; log2 = k }) (n % c.columns)) flat
+same_left c n (suc zero) flat = ap (λ k. first_of (record { size = c.width; count = c.columns; log2 = k }) (n % c.columns)) flat
+same_left c n (suc (suc zero)) flat = ap (λ k. first_of (record { size = c.width; count = c.columns; log2 = k }) (n % c.columns)) flat
 same_left c n (suc (suc (suc p))) flat = refl
 
 pub same_top : (c : Configuration) (n p : ℕ) → c.log2_v ≡ 0 → top_of c n p ≡ top_of c n 0
 same_top c n zero flat = refl
-same_top c n (suc zero) flat = ap (λ k. begin_of (record { size = c.height; count = c.rows; log2 = k }) (n / c.columns)) flat
-same_top c n (suc (suc zero)) flat = ap (λ k. begin_of (record { size = c.height; count = c.rows; log2 = k }) (n / c.columns)) flat
+same_top c n (suc zero) flat = ap (λ k. first_of (record { size = c.height; count = c.rows; log2 = k }) (n / c.columns)) flat
+same_top c n (suc (suc zero)) flat = ap (λ k. first_of (record { size = c.height; count = c.rows; log2 = k }) (n / c.columns)) flat
 same_top c n (suc (suc (suc p))) flat = refl
 
 pub same_width : (c : Configuration) (planes : Planes) (n p : ℕ) → c.log2_h ≡ 0 → (cell_in c planes n p).width ≡ (cell_in c planes n 0).width
 same_width c planes n zero flat = refl
-same_width c planes n (suc zero) flat = ap (λ k. length_of (record { size = c.width; count = c.columns; log2 = k }) (n % c.columns)) flat
-same_width c planes n (suc (suc zero)) flat = ap (λ k. length_of (record { size = c.width; count = c.columns; log2 = k }) (n % c.columns)) flat
+same_width c planes n (suc zero) flat = ap (λ k. coded_of (record { size = c.width; count = c.columns; log2 = k }) (n % c.columns)) flat
+same_width c planes n (suc (suc zero)) flat = ap (λ k. coded_of (record { size = c.width; count = c.columns; log2 = k }) (n % c.columns)) flat
 same_width c planes n (suc (suc (suc p))) flat = refl
 
 -- a line's sample, by the first plane's cell

@@ -6,7 +6,7 @@ use Rattle.ffv1_wire.specs.Runs.{LineStep, Grows}
 use Rattle.ffv1_record.specs.Configuration.{Configuration, is_rct}
 use Rattle.ffv1_record.specs.Accepted.{Accepted}
 use Rattle.ffv1_line.specs.Cell.{Rolls}
-use Rattle.ffv1_slice.specs.Grid.{division_of, across, length_of, factor_of}
+use Rattle.ffv1_slice.specs.Grid.{division_of, across, coded_of, factor_of}
 use Rattle.ffv1_codec.specs.declared.decode.column.Column.{Column}
 use Rattle.ffv1_codec.specs.declared.fault.FrameFault.{FrameFault}
 use Rattle.ffv1_codec.specs.Picture.{plane}
@@ -29,7 +29,7 @@ use Rattle.ffv1_codec.proofs.RunsInRow.{runs_append, stops_later, stops_sooner}
 -- planes that are coded together have as many lines in a row
 lines_in_one : (c : Configuration) (first i r : ℕ) → c.log2_v ≡ 0 → lines_down c (first + i) r ≡ lines_down c first r
 lines_in_one c first i r none =
-    let f : ℕ → ℕ = λ l. length_of (record { size = c.height; count = c.rows; log2 = l }) r in
+    let f : ℕ → ℕ = λ l. coded_of (record { size = c.height; count = c.rows; log2 = l }) r in
     ap (λ l. f (factor_of l (first + i))) none ∙ ap f (factor_none (first + i) ∙ sym (factor_none first)) ∙ ap (λ l. f (factor_of l first)) (sym none)
 
 by_colour : (b : Bool) → (b ≡ true) ⊎ (b ≡ false)

@@ -25,6 +25,7 @@ use Rattle.ffv1_codec.proofs.Groups.{Group, IsGroup, group_lines, groups_of, gro
 use Rattle.ffv1_codec.proofs.SliceBodies.{body_alike}
 use Rattle.ffv1_codec.proofs.RowsDone.{all_done}
 use Rattle.ffv1_codec.proofs.CellsShown.{IsLine, Shown, groups_shown}
+use Rattle.ffv1_codec.proofs.NewPlanes.{all_new}
 use Rattle.ffv1_codec.proofs.PictureMade.{PictureLaws, Part, Rows, all_there, alike_lines, some_wide, all_sized, all_keys, planes_made, lines_are, all_lines, picture_made}
 use Rattle.ffv1_codec.specs.Ending.{HasEnding}
 use Rattle.ffv1_codec.proofs.LastLine.{has_last, planes_some}
@@ -124,19 +125,21 @@ module _ (a : Accepted) (laws : PictureLaws a) (coded : ℕ → List ℕ) (info 
     abbrev pub cells : ℕ → Cell
     cells p = cell_of (width_in a.configuration p column) (plane read.cells p)
 
-    shown : Each (Shown a.configuration planes part.slice laws.tiles_h row) (row_lines a.configuration row)
-    shown =
+    shown : n < a.configuration.columns * a.configuration.rows → Each (Shown a.configuration planes part.slice laws.tiles_h row) (row_lines a.configuration row)
+    shown inside =
+        let r_inside = row_inside n a.configuration.columns a.configuration.rows laws.columns inside in
         subst (Each (Shown a.configuration planes part.slice laws.tiles_h row)) (sym (lines_by_groups a.configuration row))
-        (groups_shown a.configuration planes part.slice laws.tiles_h row laws.in_rct (groups_of a.configuration row) ls
+        (groups_shown a.configuration planes part.slice laws.tiles_h row laws.in_rct
+        (λ ps y. all_new a.configuration row ps y (λ p. let none = (laws.tiles_v p).none row r_inside in omega (arith, none))) (groups_of a.configuration row) ls
         (groups_are a.configuration row (λ rct p. alike_lines a laws rct p row)) (all_there a laws coded (Some info) row ls part) part.made lines)
 
     -- the cells that were read are those of the picture
-    agree : 0 < a.configuration.columns → (l : Line) → IsLineOf a.configuration row l → Agree (cells l.plane) (cell_in a.configuration planes n l.plane) l.y
-    agree some l is = record {
+    agree : n < a.configuration.columns * a.configuration.rows → 0 < a.configuration.columns → (l : Line) → IsLineOf a.configuration row l → Agree (cells l.plane) (cell_in a.configuration planes n l.plane) l.y
+    agree here some l is = record {
       some = some_wide a laws l.plane column (column_inside n a.configuration.columns some);
       wide = refl;
       each = λ x z inside below.
-          at_line a.configuration (Shown a.configuration planes part.slice laws.tiles_h row) row l.plane z (λ rct. alike_lines a laws rct l.plane row) is.inside (omega (arith, below, is.below)) shown
+          at_line a.configuration (Shown a.configuration planes part.slice laws.tiles_h row) row l.plane z (λ rct. alike_lines a laws rct l.plane row) is.inside (omega (arith, below, is.below)) (shown here)
           column x (column_inside n a.configuration.columns some) inside;
     }
 
@@ -159,7 +162,7 @@ module _ (a : Accepted) (laws : PictureLaws a) (coded : ℕ → List ℕ) (info 
           is_body =
               body_alike laws.cells c read.head cells (cell_in c planes n) (row_lines c row) has.body
               (each_both (IsLineOf c row) (λ (l : Line). Agree (cells l.plane) (cell_in c planes n l.plane) l.y) (row_lines c row)
-              (lines_are_of c row (λ rct p. alike_lines a laws rct p row)) (agree laws.columns)) has.is_body;
+              (lines_are_of c row (λ rct p. alike_lines a laws rct p row)) (agree inside laws.columns)) has.is_body;
           codes =
               subst (λ (steps : List Step). Codes (coded n) (decisions_after a.table [] steps)) past
               (subst (λ m. Codes (coded m) (decisions_after a.table [] read.past)) number has.codes);

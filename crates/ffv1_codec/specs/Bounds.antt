@@ -3,18 +3,21 @@ use Rattle.std.specs.Prelude.{ℕ, ◌+◌, ◌-◌, ◌*◌, max, if◌then◌e
 use Rattle.std.specs.List.{sum_by, range_with_len}
 use Rattle.ffv1_record.specs.Configuration.{Configuration}
 use Rattle.ffv1_slice.specs.Footer.{foot_length}
-use Rattle.ffv1_codec.specs.Picture.{plane_count, plane_width, plane_height}
+use Rattle.ffv1_slice.specs.Grid.{division_of, across, down, coded_of}
+use Rattle.ffv1_codec.specs.Picture.{plane_count}
 
--- how many samples a picture has
-abbrev pub samples_of : Configuration → ℕ
-samples_of c =
-    sum_by (λ p. plane_width c p * plane_height c p) (range_with_len 0 (plane_count c))
+-- how many samples the slices of a picture code, where one that several code counts for each
+abbrev pub coded_samples : Configuration → ℕ
+coded_samples c =
+    sum_by (λ p. sum_by (coded_of (across (division_of c) p)) (range_with_len 0 c.columns)
+    * sum_by (coded_of (down (division_of c) p)) (range_with_len 0 c.rows))
+    (range_with_len 0 (plane_count c))
 
--- at most so many: 63 a sample, and for each slice 559, its key and nine symbols of a head of 62
--- each, with transparency ten
+-- at most so many: 63 for each sample that a slice codes, and for each slice 559, its key and nine
+-- symbols of a head of 62 each, with transparency ten
 abbrev pub most_decisions : Configuration → ℕ
 most_decisions c =
-    63 * samples_of c
+    63 * coded_samples c
     + (559 + (if c.extra_plane then 62 else 0)) * (c.columns * c.rows)
 
 -- how many coded bytes the slices of a payload have: all but their footers

@@ -18,7 +18,7 @@ use Rattle.ffv1_line.specs.Coded.{CodesRow, RefusesRow, refused_row_steps}
 use Rattle.ffv1_slice.specs.declared.head.SliceHead.{SliceHead}
 use Rattle.ffv1_slice.specs.declared.fault.SliceFault.{SliceFault}
 use Rattle.ffv1_slice.specs.declared.fault.SliceFault.TheVariants as slice
-use Rattle.ffv1_slice.specs.Grid.{division_of, across, down, begin_of, length_of, Lies}
+use Rattle.ffv1_slice.specs.Grid.{division_of, across, down, first_of, coded_of, shared_of, Lies}
 use Rattle.ffv1_slice.specs.Head.{CodesHead, RefusesHead, RefusesKey, key_steps, head_steps, no_key}
 use Rattle.ffv1_codec.specs.declared.fault.CodecFault.{CodecFault}
 use Rattle.ffv1_codec.specs.declared.fault.CodecFault.TheVariants as fault
@@ -81,25 +81,29 @@ put_slice s k q = record s { columns = slice_set s.columns k q }
 abbrev pub slice_number : Configuration → ℕ → ℕ → ℕ
 slice_number c r k = r * c.columns + k
 
--- where column k begins in a plane, how wide it is, and where row r begins
+-- where the cells of column k begin in a plane, how wide they are, and where those of row r begin
 abbrev pub left_of : Configuration → ℕ → ℕ → ℕ
-left_of c p k = begin_of (across (division_of c) p) k
+left_of c p k = first_of (across (division_of c) p) k
 
 abbrev pub width_in : Configuration → ℕ → ℕ → ℕ
-width_in c p k = length_of (across (division_of c) p) k
+width_in c p k = coded_of (across (division_of c) p) k
 
 abbrev pub top_of : Configuration → ℕ → ℕ → ℕ
-top_of c p r = begin_of (down (division_of c) p) r
+top_of c p r = first_of (down (division_of c) p) r
 
 -- row y of a cell of some width, of its samples
 abbrev pub row_in : ℕ → ℕ → List ℕ → List ℕ
 row_in width y samples = take width (drop (y * width) samples)
 
--- line y of the slices of a row in plane p, as it is coded
+-- the samples of row y of a cell in column k that the column before does not code
+abbrev pub own_row : Configuration → ℕ → ℕ → ℕ → List ℕ → List ℕ
+own_row c p k y samples =
+    drop (shared_of (across (division_of c) p) k) (row_in (width_in c p k) y samples)
+
+-- line y of the slices of a row in plane p, as it is coded, each sample once
 abbrev pub coded_line : Configuration → State → ℕ → ℕ → List ℕ
 coded_line c s y p =
-    flat_map (λ k. row_in (width_in c p k) y (plane (slice_at s k).cells p))
-    (range_with_len 0 c.columns)
+    flat_map (λ k. own_row c p k y (plane (slice_at s k).cells p)) (range_with_len 0 c.columns)
 
 -- the fault of a key or a head, as a fault of a frame
 abbrev pub of_slice : SliceFault → CodecFault

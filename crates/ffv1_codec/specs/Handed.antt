@@ -11,8 +11,8 @@ use Rattle.ffv1_record.specs.Accepted.{Accepted}
 use Rattle.ffv1_slice.specs.Cutting.{coded_of, CutsTo}
 use Rattle.ffv1_slice.specs.Footer.{foot_length}
 use Rattle.ffv1_codec.specs.Picture.{plane, plane_count}
-use Rattle.ffv1_codec.specs.Decoding.{State, Slice, Finishes, unread, slice_number, width_in}
-use Rattle.ffv1_codec.specs.Decoding.{row_in, top_of}
+use Rattle.ffv1_codec.specs.Decoding.{State, Slice, Finishes, unread, slice_number, own_row}
+use Rattle.ffv1_codec.specs.Decoding.{top_of}
 use Rattle.ffv1_codec.specs.Answer.{slices_in}
 use Rattle.ffv1_codec.specs.Known.{IsBegun}
 
@@ -23,7 +23,7 @@ slice_of s n = get_or (slices_in s) n unread
 -- line y of plane p, of the slices of row r side by side
 abbrev pub line_across : Configuration → (ℕ → Slice) → ℕ → ℕ → ℕ → List ℕ
 line_across c slice r y p =
-    flat_map (λ k. row_in (width_in c p k) y (plane (slice (slice_number c r k)).cells p))
+    flat_map (λ k. own_row c p k y (plane (slice (slice_number c r k)).cells p))
     (range_with_len 0 c.columns)
 
 -- the bytes of slice n code the first of its lines, and line y of plane p is one of them

@@ -5,7 +5,7 @@ use Rattle.std.specs.List.{flat_map, range_with_len}
 use Rattle.ffv1_wire.specs.Runs.{Line}
 use Rattle.ffv1_record.specs.Configuration.{Configuration}
 use Rattle.ffv1_codec.specs.Picture.{Planes, plane, line_bytes}
-use Rattle.ffv1_codec.specs.Order.{Series, series_of}
+use Rattle.ffv1_codec.specs.Order.{Series, series_of, new_planes}
 use Rattle.ffv1_codec.specs.Decoding.{row_in, top_of}
 
 -- line y of plane p, in bytes
@@ -19,7 +19,7 @@ line_in c planes y p = record {
 -- those of a series in row r of the slices
 abbrev pub lines_of_series : Configuration → Planes → ℕ → Series → List Line
 lines_of_series c planes r s =
-    flat_map (λ y. map (λ p. line_in c planes (top_of c p r + y) p) s.planes)
+    flat_map (λ y. map (λ p. line_in c planes (top_of c p r + y) p) (new_planes c r s.planes y))
     (range_with_len 0 s.height)
 
 -- all of them
@@ -31,7 +31,8 @@ lines_of c planes =
 -- where the lines of a picture stand, in the same order: those of a series, and all of them
 abbrev pub places_of_series : Configuration → ℕ → Series → List (ℕ × ℕ)
 places_of_series c r s =
-    flat_map (λ y. map (λ p. (p, top_of c p r + y)) s.planes) (range_with_len 0 s.height)
+    flat_map (λ y. map (λ p. (p, top_of c p r + y)) (new_planes c r s.planes y))
+    (range_with_len 0 s.height)
 
 abbrev pub places_of : Configuration → List (ℕ × ℕ)
 places_of c =

@@ -1,11 +1,12 @@
 -- The order in which a frame is decoded: the slices of a row side by side, line by line, and each
 -- line of the picture as soon as it is whole (RFC 9043, 4.4 to 4.8, has the order within a slice;
 -- that across the slices of a row is this decoder's).
-use Rattle.std.specs.Prelude.{◌≡◌, ℕ, ◌+◌, if◌then◌else◌, List, [], ◌∷◌, ◌++◌, map}
+use Rattle.std.specs.Prelude.{◌≡◌, ℕ, ◌+◌, nat_lt, if◌then◌else◌, Bool, false, List}
+use Rattle.std.specs.Prelude.{[], ◌∷◌, ◌++◌, map}
 use Rattle.std.proofs.Common.{suc}
 use Rattle.std.specs.List.{flat_map, range_with_len}
 use Rattle.ffv1_record.specs.Configuration.{Configuration, is_rct}
-use Rattle.ffv1_slice.specs.Grid.{division_of, down, length_of}
+use Rattle.ffv1_slice.specs.Grid.{division_of, down, coded_of, shared_of}
 use Rattle.ffv1_codec.specs.Picture.{plane_count}
 
 -- what is decided and made at one place of the order
@@ -26,9 +27,9 @@ pub record Series : Type 0 where
   pub planes : List ℕ
   pub height : ℕ
 
--- how many lines a plane has in row r of the slices
+-- how many lines the cells of a plane have in row r of the slices
 abbrev pub lines_down : Configuration → ℕ → ℕ → ℕ
-lines_down c p r = length_of (down (division_of c) p) r
+lines_down c p r = coded_of (down (division_of c) p) r
 
 -- RFC 9043, 4.7: line y of plane p is the last that the slices of row r code, for RCT too
 pub record IsLastLine (c : Configuration) (r p y : ℕ) : Type 0 where
@@ -48,6 +49,16 @@ abbrev pub numbered : ℕ → List ℕ → List (ℕ × ℕ)
 numbered i [] = []
 numbered i (p ∷ ps) = (i, p) ∷ numbered (suc i) ps
 
+-- whether line y of these planes, which are divided alike, is one that the row of slices above
+-- codes, too
+abbrev pub is_shared : Configuration → ℕ → List ℕ → ℕ → Bool
+is_shared c r [] y = false
+is_shared c r (p ∷ ps) y = nat_lt y (shared_of (down (division_of c) p) r)
+
+-- the planes of which line y of row r is handed over: the row above has handed over what it shares
+abbrev pub new_planes : Configuration → ℕ → List ℕ → ℕ → List ℕ
+new_planes c r planes y = if is_shared c r planes y then [] else planes
+
 -- line y of these planes in the slice of column k, and the same line handed over
 abbrev pub column_events : ℕ → List ℕ → ℕ → ℕ → List Event
 column_events r planes y k = map (λ p. Read r k p y) planes
@@ -59,7 +70,7 @@ hand_events r planes y = map (λ (ip : ℕ × ℕ). Hand r ip.0 ip.1 y) (numbere
 abbrev pub line_events : Configuration → ℕ → List ℕ → ℕ → List Event
 line_events c r planes y =
     flat_map (column_events r planes y) (range_with_len 0 c.columns)
-    ++ (Finish r planes y ∷ hand_events r planes y)
+    ++ (Finish r planes y ∷ hand_events r (new_planes c r planes y) y)
 
 abbrev pub series_events : Configuration → ℕ → Series → List Event
 series_events c r s = flat_map (line_events c r s.planes) (range_with_len 0 s.height)

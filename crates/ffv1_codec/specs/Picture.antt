@@ -12,8 +12,8 @@ use Rattle.ffv1_line.specs.Cell.{Cell}
 use Rattle.ffv1_samples.specs.Samples.{AreBelow, sample_bytes, samples_of}
 use Rattle.ffv1_rct.specs.Transform.{luma_of, chroma_in}
 use Rattle.ffv1_record.specs.Configuration.{Configuration, is_rct}
-use Rattle.ffv1_slice.specs.Grid.{Division, division_of, planes_in, across, down, begin_of}
-use Rattle.ffv1_slice.specs.Grid.{length_of, whole_of}
+use Rattle.ffv1_slice.specs.Grid.{Division, division_of, planes_in, across, down, first_of}
+use Rattle.ffv1_slice.specs.Grid.{coded_of, whole_of}
 
 -- the bytes of the samples of each plane, row after row
 abbrev pub Planes : Type 0
@@ -117,11 +117,11 @@ coded_at c planes p x y =
 abbrev pub cell_in : Configuration → Planes → ℕ → ℕ → Cell
 cell_in c planes n p =
     let d = division_of c in record {
-      width = length_of (across d p) (n % c.columns);
-      at = λ x y. coded_at c planes p (begin_of (across d p) (n % c.columns) + x)
-          (begin_of (down d p) (n / c.columns) + y);
+      width = coded_of (across d p) (n % c.columns);
+      at = λ x y. coded_at c planes p (first_of (across d p) (n % c.columns) + x)
+          (first_of (down d p) (n / c.columns) + y);
     }
 
 -- how many lines it has
 abbrev pub cell_height : Configuration → ℕ → ℕ → ℕ
-cell_height c n p = length_of (down (division_of c) p) (n / c.columns)
+cell_height c n p = coded_of (down (division_of c) p) (n / c.columns)

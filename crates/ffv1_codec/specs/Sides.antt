@@ -3,15 +3,19 @@
 use Rattle.std.specs.Prelude.{◌≡◌, ℕ, ◌+◌, ◌<◌, ◌≤◌, true}
 use Rattle.std.proofs.Common.{suc}
 use Rattle.ffv1_record.specs.Configuration.{Configuration, is_rct}
-use Rattle.ffv1_slice.specs.Grid.{Side, Lies, begin_of, length_of, whole_of, across, down}
-use Rattle.ffv1_slice.specs.Grid.{division_of}
+use Rattle.ffv1_slice.specs.Grid.{Side, Lies, begin_of, length_of, first_of, coded_of}
+use Rattle.ffv1_slice.specs.Grid.{shared_of, whole_of, across, down, division_of}
 
--- the parts of a side stand one after the other, from 0 to its end, and none is empty
+-- the parts of a side stand one after the other, from 0 to its end; no cell is empty or passes the
+-- end, and none has a sample that another has
 pub record Tiles (s : Side) : Type 0 where
   pub first : begin_of s 0 ≡ 0
   pub next : (k : ℕ) → k < s.count → begin_of s k + length_of s k ≡ begin_of s (suc k)
   pub last : begin_of s s.count ≡ whole_of s
-  pub some : (k : ℕ) → k < s.count → 0 < length_of s k
+  pub some : (k : ℕ) → k < s.count → 0 < coded_of s k
+  pub begins : (k : ℕ) → k < s.count → first_of s k ≤ begin_of s k
+  pub ends : (k : ℕ) → k < s.count → first_of s k + coded_of s k ≤ whole_of s
+  pub none : (k : ℕ) → k < s.count → shared_of s k ≡ 0
 
 -- a position lies in some part
 pub record HasPart (s : Side) (x : ℕ) : Type 0 where

@@ -21,4 +21,5 @@ pub(crate) fn slices_lie_beside_one_another()
     slice_laws::accepted_pictures_are_divided();
     slice_laws::cells_tile_their_plane();
     slice_laws::parts_follow_one_another();
+    slice_laws::accepted_slices_share_nothing();
 }

@@ -8,6 +8,7 @@ pub mod HeadValues
 pub mod Lengths
 pub mod WholeSlices
 pub mod FoundHeads
+pub mod Sharing
 pub mod SpanOffsets
 pub mod FirstDamaged
 pub mod Factors

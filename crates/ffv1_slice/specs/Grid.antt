@@ -3,7 +3,7 @@
 use Rattle.std.specs.Prelude.{◌≡◌, ℕ, ◌+◌, ◌-◌, ◌*◌, ◌/◌, ◌%◌, ◌^◌, ◌<◌, ◌≤◌, Bool, true, false}
 use Rattle.std.proofs.Common.{zero, suc}
 use Rattle.ffv1_record.specs.Configuration.{Configuration}
-use Rattle.ffv1_record.specs.Accepted.{edge, AreMultiples}
+use Rattle.ffv1_record.specs.Accepted.{edge}
 
 -- what the division of pictures depends on, and the bits of a sample
 pub record Division : Type 0 where
@@ -51,23 +51,35 @@ pub record Side : Type 0 where
   pub count : ℕ
   pub log2 : ℕ
 
--- each part has a sample, and each inner edge is a multiple of the factor
-pub record IsDivided (s : Side) : Type 0 where
-  pub some : 0 < s.count
-  pub fits : s.count ≤ s.size
-  pub multiples : AreMultiples s.size s.count s.log2
+-- where the cell of part k begins in the plane, the part's edge over the factor, rounded down; and
+-- how long it is, the part's own size over the factor, rounded up
+abbrev pub first_of : Side → ℕ → ℕ
+first_of s k = edge k s.size s.count / 2 ^ s.log2
 
--- where part k begins in the plane, and how long it is: the part's own size over the factor,
--- rounded up
+abbrev pub coded_of : Side → ℕ → ℕ
+coded_of s k = reduced s.log2 (edge (suc k) s.size s.count - edge k s.size s.count)
+
+-- where that begins of part k which the part before does not code, and how long it is
 abbrev pub begin_of : Side → ℕ → ℕ
-begin_of s k = reduced s.log2 (edge k s.size s.count)
+begin_of s zero = 0
+begin_of s (suc k) = first_of s k + coded_of s k
 
 abbrev pub length_of : Side → ℕ → ℕ
-length_of s k = reduced s.log2 (edge (suc k) s.size s.count - edge k s.size s.count)
+length_of s k = begin_of s (suc k) - begin_of s k
+
+-- how much of part k the part before codes, too
+abbrev pub shared_of : Side → ℕ → ℕ
+shared_of s k = begin_of s k - first_of s k
 
 -- how long all of it is
 abbrev pub whole_of : Side → ℕ
 whole_of s = reduced s.log2 s.size
+
+-- each part has a sample, and the last ends where all of it does
+pub record IsDivided (s : Side) : Type 0 where
+  pub some : 0 < s.count
+  pub fits : s.count ≤ s.size
+  pub covered : begin_of s s.count ≡ whole_of s
 
 -- the width and the height of a plane
 abbrev pub across : Division → ℕ → Side
@@ -90,8 +102,10 @@ pub record IsDivision (d : Division) : Type 0 where
   pub high : d.rows ≤ d.height
   pub log2_h : d.log2_h ≤ 2
   pub log2_v : d.log2_v ≤ 2
-  pub multiples_h : AreMultiples d.width d.columns d.log2_h
-  pub multiples_v : AreMultiples d.height d.rows d.log2_v
+  pub covered_h : begin_of (record { size = d.width; count = d.columns; log2 = d.log2_h }) d.columns
+      ≡ reduced d.log2_h d.width
+  pub covered_v : begin_of (record { size = d.height; count = d.rows; log2 = d.log2_v }) d.rows
+      ≡ reduced d.log2_v d.height
   pub planes : d.planes ≤ 4
 
 -- how many slices there are, in raster order

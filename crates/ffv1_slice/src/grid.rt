@@ -4,10 +4,12 @@ ghost use Rattle.std.specs.Prelude.{◌≡◌, ◌-◌, ◌+◌, ◌*◌, ◌/�
 ghost use Rattle.std.proofs.Common.{suc};
 ghost use Rattle.ffv1_record.specs.Accepted.{edge};
 ghost use Rattle.ffv1_slice.specs.Grid.{Division, IsDivision, division_of, factor_of, reduced};
-ghost use Rattle.ffv1_slice.specs.Grid.{planes_in, slices_in, begin_of, length_of, whole_of};
+ghost use Rattle.ffv1_slice.specs.Grid.{planes_in, slices_in, begin_of, first_of, coded_of};
+ghost use Rattle.ffv1_slice.specs.Grid.{whole_of};
 ghost use Rattle.ffv1_slice.specs.Grid.{across, down};
 ghost use Rattle.ffv1_samples.specs.Samples.{sample_bytes};
 
+use crate::laws;
 use ffv1_record::{Checked, laws as record_laws};
 use ffv1_samples::sample_bytes;
 use std::alloc::Allocator;
@@ -124,7 +126,51 @@ fn edge(k: u32, size: u32, count: u32) -> u32
     k * size / count
 }
 
-/// Where part k begins in a plane.
+/// Where the cell of part k begins in a plane.
+fn first_of(k: u32, size: u32, count: u32, log2: u32) -> u32
+    requires size { size ≤ 8192 }
+    requires count { count ≤ 32 }
+    requires some { 0 < count }
+    requires k { k ≤ count }
+    requires log2 { log2 ≤ 2 }
+    ensures value { result ≡ first_of (record { size = size; count = count; log2 = log2 }) k }
+    ensures fits { result ≤ 8192 }
+{
+    edge(k, size, count) / (1 << log2)
+}
+
+/// How long the cell of part k is in a plane.
+fn coded_of(k: u32, size: u32, count: u32, log2: u32) -> u32
+    requires size { size ≤ 8192 }
+    requires count { count ≤ 32 }
+    requires some { 0 < count }
+    requires k { k < count }
+    requires log2 { log2 ≤ 2 }
+    ensures value { result ≡ coded_of (record { size = size; count = count; log2 = log2 }) k }
+    ensures fits { result ≤ 8192 }
+{
+    let first = edge(k, size, count);
+    let last = edge(k + 1, size, count);
+    reduced(log2, last - first)
+}
+
+/// Where the cell of part k begins in a plane, and how long it is.
+fn cell_of(k: u32, size: u32, count: u32, log2: u32) -> (u32, u32)
+    requires size { size ≤ 8192 }
+    requires count { count ≤ 32 }
+    requires k { k < count }
+    requires log2 { log2 ≤ 2 }
+    ensures first { result.0 ≡ first_of (record { size = size; count = count; log2 = log2 }) k }
+    ensures coded { result.1 ≡ coded_of (record { size = size; count = count; log2 = log2 }) k }
+    ensures fits { result.0 ≤ 8192 }
+    ensures few { result.1 ≤ 8192 }
+{
+    let first = edge(k, size, count);
+    let last = edge(k + 1, size, count);
+    (first / (1 << log2), reduced(log2, last - first))
+}
+
+/// Where that of part k begins which the part before does not code.
 fn begin_of(k: u32, size: u32, count: u32, log2: u32) -> u32
     requires size { size ≤ 8192 }
     requires count { count ≤ 32 }
@@ -132,24 +178,12 @@ fn begin_of(k: u32, size: u32, count: u32, log2: u32) -> u32
     requires k { k ≤ count }
     requires log2 { log2 ≤ 2 }
     ensures value { result ≡ begin_of (record { size = size; count = count; log2 = log2 }) k }
-    ensures fits { result ≤ 8192 }
+    ensures fits { result ≤ 16384 }
 {
-    reduced(log2, edge(k, size, count))
-}
-
-/// How long part k is in a plane.
-fn length_of(k: u32, size: u32, count: u32, log2: u32) -> u32
-    requires size { size ≤ 8192 }
-    requires count { count ≤ 32 }
-    requires some { 0 < count }
-    requires k { k < count }
-    requires log2 { log2 ≤ 2 }
-    ensures value { result ≡ length_of (record { size = size; count = count; log2 = log2 }) k }
-    ensures fits { result ≤ 8192 }
-{
-    let first = edge(k, size, count);
-    let last = edge(k + 1, size, count);
-    reduced(log2, last - first)
+    if k == 0 {
+        return 0;
+    }
+    first_of(k - 1, size, count, log2) + coded_of(k - 1, size, count, log2)
 }
 
 impl Grid {
@@ -158,6 +192,7 @@ impl Grid {
         ensures value { result ≡ division_of checked.now.configuration }
         ensures division { IsDivision result }
     {
+        laws::accepted_pictures_are_divided();
         record_laws::accepted_configuration_is_in_range();
         let config = checked.config();
         Grid {
@@ -233,7 +268,52 @@ impl Grid {
         reduced(factor_of(self.log2_v, plane), self.height)
     }
 
-    /// Where a column of slices begins in a plane; after the last, where it ends.
+    /// Where the cells of a column of slices begin in a plane, and how many columns they have.
+    pub fn cell_across(&self, plane: u32, column: u32) -> (u32, u32)
+        requires { column < self.now.columns }
+        ensures first { result.0 ≡ first_of (across self.now plane) column }
+        ensures coded { result.1 ≡ coded_of (across self.now plane) column }
+    {
+        let Grid {
+            width,
+            columns,
+            log2_h,
+            ..
+        } = *self;
+        cell_of(column, width, columns, factor_of(log2_h, plane))
+    }
+
+    /// Where the cells of a row of slices begin in a plane, and how many lines they have.
+    pub fn cell_down(&self, plane: u32, row: u32) -> (u32, u32)
+        requires { row < self.now.rows }
+        ensures first { result.0 ≡ first_of (down self.now plane) row }
+        ensures coded { result.1 ≡ coded_of (down self.now plane) row }
+    {
+        let Grid {
+            height,
+            rows,
+            log2_v,
+            ..
+        } = *self;
+        cell_of(row, height, rows, factor_of(log2_v, plane))
+    }
+
+    /// Where the cells of a row of slices begin in a plane.
+    pub fn first_top(&self, plane: u32, row: u32) -> u32
+        requires { row < self.now.rows }
+        ensures { result ≡ first_of (down self.now plane) row }
+    {
+        let Grid {
+            height,
+            rows,
+            log2_v,
+            ..
+        } = *self;
+        first_of(row, height, rows, factor_of(log2_v, plane))
+    }
+
+    /// Where that of a column of slices begins in a plane which the column before does not code;
+    /// after the last, where the last ends.
     pub fn left(&self, plane: u32, column: u32) -> u32
         requires { column ≤ self.now.columns }
         ensures { result ≡ begin_of (across self.now plane) column }
@@ -247,7 +327,8 @@ impl Grid {
         begin_of(column, width, columns, factor_of(log2_h, plane))
     }
 
-    /// Where a row of slices begins in a plane; after the last, where it ends.
+    /// Where that of a row of slices begins in a plane which the row before does not code; after
+    /// the last, where the last ends.
     pub fn top(&self, plane: u32, row: u32) -> u32
         requires { row ≤ self.now.rows }
         ensures { result ≡ begin_of (down self.now plane) row }
@@ -264,12 +345,12 @@ impl Grid {
     /// The rectangle of a slice in a plane.
     pub fn cell(&self, plane: u32, slice: u32) -> Cell
         requires { slice < slices_in self.now }
-        ensures left { result.left ≡ begin_of (across self.now plane) (slice % self.now.columns) }
-        ensures top { result.top ≡ begin_of (down self.now plane) (slice / self.now.columns) }
+        ensures left { result.left ≡ first_of (across self.now plane) (slice % self.now.columns) }
+        ensures top { result.top ≡ first_of (down self.now plane) (slice / self.now.columns) }
         ensures width { result.width ≡
-            length_of (across self.now plane) (slice % self.now.columns) }
+            coded_of (across self.now plane) (slice % self.now.columns) }
         ensures height { result.height ≡
-            length_of (down self.now plane) (slice / self.now.columns) }
+            coded_of (down self.now plane) (slice / self.now.columns) }
     {
         let Grid {
             width,
@@ -283,10 +364,10 @@ impl Grid {
         let column = slice % columns;
         let row = slice / columns;
         Cell {
-            left: begin_of(column, width, columns, factor_of(log2_h, plane)),
-            top: begin_of(row, height, rows, factor_of(log2_v, plane)),
-            width: length_of(column, width, columns, factor_of(log2_h, plane)),
-            height: length_of(row, height, rows, factor_of(log2_v, plane)),
+            left: first_of(column, width, columns, factor_of(log2_h, plane)),
+            top: first_of(row, height, rows, factor_of(log2_v, plane)),
+            width: coded_of(column, width, columns, factor_of(log2_h, plane)),
+            height: coded_of(row, height, rows, factor_of(log2_v, plane)),
         }
     }
 }

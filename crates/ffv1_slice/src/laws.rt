@@ -8,7 +8,7 @@ ghost use Rattle.ffv1_range.specs.Table.{Table, IsTable};
 ghost use Rattle.ffv1_range.specs.Symbols.{Step};
 ghost use Rattle.ffv1_record.specs.declared.config.Profile.{Profile};
 ghost use Rattle.ffv1_record.specs.Configuration.{Configuration};
-ghost use Rattle.ffv1_record.specs.Accepted.{IsAccepted};
+ghost use Rattle.ffv1_record.specs.Accepted.{AreMultiples, IsAccepted};
 ghost use Rattle.ffv1_slice.specs.declared.cutting.CutFault.{CutFault};
 ghost use Rattle.ffv1_slice.specs.declared.fault.SliceFault.{SliceFault};
 ghost use Rattle.ffv1_slice.specs.declared.head.SliceHead.{SliceHead};
@@ -17,6 +17,7 @@ ghost use Rattle.ffv1_slice.specs.Footer.{footer_of, foot_length};
 ghost use Rattle.ffv1_slice.specs.Cutting.{IsCutting, Cuts, CutsTo, IsRefused};
 ghost use Rattle.ffv1_slice.specs.Cutting.{joined_of, offset_in, AreCodedBytes, AreCodedIn};
 ghost use Rattle.ffv1_slice.specs.Grid.{Side, IsDivided, begin_of, length_of, whole_of, Lies};
+ghost use Rattle.ffv1_slice.specs.Grid.{first_of, coded_of, shared_of};
 ghost use Rattle.ffv1_slice.specs.Grid.{Division, IsDivision, CoversOnce, across, down};
 ghost use Rattle.ffv1_slice.specs.Grid.{division_of, slices_in, Covers};
 ghost use Rattle.ffv1_slice.specs.Head.{CodesHead, RefusesHead, IsHead, Stops, head_rules};
@@ -64,7 +65,11 @@ pub fn parts_follow_one_another()
     ensures next { (s : Side) (k : ℕ) → IsDivided s → k < s.count →
         begin_of s k + length_of s k ≡ begin_of s (suc k) }
     ensures last { (s : Side) → IsDivided s → begin_of s s.count ≡ whole_of s }
-    ensures some { (s : Side) (k : ℕ) → IsDivided s → k < s.count → 0 < length_of s k }
+    ensures some { (s : Side) (k : ℕ) → IsDivided s → k < s.count → 0 < coded_of s k }
+    ensures few { (s : Side) (k : ℕ) → IsDivided s → k < s.count →
+        (first_of s k ≤ begin_of s k) × (shared_of s k ≤ 1) }
+    ensures coded { (s : Side) (k : ℕ) → IsDivided s → k < s.count →
+        first_of s k + coded_of s k ≤ whole_of s }
     ensures one { (s : Side) (x : ℕ) → IsDivided s → x < whole_of s → (k : ℕ) × Lies s x k
         × ((other : ℕ) → Lies s x other → other ≡ k) }
     ensures inside { (s : Side) (x k : ℕ) → IsDivided s → Lies s x k → x < whole_of s }
@@ -108,6 +113,25 @@ pub fn accepted_pictures_are_divided()
 {
     record_laws::accepted_configuration_is_in_range();
 }
+
+/// Slices of a configuration that was checked have no sample in common.
+pub fn accepted_slices_share_nothing()
+    ensures across { (c : Configuration) (t : Table) (p k : ℕ) → IsAccepted c t → k < c.columns →
+        shared_of (across (division_of c) p) k ≡ 0 }
+    ensures down { (c : Configuration) (t : Table) (p k : ℕ) → IsAccepted c t → k < c.rows →
+        shared_of (down (division_of c) p) k ≡ 0 }
+{
+    record_laws::accepted_configuration_is_in_range();
+}
+
+/// The parts of a side have no sample in common exactly where each inner edge is a multiple of the
+/// factor.
+pub fn sides_share_nothing_at_multiples()
+    ensures none { (s : Side) (k : ℕ) → 0 < s.count → s.count ≤ s.size →
+        AreMultiples s.size s.count s.log2 → k < s.count → shared_of s k ≡ 0 }
+    ensures only { (s : Side) → 0 < s.count → s.count ≤ s.size →
+        ((k : ℕ) → k < s.count → shared_of s k ≡ 0) → AreMultiples s.size s.count s.log2 }
+{}
 
 /// After its key bytes code one head at most, or are refused in one way.
 pub fn bytes_code_one_head()

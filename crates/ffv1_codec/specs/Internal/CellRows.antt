@@ -7,7 +7,7 @@ use Rattle.ffv1_line.specs.Cell.{Cell, Above, Shows}
 use Rattle.ffv1_line.specs.declared.cell.rows.RollingRows.{RollingRows}
 use Rattle.ffv1_samples.specs.Samples.{sample_bytes, samples_of}
 use Rattle.ffv1_record.specs.Configuration.{Configuration}
-use Rattle.ffv1_slice.specs.Grid.{division_of, across, down, begin_of}
+use Rattle.ffv1_slice.specs.Grid.{division_of, across, down, first_of}
 use Rattle.ffv1_codec.specs.declared.encode.cell_rows.PlaneRows.{PlaneRows}
 use Rattle.ffv1_codec.specs.Picture.{Planes, sample_at, cell_in}
 use Rattle.ffv1_codec.specs.SliceList.{Line}
@@ -22,8 +22,8 @@ pub record IsLine (c : Configuration) (planes : Planes) (n p y : ℕ) (line : Li
     : Type 0 where
   pub wide : length line ≡ sample_bytes c.depth * (cell_in c planes n p).width
   pub each : (x : ℕ) → x < (cell_in c planes n p).width → slice_index (samples_of c.depth line) x ≡
-      sample_at c planes p (begin_of (across (division_of c) p) (n % c.columns) + x)
-      (begin_of (down (division_of c) p) (n / c.columns) + y)
+      sample_at c planes p (first_of (across (division_of c) p) (n % c.columns) + x)
+      (first_of (down (division_of c) p) (n / c.columns) + y)
 
 -- the rows two and one above row y of a cell, and room for that row, in words that show samples
 pub record Rolled {W A : Type 0} (samples : List W → List ℕ) (c : Cell) (y : ℕ)

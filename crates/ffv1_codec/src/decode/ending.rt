@@ -11,8 +11,7 @@ ghost use Rattle.ffv1_codec.specs.Internal.Tied.{IsFrame, bytes_in};
 
 use crate::decode::column::Column;
 use crate::decode::parts::{Frame, Segment};
-use crate::places;
-use ffv1_record::{Profile, laws as record_laws};
+use ffv1_record::Profile;
 use std::alloc::Allocator;
 
 /// Whether a segment is of the last line that its slice codes.
@@ -21,20 +20,14 @@ fn is_last_line<A: Allocator>(frame: &Frame<'_, A>, segment: &Segment) -> bool
     requires row { segment.now.row < frame.now.checked.now.configuration.rows }
     requires y { segment.now.y < lines_down frame.now.checked.now.configuration
         segment.now.plane segment.now.row }
+    requires height { segment.now.height ≡ lines_down frame.now.checked.now.configuration
+        segment.now.plane segment.now.row }
     ensures yes { IsTrue result → IsLastLine frame.now.checked.now.configuration segment.now.row
         segment.now.plane segment.now.y }
     ensures no { IsFalse result → IsLastLine frame.now.checked.now.configuration segment.now.row
         segment.now.plane segment.now.y → ⊥ }
 {
-    places::slices_lie_beside_one_another();
-    record_laws::accepted_configuration_is_in_range();
-    let plane = segment.plane as u32;
-    if plane + 1 != frame.grid.planes() {
-        return false;
-    }
-    let top = frame.grid.top(plane, segment.row);
-    let next = frame.grid.top(plane, segment.row + 1);
-    top + segment.y + 1 == next
+    segment.plane as u32 + 1 == frame.grid.planes() && segment.y + 1 == segment.height
 }
 
 /// Whether the bytes of a column's slice do not end where its decoder stands.
@@ -73,6 +66,8 @@ pub(crate) fn lacks_ending<A: Allocator>(
     requires frame { IsFrame frame.now }
     requires row { segment.now.row < frame.now.checked.now.configuration.rows }
     requires y { segment.now.y < lines_down frame.now.checked.now.configuration
+        segment.now.plane segment.now.row }
+    requires height { segment.now.height ≡ lines_down frame.now.checked.now.configuration
         segment.now.plane segment.now.row }
     requires rises { column.now.first ≤ column.now.last }
     requires inside { column.now.last ≤ length frame.now.payload.now }

@@ -59,6 +59,7 @@ fn colourless<A: Allocator>(frame: &Frame<'_, A>, line: &CodedLine, x: usize) ->
         plane: 0,
         index: 0,
         y: line.y,
+        height: line.height,
     };
     frame.fault_in(CodecFault::Colour, &segment, x)
 }

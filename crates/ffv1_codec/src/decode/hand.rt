@@ -42,7 +42,7 @@ fn hand_line<A: Allocator, S: LineSink>(
 {
     places::slices_lie_beside_one_another();
     record_laws::accepted_configuration_is_in_range();
-    let top = frame.grid.top(plane as u32, line.row);
+    let top = frame.grid.first_top(plane as u32, line.row);
     let y = (top + line.y) as u16;
     match sink.line(plane, y, samples) {
         Ok(()) => Ok(()),
@@ -53,6 +53,7 @@ fn hand_line<A: Allocator, S: LineSink>(
                 plane,
                 index: 0,
                 y: line.y,
+                height: line.height,
             };
             Err(frame.fault_in(CodecFault::Sink, &segment, 0))
         }

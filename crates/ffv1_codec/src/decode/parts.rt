@@ -60,7 +60,7 @@ impl<'a, A: Allocator> Frame<'a, A> {
         places::slices_lie_beside_one_another();
         record_laws::accepted_configuration_is_in_range();
         let columns = self.grid.columns() as usize;
-        let top = self.grid.top(segment.plane as u32, segment.row);
+        let top = self.grid.first_top(segment.plane as u32, segment.row);
         FrameFault {
             fault,
             slice: (segment.row as usize * columns + segment.column) as u16,
@@ -91,8 +91,12 @@ pub struct CodedLine {
     pub first: u8,
     /// How many planes.
     pub count: u8,
+    /// How many lines of the first plane the row of slices above codes, too.
+    pub shared: u32,
     /// The line, from the top of the row.
     pub y: u32,
+    /// How many lines of each of these planes the row has.
+    pub height: u32,
 }
 
 /// The segment of a line that lies in one slice.
@@ -108,4 +112,6 @@ pub struct Segment {
     pub index: u8,
     /// The line, from the top of the row.
     pub y: u32,
+    /// How many lines of the plane the row has.
+    pub height: u32,
 }

@@ -38,6 +38,9 @@ pub(crate) fn read_planes<W: LineWord, A: Allocator>(
     requires y { (i : ℕ) → i < line.now.count →
         line.now.y < lines_down frame.now.checked.now.configuration (line.now.first + i)
         line.now.row }
+    requires height { (i : ℕ) → i < line.now.count →
+        line.now.height ≡ lines_down frame.now.checked.now.configuration (line.now.first + i)
+        line.now.row }
     requires many { length columns.old ≡ frame.now.checked.now.configuration.columns }
     requires open { AreOpen frame.now.payload.now frame.now.checked.now.configuration.sets
         columns.old }
@@ -79,6 +82,7 @@ pub(crate) fn read_planes<W: LineWord, A: Allocator>(
                 plane: line.first + index,
                 index,
                 y: line.y,
+                height: line.height,
             };
             read_at(frame, &segment, columns, states, above, cur)?;
         }

@@ -5,6 +5,7 @@ ghost use Rattle.std.specs.Prelude.{OnOk, length};
 ghost use Rattle.std.specs.List.{range_with_len};
 ghost use Rattle.ffv1_range.specs.Symbols.{AllHeld};
 ghost use Rattle.ffv1_wire.specs.Runs.{Grows};
+ghost use Rattle.ffv1_slice.specs.Grid.{division_of, down, shared_of};
 ghost use Rattle.ffv1_codec.specs.Picture.{plane_count, width_bytes};
 ghost use Rattle.ffv1_codec.specs.SliceList.{bits_of};
 ghost use Rattle.ffv1_codec.specs.Order.{lines_down, line_events, series_events};
@@ -39,7 +40,8 @@ use ffv1_slice::Spans;
 use ffv1_wire::LineSink;
 use std::alloc::Allocator;
 
-/// Decodes a line: reads it, makes of it what is handed over, and hands it over.
+/// Decodes a line: reads it, makes of it what is handed over, and hands it over, if the row of
+/// slices above has not.
 fn decode_whole_line<W: FinishedWord, A: Allocator, S: LineSink>(
     frame: &Frame<'_, A>,
     line: &CodedLine,
@@ -58,8 +60,13 @@ fn decode_whole_line<W: FinishedWord, A: Allocator, S: LineSink>(
         ≤ plane_count frame.now.checked.now.configuration }
     requires some { 0 < line.now.count }
     requires few { line.now.first + line.now.count ≤ 4 }
+    requires shared { line.now.shared ≡ shared_of
+        (down (division_of frame.now.checked.now.configuration) line.now.first) line.now.row }
     requires y { (i : ℕ) → i < line.now.count →
         line.now.y < lines_down frame.now.checked.now.configuration (line.now.first + i)
+        line.now.row }
+    requires height { (i : ℕ) → i < line.now.count →
+        line.now.height ≡ lines_down frame.now.checked.now.configuration (line.now.first + i)
         line.now.row }
     requires many { length slices.old.columns.items ≡ frame.now.checked.now.configuration.columns }
     requires open { AreOpen frame.now.payload.now frame.now.checked.now.configuration.sets
@@ -108,6 +115,9 @@ fn decode_whole_line<W: FinishedWord, A: Allocator, S: LineSink>(
         cur,
     )?;
     W::finish(frame, line, cur, out)?;
+    if line.y < line.shared {
+        return Ok(());
+    }
     hand_lines(frame, line, out, sink)
 }
 
@@ -166,14 +176,16 @@ fn decode_series<W: FinishedWord, A: Allocator, S: LineSink>(
     let (mut two, rest) = lines.split_at_mut(size);
     let (mut one, mut cur) = rest.split_at_mut(size);
     let CodedPlanes { row, first, count } = *planes;
-    let top = frame.grid.top(first as u32, row);
-    let bottom = frame.grid.top(first as u32, row + 1);
-    for y in 0..bottom - top {
+    let cell = frame.grid.cell_down(first as u32, row);
+    let shared = frame.grid.top(first as u32, row) - cell.0;
+    for y in 0..cell.1 {
         let line = CodedLine {
             row,
             first,
             count,
+            shared,
             y,
+            height: cell.1,
         };
         let above = Above { two, one };
         decode_whole_line(frame, &line, slices, &above, cur, out, sink)?;

@@ -163,9 +163,9 @@ fn extent<A: Allocator>(frame: &Frame<'_, A>, segment: &Segment) -> (usize, usiz
     let plane = segment.plane as u32;
     let k = segment.column as u32;
     let offset = segment.index as usize * frame.checked.config().width as usize;
-    let left = offset + frame.grid.left(plane, k) as usize;
-    let right = offset + frame.grid.left(plane, k + 1) as usize;
-    (left, right)
+    let cell = frame.grid.cell_across(plane, k);
+    let left = offset + cell.0 as usize;
+    (left, left + cell.1 as usize)
 }
 
 /// The fault of a segment of which a symbol is refused.
@@ -183,8 +183,10 @@ fn refusal<A: Allocator>(frame: &Frame<'_, A>, segment: &Segment, x: usize) -> F
 {
     places::slices_lie_beside_one_another();
     record_laws::accepted_configuration_is_in_range();
-    let left = frame.grid.left(segment.plane as u32, segment.column as u32);
-    frame.fault_in(CodecFault::SymbolTooLong, segment, left as usize + x)
+    let cell = frame
+        .grid
+        .cell_across(segment.plane as u32, segment.column as u32);
+    frame.fault_in(CodecFault::SymbolTooLong, segment, cell.0 as usize + x)
 }
 
 /// Reads a segment into its place of a line. How far its slice was read, and whether it ends, is
@@ -281,6 +283,8 @@ pub(crate) fn read_at<W: LineWord, A: Allocator>(
     requires plane { segment.now.plane < plane_count frame.now.checked.now.configuration }
     requires few { segment.now.index < 4 }
     requires y { segment.now.y < lines_down frame.now.checked.now.configuration
+        segment.now.plane segment.now.row }
+    requires height { segment.now.height ≡ lines_down frame.now.checked.now.configuration
         segment.now.plane segment.now.row }
     requires many { length columns.old ≡ frame.now.checked.now.configuration.columns }
     requires open { AreOpen frame.now.payload.now frame.now.checked.now.configuration.sets

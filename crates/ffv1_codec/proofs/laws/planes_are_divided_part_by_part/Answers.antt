@@ -1,6 +1,7 @@
 -- The planes of a checked configuration are divided part by part, in RCT all alike, and their
 -- samples have 8 to 16 bits.
-use Rattle.ffv1_slice.specs.Grid.{Side, IsDivided, across, down, division_of}
+use Rattle.std.proofs.Common.{◌≡◌, ℕ, ◌<◌}
+use Rattle.ffv1_slice.specs.Grid.{Side, IsDivided, across, down, division_of, shared_of}
 use Rattle.ffv1_codec.specs.Sides.{Tiles}
 use Rattle.ffv1_codec.proofs.EventsOf.{is_rct_is}
 use Rattle.ffv1_codec.proofs.laws.planes_are_divided_part_by_part.Goals as goal
@@ -8,17 +9,23 @@ use Rattle.ffv1_codec.proofs.laws.planes_are_divided_part_by_part.Goals as goal
 pub returns : goal.returns
 returns c = λ conf t is.
     let division = c.accepted_pictures_are_divided.ensures conf t is in
-    let tiles : (s : Side) → IsDivided s → Tiles s = λ s divided. record {
+    let tiles : (s : Side) → IsDivided s → ((k : ℕ) → k < s.count → shared_of s k ≡ 0) → Tiles s =
+    λ s divided none. record {
       first = c.parts_follow_one_another.ensures.first s divided;
       next = λ k. c.parts_follow_one_another.ensures.next s k divided;
       last = c.parts_follow_one_another.ensures.last s divided;
       some = λ k. c.parts_follow_one_another.ensures.some s k divided;
+      begins = λ k inside. (c.parts_follow_one_another.ensures.few s k divided inside).0;
+      ends = λ k. c.parts_follow_one_another.ensures.coded s k divided;
+      none = none;
     } in
     record {
       columns_tile = λ p. tiles (across (division_of conf) p)
-          (c.cells_tile_their_plane.ensures.across (division_of conf) p division);
+          (c.cells_tile_their_plane.ensures.across (division_of conf) p division)
+          (λ k inside. c.accepted_slices_share_nothing.ensures.across conf t p k is inside);
       rows_tile = λ p. tiles (down (division_of conf) p)
-          (c.cells_tile_their_plane.ensures.down (division_of conf) p division);
+          (c.cells_tile_their_plane.ensures.down (division_of conf) p division)
+          (λ k inside. c.accepted_slices_share_nothing.ensures.down conf t p k is inside);
       part = λ p x inside.
           let one = c.parts_follow_one_another.ensures.one (across (division_of conf) p) x
           (c.cells_tile_their_plane.ensures.across (division_of conf) p division) inside in

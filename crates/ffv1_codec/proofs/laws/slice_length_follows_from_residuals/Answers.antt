@@ -45,8 +45,7 @@ returns-clause-few c = λ a planes info n is inside.
       across = c.cells_tile_their_plane.ensures.across;
       down =
           c.cells_tile_their_plane.ensures.down;
-      some = c.parts_follow_one_another.ensures.some;
-      inside = c.parts_follow_one_another.ensures.inside;
+      ends = c.parts_follow_one_another.ensures.coded;
     } in
     residuals_few (rows c) sides conf planes (chosen_head conf info) n
     (c.accepted_pictures_are_divided.ensures conf a.table is) inside

@@ -25,6 +25,9 @@ returns-clause-across c = λ conf t p is.
       first = c.parts_follow_one_another.ensures.first s side;
       next = λ k h. c.parts_follow_one_another.ensures.next s k side h;
       some = λ k h. c.parts_follow_one_another.ensures.some s k side h;
+      begins = λ k h. (c.parts_follow_one_another.ensures.few s k side h).0;
+      ends = λ k h. c.parts_follow_one_another.ensures.coded s k side h;
+      none = λ k h. c.accepted_slices_share_nothing.ensures.across conf t p k is h;
       last = c.parts_follow_one_another.ensures.last s side;
       fits = reduced_fits (factor_of conf.log2_h p) conf.width
           (factor_small conf.log2_h p d.log2_h);
@@ -39,6 +42,9 @@ returns-clause-down c = λ conf t p is.
       first = c.parts_follow_one_another.ensures.first s side;
       next = λ k h. c.parts_follow_one_another.ensures.next s k side h;
       some = λ k h. c.parts_follow_one_another.ensures.some s k side h;
+      begins = λ k h. (c.parts_follow_one_another.ensures.few s k side h).0;
+      ends = λ k h. c.parts_follow_one_another.ensures.coded s k side h;
+      none = λ k h. c.accepted_slices_share_nothing.ensures.down conf t p k is h;
       last = c.parts_follow_one_another.ensures.last s side;
       fits = reduced_fits (factor_of conf.log2_v p) conf.height
           (factor_small conf.log2_v p d.log2_v);

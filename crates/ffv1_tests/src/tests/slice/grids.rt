@@ -29,6 +29,10 @@ fn two_columns(rt: HostRuntime) -> Result<(), Fail> {
         height: 1,
     };
     assert!(rt; grid.cell(2, 1) == second);
+    let across = grid.cell_across(2, 1);
+    let down = grid.cell_down(2, 0);
+    assert!(rt; across.0 == 1 && across.1 == 2 && down.0 == 0 && down.1 == 1);
+    assert!(rt; grid.first_top(2, 0) == 0 && grid.left(2, 1) == 1);
     Ok(())
 }
 

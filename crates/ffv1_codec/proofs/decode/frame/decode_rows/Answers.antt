@@ -1,11 +1,11 @@
 -- Decodes what was cut, row after row.
-use Rattle.std.proofs.Common.{rules, ◌≡◌, ℕ, ◌<◌, ◌∙◌, ◌++◌, ap, sym, subst, Some, List, length}
+use Rattle.std.proofs.Common.{rules, ◌≡◌, ℕ, ◌<◌, ◌∙◌, ◌++◌, ap, sym, subst, None, Some, List, length}
 use Rattle.std.proofs.Common.{take, drop, arith}
 use Rattle.std.proofs.lemmas.List.{with_items_is}
 use Rattle.std.proofs.lemmas.Result.{err_from_is_err_and}
 use Rattle.std.proofs.lemmas.Grind.{common_steps}
 use Rattle.ffv1_codec.specs.Internal.Opened.{coded_by}
-use Rattle.ffv1_codec.specs.Internal.Tied.{AreTold}
+use Rattle.ffv1_codec.specs.Internal.Tied.{AreTold, column_at}
 use Rattle.ffv1_codec.proofs.RowsDecodes.{between, rows_more, rows_fail, rows_end}
 use Rattle.ffv1_codec.proofs.decode.frame.decode_rows.Given.{Over}
 use Rattle.ffv1_codec.proofs.decode.frame.decode_rows.Goals.{After-rows-row-end, After-close}
@@ -136,4 +136,7 @@ pub decode_row-decoded-requires-clause-many : goal.decode_row-decoded-requires-c
 decode_row-decoded-requires-clause-many g c = grind (arith, common_steps)
 
 pub decode_row-decoded-requires-clause-closed : goal.decode_row-decoded-requires-clause-closed
-decode_row-decoded-requires-clause-closed g c = grind (arith, common_steps)
+decode_row-decoded-requires-clause-closed g c =
+    let here = goal.at.decode_row-decoded-requires-clause-closed g c in
+    subst (λ z. (k : ℕ) → k < length z → (column_at z k).parked ≡ None)
+    (sym (closed g here.After-close)) c.close.ensures

@@ -12,32 +12,30 @@ use Rattle.ffv1_codec.proofs.LineFinished.{rct_is}
 use Rattle.ffv1_codec.proofs.SeriesDecodes.{lines_alike, planes_any, none_decoded, one_decoded}
 use Rattle.ffv1_codec.proofs.SeriesDecodes.{one_fails, all_decoded}
 use Rattle.ffv1_codec.proofs.decode.row.decode_series.Given.{Over}
-use Rattle.ffv1_codec.proofs.decode.row.decode_series.Goals.{After-top-bottom}
+use Rattle.ffv1_codec.proofs.decode.row.decode_series.Goals.{After-cell_down-cell}
 use Rattle.ffv1_codec.proofs.decode.row.decode_series.Goals as goal
 
--- the row has the lines from its top to that of the next row
-bottom_is : (g : Over) (c : After-top-bottom g) → c.top-bottom.result ≡ c.top-top.result +
+-- the row has the lines of its cells
+height_is : (g : Over) (c : After-cell_down-cell g) → c.cell_down-cell.result.1 ≡
     lines_down c.args.frame.now.checked.now.configuration c.args.planes.now.first
     c.args.planes.now.row
-bottom_is g c =
-    let conf = c.args.frame.now.checked.now.configuration in
-    let p = c.args.planes.now.first in
-    let row = c.args.planes.now.row in
-    let are = c.slices_lie_beside_one_another.ensures.down conf c.args.frame.now.checked.now.table p
-    c.requires.frame.accepted in
-    let top : c.top-top.result ≡ top_of conf p row = rw c.requires.frame.grid at
-    c.top-top.ensures in
-    let bottom : c.top-bottom.result ≡ top_of conf p (row + 1) = rw c.requires.frame.grid at
-    c.top-bottom.ensures in
-    let same : row + 1 ≡ suc row = omega arith in
-    let bottom = bottom ∙ ap (top_of conf p) same in
-    let next = are.next row c.requires.row in
-    omega (arith, top, bottom, next)
+height_is g c = rw c.requires.frame.grid at c.cell_down-cell.ensures.coded
 
-pub overflow_sub-y-end : goal.overflow_sub-y-end
-overflow_sub-y-end g c =
-    let bottom_is = bottom_is g (goal.at.overflow_sub-y-end g c).After-top-bottom in
-    omega (arith, bottom_is)
+-- the cells begin at or before what is their own
+pub overflow_sub-shared : goal.overflow_sub-shared
+overflow_sub-shared g c =
+    let conf = c.args.frame.now.checked.now.configuration in
+    let are = c.slices_lie_beside_one_another.ensures.down conf c.args.frame.now.checked.now.table
+    c.args.planes.now.first c.requires.frame.accepted in
+    let first = rw c.requires.frame.grid at c.cell_down-cell.ensures.first in
+    let top = rw c.requires.frame.grid at c.top.ensures in
+    omega (arith, first, top, are.begins c.args.planes.now.row c.requires.row)
+
+pub decode_whole_line-requires-clause-shared : goal.decode_whole_line-requires-clause-shared
+decode_whole_line-requires-clause-shared g c =
+    let first = rw c.requires.frame.grid at c.cell_down-cell.ensures.first in
+    let top = rw c.requires.frame.grid at c.top.ensures in
+    omega (arith, first, top)
 
 pub loop-y-init : goal.loop-y-init
 loop-y-init g c =
@@ -99,14 +97,27 @@ decode_whole_line-requires-clause-y g c =
     let a = c.args.frame.now.checked.now in
     let conf = a.configuration in
     let p = c.args.planes.now.first in
-    let bottom_is = bottom_is g (goal.at.decode_whole_line-requires-clause-y g
-    c).After-top-bottom in
-    let inside : c.loop-y.y < lines_down conf p c.args.planes.now.row = omega (arith, bottom_is) in
+    let height_is = height_is g (goal.at.decode_whole_line-requires-clause-y g
+    c).After-cell_down-cell in
+    let inside : c.loop-y.y < lines_down conf p c.args.planes.now.row = omega (arith, height_is) in
     λ i h.
     let same = lines_alike conf p c.args.planes.now.count i c.args.planes.now.row
     c.requires.together (λ e. (c.accepted_configuration_has_sound_parts.ensures.rct conf a.table
     c.requires.frame.accepted (rct_is conf.colour e)).2) h in
     omega (arith, same, inside)
+
+pub decode_whole_line-requires-clause-height : goal.decode_whole_line-requires-clause-height
+decode_whole_line-requires-clause-height g c =
+    let a = c.args.frame.now.checked.now in
+    let conf = a.configuration in
+    let p = c.args.planes.now.first in
+    let height_is = height_is g (goal.at.decode_whole_line-requires-clause-height g
+    c).After-cell_down-cell in
+    λ i h.
+    let same = lines_alike conf p c.args.planes.now.count i c.args.planes.now.row
+    c.requires.together (λ e. (c.accepted_configuration_has_sound_parts.ensures.rct conf a.table
+    c.requires.frame.accepted (rct_is conf.colour e)).2) h in
+    omega (arith, same, height_is)
 
 pub returns-in_err-decode_whole_line-clause-exact :
     goal.returns-in_err-decode_whole_line-clause-exact
@@ -120,14 +131,14 @@ returns-in_err-decode_whole_line-clause-exact g c = λ coded initial s tied grow
     let cur = g.W.Word.samples c.loop-y.cur.now in
     let takes = g.S.LineSink.takes in
     let refuses = g.S.LineSink.refuses in
-    let bottom_is = bottom_is g (goal.at.returns-in_err-decode_whole_line-clause-exact g
-    c).After-top-bottom in
+    let height_is = height_is g (goal.at.returns-in_err-decode_whole_line-clause-exact g
+    c).After-cell_down-cell in
     let before = c.loop-y.invariant.lines coded initial s tied grows in
     let planes = planes_any conf p c.args.planes.now.count c.loop-y.y two one one cur before.state
     before.planes_are in
     let made = c.in_err-decode_whole_line.ensures.exact coded (p + c.args.planes.now.count) initial
     before.state (omega arith) before.columns_are planes before.grows in
-    let inside : c.loop-y.y < lines_down conf p c.args.planes.now.row = omega (arith, bottom_is) in
+    let inside : c.loop-y.y < lines_down conf p c.args.planes.now.row = omega (arith, height_is) in
     let stop = err_from_is_err_and c.from_residual.result c.from_residual.ensures.1 in
     rw (stop.1, stop.2) (one_fails takes refuses a coded initial c.args.planes.now.row payload p
     c.args.planes.now.count s c.loop-y.y c.loop-y.slices.columns.items
@@ -184,9 +195,9 @@ returns-clause-exact g c = λ coded initial s tied grows.
     let one = g.W.Word.samples c.loop-y.one.now in
     let takes = g.S.LineSink.takes in
     let refuses = g.S.LineSink.refuses in
-    let bottom_is = bottom_is g (goal.at.returns-clause-exact g c).After-top-bottom in
+    let height_is = height_is g (goal.at.returns-clause-exact g c).After-cell_down-cell in
     let before = c.loop-y.invariant.lines coded initial s tied grows in
-    let all : c.loop-y.y ≡ lines_down conf p c.args.planes.now.row = omega (arith, bottom_is) in
+    let all : c.loop-y.y ≡ lines_down conf p c.args.planes.now.row = omega (arith, height_is) in
     all_decoded takes refuses a coded initial c.args.planes.now.row payload p
     c.args.planes.now.count s c.loop-y.y c.loop-y.slices.columns.items
     c.loop-y.slices.states.items two one c.loop-y.sink before all

@@ -14,7 +14,8 @@ use Rattle.ffv1_codec.specs.Internal.Progress.{FailsIn, LineDecoded}
 use Rattle.ffv1_codec.proofs.SegmentTied.{tied_told}
 use Rattle.ffv1_codec.proofs.LineEnds.{stand_read}
 use Rattle.ffv1_codec.proofs.LineDecodes.{read_fails, finish_fails, hand_fails, finished}
-use Rattle.ffv1_codec.proofs.LineDecodes.{finished_told, grows_finished, line_decoded}
+use Rattle.ffv1_codec.proofs.LineDecodes.{finished_told, grows_finished, line_decoded, line_kept}
+use Rattle.ffv1_codec.proofs.NewPlanes.{line_new, line_old}
 use Rattle.ffv1_codec.proofs.decode.row.decode_whole_line.Given.{Over}
 use Rattle.ffv1_codec.proofs.decode.row.decode_whole_line.Goals.{After-read_planes, After-finish}
 use Rattle.ffv1_codec.proofs.decode.row.decode_whole_line.Goals as goal
@@ -119,6 +120,42 @@ returns-in_err-finish-clause-exact g c = λ coded next initial s less tied plane
     grows read told c.in_err-finish.field-0.0
     (c.in_err-finish.ensures.exact coded read.state stand))))
 
+pub returns-then-line-clause-exact : goal.returns-then-line-clause-exact
+returns-then-line-clause-exact g c = λ coded next initial s less tied planes grows.
+    let a = c.args.frame.now.checked.now in
+    let line = c.args.line.now in
+    let payload = c.args.frame.now.payload.now in
+    let two = g.W.Word.samples c.args.above.now.two.now in
+    let one = g.W.Word.samples c.args.above.now.one.now in
+    let cur = g.W.Word.samples c.read_planes.new.cur in
+    let takes = g.S.LineSink.takes in
+    let refuses = g.S.LineSink.refuses in
+    let here = goal.at.returns-then-line-clause-exact g c in
+    let states_back : take c.args.slices.now.states.len
+    (c.read_planes.new.states ++ drop (length c.read_planes.new.states)
+    c.args.slices.now.states.items) ≡ c.read_planes.new.states =
+    with_items_is c.args.slices.now.states c.read_planes.new.states
+    (c.read_planes.auto.states ∙ c.deref_mut-2.ensures.len) in
+    let read = c.in_ok-read_planes.ensures.exact coded next s less
+    (lent g here.After-read_planes coded next s tied) planes in
+    let told = told g here.After-finish coded next s read in
+    let stand = stand g here.After-finish coded next s read in
+    let made = c.in_ok-finish.ensures.exact coded read.state stand in
+    let none = line_old a.configuration line.row line.first line.count line.y c.requires.some
+    (omega (arith, c.requires.shared, c.if-line.true)) in
+    subst (λ z. LineDecoded takes refuses a coded initial line.row next payload line.first
+    line.count line.y (take c.args.slices.now.columns.len
+    (c.read_planes.new.columns ++ drop (length c.read_planes.new.columns)
+    c.args.slices.now.columns.items)) z one cur c.args.sink.now s) (sym states_back)
+    (subst (λ z. LineDecoded takes refuses a coded initial line.row next payload line.first
+    line.count line.y z c.read_planes.new.states one cur c.args.sink.now s)
+    (sym (columns_back g here.After-read_planes))
+    (line_kept takes refuses a coded initial line.row next payload
+    line.first line.count line.y s c.read_planes.new.columns c.read_planes.new.states two one
+    cur c.args.sink.now grows read told c.finish.new.out made none
+    (λ p. c.slices_lie_beside_one_another.ensures.across a.configuration a.table p
+    c.requires.frame.accepted)))
+
 pub returns-clause-exact : goal.returns-clause-exact
 returns-clause-exact g c = λ coded next initial s less tied planes grows.
     let a = c.args.frame.now.checked.now in
@@ -140,6 +177,8 @@ returns-clause-exact g c = λ coded next initial s less tied planes grows.
     let told = told g here.After-finish coded next s read in
     let stand = stand g here.After-finish coded next s read in
     let made = c.in_ok-finish.ensures.exact coded read.state stand in
+    let new = line_new a.configuration line.row line.first line.count line.y c.requires.some
+    (omega (arith, c.requires.shared, c.if-line.false)) in
     let handed = c.hand_lines.ensures.exact coded initial c.read_planes.new.columns
     (finished takes refuses a coded initial line.row next payload line.first line.count line.y s
     c.read_planes.new.columns c.read_planes.new.states two one cur c.args.sink.now grows read
@@ -159,7 +198,7 @@ returns-clause-exact g c = λ coded next initial s less tied planes grows.
     (sym (columns_back g here.After-read_planes))
     (line_decoded takes refuses a coded initial line.row next payload
     line.first line.count line.y s c.read_planes.new.columns c.read_planes.new.states two one
-    cur c.args.sink.now grows read told c.finish.new.out made
+    cur c.args.sink.now grows read told c.finish.new.out made new
     (λ p. c.slices_lie_beside_one_another.ensures.across a.configuration a.table p
     c.requires.frame.accepted) c.hand_lines.new.sink done)))
     (λ f stopped. subst (λ z. FailsIn takes refuses a coded initial line.row z
@@ -167,7 +206,7 @@ returns-clause-exact g c = λ coded next initial s less tied planes grows.
     c.hand_lines.new.sink s) (sym (columns_back g here.After-read_planes))
     (inr (hand_fails takes refuses a coded initial line.row next payload line.first line.count
     line.y s c.read_planes.new.columns c.read_planes.new.states two one cur c.args.sink.now
-    grows read told c.finish.new.out made f c.hand_lines.new.sink stopped)))
+    grows read told c.finish.new.out made new f c.hand_lines.new.sink stopped)))
 
 pub read_planes-requires-clause-open : goal.read_planes-requires-clause-open
 read_planes-requires-clause-open g c = grind (arith, common_steps)

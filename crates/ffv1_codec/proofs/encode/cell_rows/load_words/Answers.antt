@@ -6,7 +6,7 @@ use Rattle.ffv1_samples.specs.Samples.{sample_bytes, samples_of}
 use Rattle.ffv1_samples.proofs.Depths.{length_samples}
 use Rattle.ffv1_rct.specs.Lines.{AreCodedIn}
 use Rattle.ffv1_record.specs.Configuration.{Configuration}
-use Rattle.ffv1_slice.specs.Grid.{length_of}
+use Rattle.ffv1_slice.specs.Grid.{coded_of}
 use Rattle.ffv1_codec.specs.Picture.{Planes, cell_in, cell_height, green_of, blue_of}
 use Rattle.ffv1_codec.specs.Internal.CellRows.{IsLine}
 use Rattle.ffv1_codec.proofs.RowsShown.{Transformed, is_colour, same_width, luma_shows, blue_shows}
@@ -36,9 +36,9 @@ filled c planes n p y line row flat is same = ap length same ∙ length_samples 
 -- a cell of another plane is as high as the first plane's
 same_height : (c : Configuration) (n p : ℕ) → c.log2_v ≡ 0 → cell_height c n p ≡ cell_height c n 0
 same_height c n zero flat = refl
-same_height c n (suc zero) flat = ap (λ k. length_of
+same_height c n (suc zero) flat = ap (λ k. coded_of
     (record { size = c.height; count = c.rows; log2 = k }) (n / c.columns)) flat
-same_height c n (suc (suc zero)) flat = ap (λ k. length_of
+same_height c n (suc (suc zero)) flat = ap (λ k. coded_of
     (record { size = c.height; count = c.rows; log2 = k }) (n / c.columns)) flat
 same_height c n (suc (suc (suc p))) flat = refl
 

@@ -45,8 +45,7 @@ reached : (g : given.Over) (c : goal.After-planes_are_divided_part_by_part g) (a
     (events_of a.configuration) t → decisions_in t ≤ most_decisions a.configuration
 reached g c a coded t is h =
     let sides = c.planes_are_divided_part_by_part.ensures a.configuration a.table is in
-    few_by_samples a coded (steps g c a is) sides.columns_tile sides.rows_tile
-    (lines_alike a.configuration sides) t h
+    few_by_samples a coded (steps g c a is) (lines_alike a.configuration sides) t h
 
 ended : (g : given.Over) (c : goal.After-planes_are_divided_part_by_part g) (a : Accepted)
     (coded : ℕ → List ℕ) (t : State) → IsAccepted a.configuration a.table → Decodes a coded t →

@@ -38,8 +38,7 @@ module _ (g : Over) (c : After-width g) where
       let laws : Sides = record {
         across = c.cells_tile_their_plane.ensures.across;
         down = c.cells_tile_their_plane.ensures.down;
-        some = c.parts_follow_one_another.ensures.some;
-        inside = c.parts_follow_one_another.ensures.inside;
+        ends = c.parts_follow_one_another.ensures.coded;
       } in
       let slice = c.args.self.now in
       lay_inside slice.checked.now.configuration slice.picture.now c.of-grid.result slice.number
