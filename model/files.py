@@ -9,6 +9,7 @@ import itertools
 import re
 import struct
 
+import movi
 from ffv1 import Fault
 
 LIMIT = 64 << 20            # own: the most bytes of a frame, and of a format, that are read
@@ -386,14 +387,16 @@ def get_total(source, left, total):
 
 
 class Opening:
-    """What the chunks before movi say so far: how many streams came, the head that counts with the
-    number of its stream, and how many frames the whole file has."""
+    """What the chunks before movi say so far: how many streams were read, the head that counts with
+    the number of its stream, how many frames the whole file has, and how many streams there are."""
 
     def __init__(self, wide):
         self.wide, self.streams, self.head, self.number, self.total = wide, 0, None, 0, None
+        self.all = 0
 
     def stream(self, source, size):
         """A list of a stream. The first counts; wide, the first of FFV1 video, up to number 99."""
+        self.all += 1
         if self.head is not None or self.streams > 99:
             source.skip(padded(size) - 4, 52)
             return
@@ -402,6 +405,12 @@ class Opening:
         source.skip(size % 2, 52)
         if self.head is None and not self.wide:
             raise Fault(51)
+
+    def is_frame(self, name):
+        return movi.is_frame(name, self.number, self.wide)
+
+    def stands(self, name):
+        return movi.stands(name, self.number, self.all, self.wide)
 
     def header(self, source, left):
         """The chunks of a list hdrl."""
@@ -438,12 +447,12 @@ def open_avi(source, wide):
     raise Fault(50)
 
 
-def movi_frames(source, left, wanted):
-    """The frames of a movi, in turn: the chunks of this name."""
+def movi_frames(source, left, opening):
+    """The frames of a movi, in turn."""
     for name, size in marked(source, left):
-        if name == b"LIST":
+        if not opening.stands(name):
             raise Fault(50)
-        if name != wanted:
+        if not opening.is_frame(name):
             source.skip(padded(size), 52)
             continue
         if size > LIMIT:
@@ -453,14 +462,16 @@ def movi_frames(source, left, wanted):
         yield get_chunk(source, size)
 
 
-def movi_sizes(source, parts, is_owed):
+def movi_sizes(source, parts, opening, is_owed):
     """How many bytes each further movi has: of the RIFF of which these chunks are left, and of those
-    after it, up to the end of the file, where no frame may be owed."""
+    after it, up to the end of the file, where no frame may be owed. Own: no frame stands in RIFF."""
     while True:
         for name, size in parts:
             own = source.exactly(4, 52) if name == b"LIST" else b""
             if own == b"movi":
                 yield size - 4
+            elif opening.is_frame(name):
+                raise Fault(50)
             else:
                 source.skip(padded(size) - len(own), 52)
         source.mark()
@@ -480,9 +491,10 @@ def movi_sizes(source, parts, is_owed):
 
 def avi_frames(source, opening, left, parts):
     """The frames of a file of which the first movi has so many bytes, in turn."""
-    count, wanted = 0, b"%02ddc" % opening.number
-    more = movi_sizes(source, parts, lambda: count < (opening.total or 0)) if opening.wide else []
+    count = 0
+    owed = lambda: count < (opening.total or 0)
+    more = movi_sizes(source, parts, opening, owed) if opening.wide else []
     for size in itertools.chain([left], more):
-        for frame in movi_frames(source, size, wanted):
+        for frame in movi_frames(source, size, opening):
             yield frame
             count += 1

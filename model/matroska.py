@@ -140,7 +140,7 @@ class Segment:
     def step(self, header, number):
         """The element with this header; of the track with this number it may be a frame."""
         ident, size = header
-        if self.loose and ident in (SIMPLE_BLOCK, BLOCK_GROUP):
+        if self.loose and (ident in (SIMPLE_BLOCK, BLOCK_GROUP) or ident in OF_CLUSTER):
             return self.in_cluster(*known(header), number)
         if ident == CLUSTER:
             self.enter(size)
@@ -149,7 +149,8 @@ class Segment:
         return None
 
     def in_cluster(self, ident, size, number):
-        """An element of a Cluster."""
+        """An element of a Cluster. Own: one that no Cluster has is refused, and a number of more
+        than 8 bytes."""
         begins, self.begins = self.begins, False
         if ident == SIMPLE_BLOCK:
             return block(self.source, size, number)
@@ -157,6 +158,10 @@ class Segment:
             self.group = size
         elif begins and ident == CRC_32 and size == 4:
             self.source.await_sum()
+        elif ident not in OF_CLUSTER and ident not in (VOID, CRC_32):
+            raise Fault(81)
+        elif ident in (TIMESTAMP, POSITION, PREV_SIZE) and size > 8:
+            raise Fault(81)
         else:
             self.source.skip(size, 52)
         return None

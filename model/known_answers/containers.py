@@ -58,7 +58,7 @@ READ = [
     ("a plain file", riff(header(), MOVI)),
     ("an index after movi", riff(header(), MOVI, INDEX)),
     ("other chunks", riff(JUNK, chunk_list(b"INFO", JUNK), header(), JUNK, MOVI)),
-    ("chunks in movi", riff(header(), chunk_list(b"movi", JUNK, GOOD, INDEX))),
+    ("chunks in movi", riff(header(), chunk_list(b"movi", JUNK, GOOD, chunk(b"ix00", b"a")))),
     ("a second list hdrl", riff(header(), chunk_list(b"hdrl", JUNK), MOVI)),
     ("a second stream", riff(chunk_list(b"hdrl", JUNK, header()[12:], SOUND), MOVI)),
     ("a second header and format", riff(TWICE, MOVI)),

@@ -31,7 +31,7 @@ FIRST, MORE = riff(header(), MOVI, INDEX), further(MOVI)
 SECOND_DMLH = chunk_list(b"odml", chunk(b"dmlh", numbers(9)))
 SHORT_DMLH = chunk_list(b"odml", JUNK, chunk(b"dmlh", b"abc"), chunk(b"dmlh", numbers(1)))
 FIRST_COUNTS = chunk_list(b"hdrl", header()[12:], SHORT_DMLH, SECOND_DMLH)
-FRAME_OF_1, OTHERS = chunk(b"01dc", FRAME), [chunk(b"01wb", b"a"), chunk(b"00wb", b"b")]
+FRAME_OF_1, BITMAP = chunk(b"01dc", FRAME), chunk(b"00db", FRAME)
 
 
 # ---------------------------------------------------------------------------------------- all RIFFs
@@ -101,11 +101,13 @@ RECORD = ffv1.write_record(one())
 BROKEN = chunk_list(b"strl", chunk(b"strh", STRH), chunk(b"strf", b"x"))
 
 
-def named(stream):
-    """A movi of which this stream has the frame, and others their chunks."""
-    frame = chunk(b"%02ddc" % stream, FRAME)
-    other = chunk(b"%02ddc" % ((stream + 1) % 100), b"\0\0")
-    return chunk_list(b"movi", *OTHERS, other, frame, *OTHERS)
+def named(stream, count):
+    """A movi of which this stream has the frame, and others of so many their chunks; with what else
+    may stand there."""
+    frame, palette = chunk(b"%02ddc" % stream, FRAME), chunk(b"%02dpc" % stream, b"ab")
+    others = [chunk(b"%02d" % other + kind, b"a") for other in {0, stream + 1, count - 1}
+              for kind in (b"wb", b"dc") if other != stream and other < count]
+    return chunk_list(b"movi", *others, palette, JUNK, chunk(b"ix00", b"a"), frame, *others)
 
 
 def ending(size, more):
@@ -114,15 +116,34 @@ def ending(size, more):
 
 
 OF_STREAMS = [
-    ("sound first", riff(streams(SOUND), named(1)), whole(1), ""),
+    ("sound first", riff(streams(SOUND), named(1, 2)), whole(1), ""),
     ("sound first, and frames of 00dc", riff(streams(SOUND), MOVI), "", "70 NoFrames"),
-    ("another video first", riff(streams(BROKEN), named(1)), whole(1), ""),
-    ("stream 12", riff(streams(*[SOUND] * 12), named(12)), whole(1), ""),
-    ("stream 99", riff(streams(*[SOUND] * 99), named(99)), whole(1), ""),
+    ("another video first", riff(streams(BROKEN), named(1, 2)), whole(1), ""),
+    ("stream 12", riff(streams(*[SOUND] * 12), named(12, 13)), whole(1), ""),
+    ("stream 99", riff(streams(*[SOUND] * 99), named(99, 100)), whole(1), ""),
     ("stream 100", riff(streams(*[SOUND] * 100), MOVI), "", "51 NoFfv1"),
-    ("the second of two", riff(streams(header()[12:]), named(0)), whole(1), ""),
-    ("frames of another stream", riff(header(), chunk_list(b"movi", FRAME_OF_1, GOOD)), whole(1),
-     ""),
+    ("the second of two", riff(streams(header()[12:]), named(0, 2)), whole(1), ""),
+    ("sound behind, with a second stream", riff(streams(), chunk_list(b"hdrl", SOUND), named(0, 2)),
+     whole(1), ""),
+]
+CLOSED = [
+    ("both names of frames", riff(header(), chunk_list(b"movi", GOOD, BITMAP)), whole(2), ""),
+    ("an empty 00db", riff(header(), chunk_list(b"movi", GOOD, chunk(b"00db", b""))), lines(1),
+     "54 EmptyFrame"),
+    ("frames of a stream that is not there", riff(header(), chunk_list(b"movi", GOOD, FRAME_OF_1)),
+     lines(1), "50 NotAvi"),
+    ("sound of the stream", riff(header(), chunk_list(b"movi", GOOD, chunk(b"00wb", b"a"))),
+     lines(1), "50 NotAvi"),
+    ("other letters", riff(header(), chunk_list(b"movi", GOOD, chunk(b"00dd", FRAME))), lines(1),
+     "50 NotAvi"),
+    ("an index without a number", riff(header(), chunk_list(b"movi", GOOD, chunk(b"ixab", b"a"))),
+     lines(1), "50 NotAvi"),
+    ("an index of chunks in movi", riff(header(), chunk_list(b"movi", GOOD, INDEX)), lines(1),
+     "50 NotAvi"),
+    ("a frame after movi", riff(header(), MOVI, GOOD), lines(1), "50 NotAvi"),
+    ("a bitmap after movi", riff(header(), MOVI, BITMAP), lines(1), "50 NotAvi"),
+    ("a frame in a further RIFF", FIRST + further(GOOD, MOVI), lines(1), "50 NotAvi"),
+    ("a frame of another stream after movi", riff(streams(SOUND), named(1, 2), GOOD), whole(1), ""),
 ]
 OF_RECORDS = [
     ("the record ends where biSize says", ending(40 + len(RECORD), b"\0"), whole(1), ""),
@@ -138,7 +159,7 @@ OF_RECORDS = [
 
 def streams_and_records():
     """Which stream counts, and where its record ends."""
-    for name, file, output, fault in OF_STREAMS:
+    for name, file, output, fault in OF_STREAMS + CLOSED:
         yield checked(name, file, output, fault)
     for name, hdrl, output, fault in OF_RECORDS:
         yield checked(name, riff(hdrl, MOVI), output, fault)

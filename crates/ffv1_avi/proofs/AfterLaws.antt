@@ -12,15 +12,16 @@ use Rattle.ffv1_avi.specs.Riffs.{RiffFile, riffs_text, total}
 use Rattle.ffv1_avi.specs.Walk.{is_name}
 use Rattle.ffv1_avi.proofs.Contents.{number_taken, taken_short}
 use Rattle.ffv1_avi.proofs.EarlyRiffs.{there_same}
-use Rattle.ffv1_avi.proofs.EveryRiffLaws.{file_parts, first_riff, number_of}
+use Rattle.ffv1_avi.proofs.EveryRiffLaws.{file_parts, first_riff, names_in}
 use Rattle.ffv1_avi.proofs.GivenFrames.{file_then}
 use Rattle.ffv1_avi.proofs.LaterFrames.{in_riff}
 use Rattle.ffv1_reads.proofs.Results.{cut_back, cut_front}
 use Rattle.ffv1_reads.proofs.WantedBytes.{taken_complete}
+use Rattle.ffv1_avi.specs.declared.place.Names.{Names}
 
 -- after the last RIFF
 abbrev last : {file : List ℕ} {head : Head} {frames : List (List ℕ)} → RiffFile file head frames → Place
-last is = in_riff (most_input - length (riffs_text is.riffs)) (number_of is) 0 (total is.extended - length (frames_to is is.riffs))
+last is = in_riff (most_input - length (riffs_text is.riffs)) (names_in is) 0 (total is.extended - length (frames_to is is.riffs))
 
 -- where what is after the last RIFF is refused, all frames are given before
 refused_after : (file : List ℕ) (head : Head) (frames : List (List ℕ)) (is : RiffFile file head frames) (rest : List ℕ) (why : Stop) → riff_begun (last is) rest ≡ Err why → GivesThen (file ++ rest) head frames why
@@ -31,26 +32,26 @@ refused_after file head frames is rest why h =
     subst P whole (subst Q is.framed.those_of (file_then is is.riffs [] rest why (sym (append-nil is.riffs)) h))
 
 -- a name is there
-begun_named : (input stream owed : ℕ) (name rest : List ℕ) → length name ≡ 4 → riff_begun (in_riff input stream 0 owed) (name ++ rest) ≡ riff_named (in_riff input stream 0 owed) (Some name) rest
-begun_named input stream owed name rest four =
-    there_same input stream owed (name ++ rest) (omega (arith, four, length-append name rest))
-    ∙ ap (λ z. read_on z (λ name. riff_named (in_riff input stream 0 owed) (Some name))) (taken_complete 4 name rest four)
+begun_named : (input : ℕ) (names : Names) (owed : ℕ) (name rest : List ℕ) → length name ≡ 4 → riff_begun (in_riff input names 0 owed) (name ++ rest) ≡ riff_named (in_riff input names 0 owed) (Some name) rest
+begun_named input names owed name rest four =
+    there_same input names owed (name ++ rest) (omega (arith, four, length-append name rest))
+    ∙ ap (λ z. read_on z (λ name. riff_named (in_riff input names 0 owed) (Some name))) (taken_complete 4 name rest four)
 
 pub other_after : (file : List ℕ) (head : Head) (frames : List (List ℕ)) → RiffFile file head frames → (name rest : List ℕ) → length name ≡ 4 → is_name name (codes "RIFF") ≡ false → GivesThen (file ++ (name ++ rest)) head frames (Met fault.NotAvi rest)
 other_after file head frames is name rest four other =
     refused_after file head frames is (name ++ rest) (Met fault.NotAvi rest)
-    (begun_named (most_input - length (riffs_text is.riffs)) (number_of is) (total is.extended - length (frames_to is is.riffs)) name rest four ∙ rw other refl)
+    (begun_named (most_input - length (riffs_text is.riffs)) (names_in is) (total is.extended - length (frames_to is is.riffs)) name rest four ∙ rw other refl)
 
 pub short_after : (file : List ℕ) (head : Head) (frames : List (List ℕ)) → RiffFile file head frames → (bytes : List ℕ) → 0 < length bytes → length bytes < 4 → GivesThen (file ++ bytes) head frames (Short Looked)
 short_after file head frames is bytes some few =
     refused_after file head frames is bytes (Short Looked)
-    (there_same (most_input - length (riffs_text is.riffs)) (number_of is) (total is.extended - length (frames_to is is.riffs)) bytes some
+    (there_same (most_input - length (riffs_text is.riffs)) (names_in is) (total is.extended - length (frames_to is is.riffs)) bytes some
     ∙ ap (λ z. read_on z (λ name. riff_named (last is) (Some name))) (taken_short 4 bytes few))
 
 pub header_after : (file : List ℕ) (head : Head) (frames : List (List ℕ)) → RiffFile file head frames → (bytes : List ℕ) → length bytes < 8 → GivesThen (file ++ (codes "RIFF" ++ bytes)) head frames (Short Looked)
 header_after file head frames is bytes few =
     refused_after file head frames is (codes "RIFF" ++ bytes) (Short Looked)
-    (begun_named (most_input - length (riffs_text is.riffs)) (number_of is) (total is.extended - length (frames_to is is.riffs)) (codes "RIFF") bytes refl
+    (begun_named (most_input - length (riffs_text is.riffs)) (names_in is) (total is.extended - length (frames_to is is.riffs)) (codes "RIFF") bytes refl
     ∙ ap (λ z. read_on z (riff_judged (last is))) (taken_short 8 bytes few))
 
 pub form_after : (file : List ℕ) (head : Head) (frames : List (List ℕ)) → RiffFile file head frames → (size form rest : List ℕ) → length size ≡ 4 → length form ≡ 4 → (is_name form (codes "AVIX") && nat_le 4 (little_number 4 size)) ≡ false →
@@ -64,7 +65,7 @@ form_after file head frames is size form rest sized named other =
     let judged : riff_judged place bytes rest ≡ Err (Met fault.NotAvi rest) = rw (second, number, other) refl in
     refused_after file head frames is ((codes "RIFF" ++ size ++ form) ++ rest) (Met fault.NotAvi rest)
     (ap (riff_begun place) (regrouped (codes "RIFF") size form rest)
-    ∙ begun_named (most_input - length (riffs_text is.riffs)) (number_of is) (total is.extended - length (frames_to is is.riffs)) (codes "RIFF") (bytes ++ rest) refl
+    ∙ begun_named (most_input - length (riffs_text is.riffs)) (names_in is) (total is.extended - length (frames_to is is.riffs)) (codes "RIFF") (bytes ++ rest) refl
     ∙ ap (λ z. read_on z (riff_judged place)) (taken_complete 8 bytes rest eight)
     ∙ judged)
   where

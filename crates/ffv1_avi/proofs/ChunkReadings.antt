@@ -18,13 +18,16 @@ use Rattle.ffv1_reads.proofs.Reading.{Goes, goes_none, goes_read, goes_refused}
 use Rattle.ffv1_reads.proofs.Taking.{Takes, takes_given, takes_if, takes_passed, takes_refused, takes_same, takes_then, takes_wanted}
 use Rattle.ffv1_avi.specs.declared.chunk.Entry.{Entry}
 use Rattle.ffv1_avi.specs.declared.place.Place.{Place}
-use Rattle.ffv1_avi.specs.Files.{frame_judged, frame_name, visit_movi}
+use Rattle.ffv1_avi.specs.Files.{frame_judged, visit_movi}
 use Rattle.ffv1_avi.specs.Offsets.{chunk_taken, frame_taken, movi_left, movi_taken}
 use Rattle.ffv1_avi.specs.Internal.Offsets.{FrameBegins}
 use Rattle.ffv1_avi.specs.Padding.{content, padded}
 use Rattle.ffv1_avi.specs.Places.{frame_at}
 use Rattle.ffv1_reads.specs.Head.{limit}
 use Rattle.ffv1_avi.specs.Walk.{entry_judged, entry_read, is_name}
+use Rattle.ffv1_avi.specs.declared.place.Names.{Names}
+use Rattle.ffv1_avi.specs.Names.{is_barred}
+use Rattle.ffv1_avi.specs.Names.{is_frame}
 
 -- a header
 abbrev Fits : ℕ → Option Entry → Type 0
@@ -67,20 +70,20 @@ Same e (u, Some p) = p ≡ (e.size, e.left)
 pub skipped_takes : (e : Entry) → Takes (Same e) (padded e.size) (visit_left e) (passed (padded e.size) >>= λ _. given (tt {0}, None))
 skipped_takes e = takes_then (passed (padded e.size)) _ (takes_same _ _ (passed (padded e.size)) (omega arith) (takes_passed (padded e.size) 0)) (λ _ _. takes_given _ tt refl)
 
-visit_takes : (stream : ℕ) (e : Entry) → Takes (Same e) (padded e.size) (visit_left e) (visit_movi stream tt e)
+visit_takes : (names : Names) (e : Entry) → Takes (Same e) (padded e.size) (visit_left e) (visit_movi names tt e)
 unfolding visit_movi
-visit_takes stream e =
-    takes_if (is_name e.name (codes "LIST")) (refused fault.NotAvi) _ (λ _. takes_refused fault.NotAvi)
-    (λ _. takes_if (is_name e.name (frame_name stream)) (frame_judged e.size e.left) _
+visit_takes names e =
+    takes_if (is_barred names e.name) (refused fault.NotAvi) _ (λ _. takes_refused fault.NotAvi)
+    (λ _. takes_if (is_frame names e.name) (frame_judged e.size e.left) _
     (λ _. takes_if (nat_lt limit e.size) (refused fault.ChunkTooLong) _ (λ _. takes_refused fault.ChunkTooLong)
     (λ _. takes_if (e.size == 0) (refused fault.EmptyFrame) _ (λ _. takes_refused fault.EmptyFrame) (λ _. takes_given _ refl refl)))
     (λ _. skipped_takes e))
 
-pub chunk_passed : (place : Place) (e : Entry) {a b c : Option (List ℕ)} → Read (entry_read place.movi) a b (Some e) → Read (visit_movi place.stream tt e) b c (tt, None) → ReadsCounted (chunk_taken place) a c (movi_left place e.left) (8 + (padded e.size + 0))
+pub chunk_passed : (place : Place) (e : Entry) {a b c : Option (List ℕ)} → Read (entry_read place.movi) a b (Some e) → Read (visit_movi place.names tt e) b c (tt, None) → ReadsCounted (chunk_taken place) a c (movi_left place e.left) (8 + (padded e.size + 0))
 unfolding chunk_taken
 chunk_passed place e {c = c} header visit =
     counted_then (entry_read place.movi) (movi_taken place) (entry_counted place.movi e header)
-    (counted_then (visit_movi place.stream tt e) (λ p. frame_taken place e.left p.1) (reads_counted (padded e.size) (visit_takes place.stream e) (omega arith) visit) (counted_given (movi_left place e.left) c))
+    (counted_then (visit_movi place.names tt e) (λ p. frame_taken place e.left p.1) (reads_counted (padded e.size) (visit_takes place.names e) (omega arith) visit) (counted_given (movi_left place e.left) c))
 
 -- a frame
 content_counted : (size : ℕ) (bytes : List ℕ) {a b c : Option (List ℕ)} → Read (wanted Kept size) a b bytes → Read (passed (size % 2)) b c tt → ReadsCounted (content Kept size) a c bytes (size + (size % 2 + 0))
@@ -88,20 +91,20 @@ content_counted size bytes {c = c} read pad =
     counted_then (wanted Kept size) _ (reads_counted {before = size} size (takes_same (size + 0) size (wanted Kept size) (omega arith) (takes_wanted Kept size 0)) (omega arith) read)
     (counted_then (passed (size % 2)) _ (reads_counted {before = size % 2} (size % 2) (takes_same (size % 2 + 0) (size % 2) (passed (size % 2)) (omega arith) (takes_passed (size % 2) 0)) (omega arith) pad) (counted_given bytes c))
 
-pub chunk_framed : (place : Place) (e : Entry) (size left : ℕ) (bytes : List ℕ) {a b c d f : Option (List ℕ)} → Read (entry_read place.movi) a b (Some e) → Read (visit_movi place.stream tt e) b c (tt, Some (size, left)) → Read (wanted Kept size) c d bytes → Read (passed (size % 2)) d f tt →
+pub chunk_framed : (place : Place) (e : Entry) (size left : ℕ) (bytes : List ℕ) {a b c d f : Option (List ℕ)} → Read (entry_read place.movi) a b (Some e) → Read (visit_movi place.names tt e) b c (tt, Some (size, left)) → Read (wanted Kept size) c d bytes → Read (passed (size % 2)) d f tt →
     ReadsCounted (chunk_taken place) a f (frame_at place left) (8 + (0 + (size + (size % 2 + 0) + 0)))
 unfolding chunk_taken
 chunk_framed place e size left bytes {f = f} header visit read pad =
-    let same = ((visit_takes place.stream e).only _ _ _ (visit.is [])).0 in
+    let same = ((visit_takes place.names e).only _ _ _ (visit.is [])).0 in
     let long : size ≡ e.size = ap (λ (z : ℕ × ℕ). z.0) same in
     counted_then (entry_read place.movi) (movi_taken place) (entry_counted place.movi e header)
-    (counted_then (visit_movi place.stream tt e) (λ p. frame_taken place e.left p.1) (reads_counted {x = (tt {0}, Some (size, left))} 0 (visit_takes place.stream e) (omega arith) visit)
+    (counted_then (visit_movi place.names tt e) (λ p. frame_taken place e.left p.1) (reads_counted {x = (tt {0}, Some (size, left))} 0 (visit_takes place.names e) (omega arith) visit)
     (counted_then (content Kept size) _ (content_counted size bytes read pad) (counted_given (frame_at place left) f)))
 
 frame_reached : (to : Place) (size left : ℕ) (old now : Option (List ℕ)) (before : ℕ) → FrameBegins to old now (size, left) → Goes (chunk_taken to) old before (content Kept size >>= λ bytes. given (frame_at to left)) now before
 unfolding chunk_taken
 frame_reached to size left old now before h =
-    goes_read (visit_movi to.stream tt h.entry) (λ p. frame_taken to h.entry.left p.1) now before (tt, Some (size, left))
+    goes_read (visit_movi to.names tt h.entry) (λ p. frame_taken to h.entry.left p.1) now before (tt, Some (size, left))
     (goes_read (entry_read to.movi) (movi_taken to) h.between before (Some h.entry) (goes_none (chunk_taken to) old before) (refl, h.header)) (refl, h.visit)
 
 frame_ends : (to : Place) (size left : ℕ) (old now new : Option (List ℕ)) (before last : ℕ) (f : FileFault) → FrameBegins to old now (size, left) → Refused (content Kept size) now new before last f → RefusedOrEnds (chunk_taken to) old new before last f
@@ -123,10 +126,10 @@ pub entry_refused : (place : Place) (old new : Option (List ℕ)) (before after 
 unfolding chunk_taken
 entry_refused place old new before after f why = ends_refused (entry_read place.movi) (movi_taken place) new after f (goes_none (chunk_taken place) old before) why
 
-pub visit_refused : (place : Place) (e : Entry) (old mid new : Option (List ℕ)) (before between after : ℕ) (f : FileFault) → (between ≡ before) × Read (entry_read place.movi) old mid (Some e) → Refused (visit_movi place.stream tt e) mid new between after f → RefusedOrEnds (chunk_taken place) old new before after f
+pub visit_refused : (place : Place) (e : Entry) (old mid new : Option (List ℕ)) (before between after : ℕ) (f : FileFault) → (between ≡ before) × Read (entry_read place.movi) old mid (Some e) → Refused (visit_movi place.names tt e) mid new between after f → RefusedOrEnds (chunk_taken place) old new before after f
 unfolding chunk_taken
 visit_refused place e old mid new before between after f header why =
-    ends_refused (visit_movi place.stream tt e) (λ p. frame_taken place e.left p.1) new after f (goes_read (entry_read place.movi) (movi_taken place) mid between (Some e) (goes_none (chunk_taken place) old before) header) why
+    ends_refused (visit_movi place.names tt e) (λ p. frame_taken place e.left p.1) new after f (goes_read (entry_read place.movi) (movi_taken place) mid between (Some e) (goes_none (chunk_taken place) old before) header) why
 
 -- an offset goes on by one chunk
 pub one_more : (offset count size most : ℕ) → min (min (offset + count) most + (8 + size)) most ≡ min (offset + (count + (8 + (size + 0)))) most

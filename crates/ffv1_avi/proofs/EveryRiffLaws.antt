@@ -1,69 +1,76 @@
 -- A file of every RIFF, by its chunks, is read.
-use Rattle.std.proofs.Common.{◌≡◌, ℕ, ◌+◌, ◌-◌, ◌<◌, Some, None, Result, Ok, List, [], ◌∷◌, ◌++◌, length, codes, flat_map, ap, ◌∙◌, sym, subst, arith, append_assoc, append-nil, length-append}
+use Rattle.std.proofs.Common.{◌≡◌, ℕ, ◌+◌, ◌-◌, ◌<◌, Some, None, Result, Ok, List, [], ◌∷◌, ◌++◌, length, codes, flat_map, ap, ◌∙◌, sym, subst, arith, append_assoc, append-nil, length-append, min, zero-add}
 use Rattle.std.proofs.lemmas.Grind.{flat_map-append}
 use Rattle.byteorder.specs.Endian.{little_number}
 use Rattle.ffv1_avi.specs.declared.place.Extent.TheVariants.{EveryRiff}
+use Rattle.ffv1_avi.specs.declared.place.Names.{Names}
+use Rattle.ffv1_avi.specs.declared.place.Names.TheVariants.{Closed}
 use Rattle.ffv1_avi.specs.declared.place.Place.{Place}
 use Rattle.ffv1_avi.specs.Chunks.{AreFrames, Chunk, chunks_text, first_of, header_chunks, streams, those}
 use Rattle.ffv1_avi.specs.Edges.{frames_to}
-use Rattle.ffv1_avi.specs.Files.{file_read, frame_name, frames_read, no_headers, open_read, owed}
+use Rattle.ffv1_avi.specs.Files.{file_read, frames_read, no_headers, open_read, owed}
 use Rattle.ffv1_reads.specs.Head.{Head}
 use Rattle.ffv1_avi.specs.Places.{most_input}
 use Rattle.ffv1_reads.specs.Reads.{Stop, given, read_on, ◌>>=◌}
-use Rattle.ffv1_avi.specs.Riffs.{AreRiffs, AreSections, Riff, RiffFile, Section, is_total, movis, riff_movis, riff_text, riffs_text, sections_text, total}
+use Rattle.ffv1_avi.specs.Riffs.{AreRiffs, AreSections, Riff, RiffFile, Section, is_total, movis, names_of, riff_movis, riff_text, riffs_text, sections_text, total}
 use Rattle.ffv1_avi.proofs.FrameLaws.{frames_after, movi_frames, placed}
 use Rattle.ffv1_avi.proofs.HeaderRuns.{Counts, Heads, counts_found, heads}
 use Rattle.ffv1_avi.proofs.LaterFrames.{Framed, after_end, behind_end, frames_behind, frames_both, frames_in, framed_apart, in_riff, preceded, preceded_both, riffs_read, sections_read}
 use Rattle.ffv1_avi.proofs.OpenLaws.{open_complete}
 use Rattle.ffv1_avi.proofs.PartLaws.{parts_text}
 use Rattle.ffv1_avi.proofs.RiffLaws.{chunks_even}
+use Rattle.ffv1_avi.proofs.StreamCounts.{run_counted}
 use Rattle.ffv1_avi.proofs.WholeLaws.{all_of, owed_total}
 use Rattle.ffv1_reads.proofs.Results.{ok_is}
 
 -- frames of chunks are those among them
-pub framed_own : (stream : ℕ) (chunks : List Chunk) (frames : List (List ℕ)) → AreFrames (frame_name stream) chunks frames → Framed stream chunks
-framed_own stream chunks frames h =
-    let P : List (List ℕ) → Type 0 = λ z. AreFrames (frame_name stream) chunks z in
+pub framed_own : (names : Names) (chunks : List Chunk) (frames : List (List ℕ)) → AreFrames names chunks frames → Framed names chunks
+framed_own names chunks frames h =
+    let P : List (List ℕ) → Type 0 = λ z. AreFrames names chunks z in
     subst P (sym h.those_of) h
 
 -- the frames of a movi, of what is after it in RIFF, and of RIFFs, and those after them
-place_read : (input stream owed : ℕ) (chunks : List Chunk) (sections : List Section) (riffs : List Riff) (rest : List ℕ) → AreSections sections → AreRiffs riffs → length (riffs_text riffs) < input → Framed stream (chunks ++ (movis sections ++ riff_movis riffs)) →
-    frames_read (placed (in_riff input stream (length (sections_text sections)) 0) (length (chunks_text chunks)) owed) (chunks_text chunks ++ (sections_text sections ++ (riffs_text riffs ++ rest)))
-    ≡ preceded (frames_in stream (chunks ++ (movis sections ++ riff_movis riffs))) (frames_behind (in_riff (input - length (riffs_text riffs)) stream 0 (owed - length (frames_in stream (chunks ++ (movis sections ++ riff_movis riffs))))) rest)
-place_read input stream owed chunks sections riffs rest sections_are riffs_are fits framed =
-    let first = framed_apart stream chunks (movis sections ++ riff_movis riffs) framed in
-    let second = framed_apart stream (movis sections) (riff_movis riffs) first.1 in
+place_read : (input : ℕ) (names : Names) (owed : ℕ) (chunks : List Chunk) (sections : List Section) (riffs : List Riff) (rest : List ℕ) → AreSections names sections → AreRiffs names riffs → length (riffs_text riffs) < input → Framed names (chunks ++ (movis sections ++ riff_movis riffs)) →
+    frames_read (placed (in_riff input names (length (sections_text sections)) 0) (length (chunks_text chunks)) owed) (chunks_text chunks ++ (sections_text sections ++ (riffs_text riffs ++ rest)))
+    ≡ preceded (frames_in names (chunks ++ (movis sections ++ riff_movis riffs))) (frames_behind (in_riff (input - length (riffs_text riffs)) names 0 (owed - length (frames_in names (chunks ++ (movis sections ++ riff_movis riffs))))) rest)
+place_read input names owed chunks sections riffs rest sections_are riffs_are fits framed =
+    let first = framed_apart names chunks (movis sections ++ riff_movis riffs) framed in
+    let second = framed_apart names (movis sections) (riff_movis riffs) first.1 in
     let some : input ≡ 0 → ⊥ = λ e. omega (arith, e, fits) in
     let left = length (sections_text sections) in
-    let fs = frames_in stream chunks in
-    let gs = frames_in stream (movis sections) in
-    let hs = frames_in stream (riff_movis riffs) in
+    let fs = frames_in names chunks in
+    let gs = frames_in names (movis sections) in
+    let hs = frames_in names (riff_movis riffs) in
     let behind = riffs_text riffs ++ rest in
     let room : left ≡ left + 0 = omega arith in
     let more = input - length (riffs_text riffs) in
-    let all : fs ++ (gs ++ hs) ≡ frames_in stream (chunks ++ (movis sections ++ riff_movis riffs)) = sym (frames_both stream chunks (movis sections ++ riff_movis riffs) ∙ ap (λ z. fs ++ z) (frames_both stream (movis sections) (riff_movis riffs))) in
+    let all : fs ++ (gs ++ hs) ≡ frames_in names (chunks ++ (movis sections ++ riff_movis riffs)) = sym (frames_both names chunks (movis sections ++ riff_movis riffs) ∙ ap (λ z. fs ++ z) (frames_both names (movis sections) (riff_movis riffs))) in
     let owes : owed - length fs - length gs - length hs ≡ owed - length (fs ++ (gs ++ hs)) = omega (arith, length-append fs (gs ++ hs), length-append gs hs) in
-    movi_frames (in_riff input stream left 0) chunks owed (sections_text sections ++ behind) first.0.each first.0.no_list first.0.sized
-    ∙ ap (λ n. preceded fs (frames_after (in_riff input stream n (owed - length fs)) (sections_text sections ++ behind))) room
-    ∙ ap (preceded fs) (sections_read input stream 0 (owed - length fs) sections behind some sections_are second.0)
-    ∙ ap (λ z. preceded fs (preceded gs z)) (after_end input stream (owed - length fs - length gs) behind some)
-    ∙ ap (λ z. preceded fs (preceded gs z)) (riffs_read riffs input stream (owed - length fs - length gs) rest riffs_are fits second.1)
-    ∙ ap (preceded fs) (preceded_both gs hs (frames_behind (in_riff more stream 0 (owed - length fs - length gs - length hs)) rest))
-    ∙ preceded_both fs (gs ++ hs) (frames_behind (in_riff more stream 0 (owed - length fs - length gs - length hs)) rest)
-    ∙ ap (λ n. preceded (fs ++ (gs ++ hs)) (frames_behind (in_riff more stream 0 n) rest)) owes
-    ∙ ap (λ z. preceded z (frames_behind (in_riff more stream 0 (owed - length z)) rest)) all
+    movi_frames (in_riff input names left 0) chunks owed (sections_text sections ++ behind) first.0.each first.0.none_barred first.0.sized
+    ∙ ap (λ n. preceded fs (frames_after (in_riff input names n (owed - length fs)) (sections_text sections ++ behind))) room
+    ∙ ap (preceded fs) (sections_read input names 0 (owed - length fs) sections behind some sections_are second.0)
+    ∙ ap (λ z. preceded fs (preceded gs z)) (after_end input names (owed - length fs - length gs) behind some)
+    ∙ ap (λ z. preceded fs (preceded gs z)) (riffs_read riffs input names (owed - length fs - length gs) rest riffs_are fits second.1)
+    ∙ ap (preceded fs) (preceded_both gs hs (frames_behind (in_riff more names 0 (owed - length fs - length gs - length hs)) rest))
+    ∙ preceded_both fs (gs ++ hs) (frames_behind (in_riff more names 0 (owed - length fs - length gs - length hs)) rest)
+    ∙ ap (λ n. preceded (fs ++ (gs ++ hs)) (frames_behind (in_riff more names 0 n) rest)) owes
+    ∙ ap (λ z. preceded z (frames_behind (in_riff more names 0 (owed - length z)) rest)) all
 
 -- the first RIFF of a file
 abbrev pub first_riff : {file : List ℕ} {head : Head} {frames : List (List ℕ)} → RiffFile file head frames → List ℕ
 first_riff is = (codes "RIFF" ++ is.riff_size ++ codes "AVI ") ++ (parts_text is.parts ++ ((codes "LIST" ++ is.movi_size ++ codes "movi") ++ (chunks_text is.chunks ++ sections_text is.sections)))
 
 -- the number of the stream whose frames count
-abbrev pub number_of : {file : List ℕ} {head : Head} {frames : List (List ℕ)} → RiffFile file head frames → ℕ
+abbrev number_of : {file : List ℕ} {head : Head} {frames : List (List ℕ)} → RiffFile file head frames → ℕ
 number_of is = length is.before
 
+-- which chunks each movi has
+abbrev pub names_in : {file : List ℕ} {head : Head} {frames : List (List ℕ)} → RiffFile file head frames → Names
+names_in is = names_of is.before (streams is.parts)
+
 -- those are its frames
-pub file_framed : {file : List ℕ} {head : Head} {frames : List (List ℕ)} (is : RiffFile file head frames) → Framed (number_of is) (is.chunks ++ (movis is.sections ++ riff_movis is.riffs))
-file_framed {frames = frames} is = framed_own (number_of is) (is.chunks ++ (movis is.sections ++ riff_movis is.riffs)) frames is.framed
+pub file_framed : {file : List ℕ} {head : Head} {frames : List (List ℕ)} (is : RiffFile file head frames) → Framed (names_in is) (is.chunks ++ (movis is.sections ++ riff_movis is.riffs))
+file_framed {frames = frames} is = framed_own (names_in is) (is.chunks ++ (movis is.sections ++ riff_movis is.riffs)) frames is.framed
 
 pub regrouped : (a b c d e f : List ℕ) → (a ++ (b ++ (c ++ (d ++ e)))) ++ f ≡ a ++ (b ++ (c ++ (d ++ (e ++ f))))
 regrouped a b c d e f = simp append_assoc
@@ -80,7 +87,7 @@ file_heads {head = head} is =
 
 -- the place of the first movi
 abbrev pub first_at : {file : List ℕ} {head : Head} {frames : List (List ℕ)} → RiffFile file head frames → Place
-first_at is = placed (in_riff most_input (number_of is) (length (sections_text is.sections)) 0) (length (chunks_text is.chunks)) (total is.extended)
+first_at is = placed (in_riff most_input (names_in is) (length (sections_text is.sections)) 0) (length (chunks_text is.chunks)) (total is.extended)
 
 pub file_opened : {file : List ℕ} {head : Head} {frames : List (List ℕ)} (is : RiffFile file head frames) (rest : List ℕ) →
     open_read EveryRiff ((codes "RIFF" ++ is.riff_size ++ codes "AVI ") ++ (parts_text is.parts ++ ((codes "LIST" ++ is.movi_size ++ codes "movi") ++ rest))) ≡ Ok ((head, first_at is), rest)
@@ -88,24 +95,26 @@ file_opened {head = head} {frames = frames} is rest =
     let known = file_heads is in
     let size = little_number 4 is.movi_size in
     let left = length (sections_text is.sections) in
-    let framed = framed_apart (number_of is) is.chunks (movis is.sections ++ riff_movis is.riffs) (file_framed is) in
+    let framed = framed_apart (names_in is) is.chunks (movis is.sections ++ riff_movis is.riffs) (file_framed is) in
     let even = chunks_even is.chunks framed.0.each in
     let opened = open_complete EveryRiff is.riff_size is.parts is.movi_size left known.known head rest is.riff_sized is.movi_sized (omega (arith, is.counted)) (omega (arith, is.filled, is.counted, even)) is.each known.run known.head_is in
     let room : size - 4 ≡ length (chunks_text is.chunks) = omega (arith, is.counted) in
     let owes : owed known.known.frames ≡ total is.extended = ap owed known.frames_are ∙ owed_total (first_of (those is_total (all_of is.extended))) in
-    let made : ℕ → ℕ → ℕ → Result ((Head × Place) × List ℕ) Stop = λ movi stream o. Ok ((head, placed (in_riff most_input stream left 0) movi o), rest) in
+    let streams_are = run_counted (flat_map header_chunks is.parts) no_headers known.known (omega arith) known.run in
+    let names : Closed known.known.passed known.known.streams ≡ names_in is = ap (λ n. Closed n known.known.streams) known.number ∙ ap (Closed (length is.before)) (streams_are ∙ ap (λ n. min n 100) (zero-add (length (streams is.parts)))) in
+    let made : ℕ → Names → ℕ → Result ((Head × Place) × List ℕ) Stop = λ movi names o. Ok ((head, placed (in_riff most_input names left 0) movi o), rest) in
     opened
-    ∙ ap (λ n. made n known.known.passed (owed known.known.frames)) room
-    ∙ ap (λ n. made (length (chunks_text is.chunks)) n (owed known.known.frames)) known.number
-    ∙ ap (λ n. made (length (chunks_text is.chunks)) (number_of is) n) owes
+    ∙ ap (λ n. made n (Closed known.known.passed known.known.streams) (owed known.known.frames)) room
+    ∙ ap (λ z. made (length (chunks_text is.chunks)) z (owed known.known.frames)) names
+    ∙ ap (λ n. made (length (chunks_text is.chunks)) (names_in is) n) owes
 
 -- what is known of the RIFFs up to the edge of one
 pub file_before : {file : List ℕ} {head : Head} {frames : List (List ℕ)} (is : RiffFile file head frames) (before after : List Riff) → is.riffs ≡ before ++ after →
-    AreRiffs before × (length (riffs_text before) < most_input) × Framed (number_of is) (is.chunks ++ (movis is.sections ++ riff_movis before))
+    AreRiffs (names_in is) before × (length (riffs_text before) < most_input) × Framed (names_in is) (is.chunks ++ (movis is.sections ++ riff_movis before))
 file_before is before after parted =
-    let n = number_of is in
-    let P : List Riff → Type 0 = λ z. AreRiffs z in
-    let are = riffs_apart before after (subst P parted is.riffs_are) in
+    let n = names_in is in
+    let P : List Riff → Type 0 = λ z. AreRiffs n z in
+    let are = riffs_apart n before after (subst P parted is.riffs_are) in
     let Q : List Riff → Type 0 = λ z. length (riffs_text z) < most_input in
     let bounded : length (riffs_text (before ++ after)) < most_input = subst Q parted is.bounded in
     let apart : riffs_text (before ++ after) ≡ riffs_text before ++ riffs_text after = flat_map-append riff_text before after in
@@ -117,9 +126,9 @@ file_before is before after parted =
     let framed = framed_apart n (is.chunks ++ (movis is.sections ++ riff_movis before)) (riff_movis after) (subst R whole (file_framed is)) in
     (are.0, fits, framed.0)
   where
-    riffs_apart : (xs ys : List Riff) → AreRiffs (xs ++ ys) → AreRiffs xs × AreRiffs ys
-    riffs_apart [] ys h = (tt, h)
-    riffs_apart (x ∷ xs) ys h = let more = riffs_apart xs ys h.1 in ((h.0, more.0), more.1)
+    riffs_apart : (names : Names) (xs ys : List Riff) → AreRiffs names (xs ++ ys) → AreRiffs names xs × AreRiffs names ys
+    riffs_apart names [] ys h = (tt, h)
+    riffs_apart names (x ∷ xs) ys h = let more = riffs_apart names xs ys h.1 in ((h.0, more.0), more.1)
 
     fewer : (a b c n : ℕ) → c ≡ a + b → c < n → a < n
     fewer a b c n e h = omega (arith, e, h)
@@ -130,9 +139,9 @@ file_before is before after parted =
 -- a file is read up to the edge of an RIFF, and what is after that
 pub file_to : {file : List ℕ} {head : Head} {frames : List (List ℕ)} (is : RiffFile file head frames) (before after : List Riff) (rest : List ℕ) → is.riffs ≡ before ++ after →
     file_read EveryRiff (first_riff is ++ (riffs_text before ++ rest))
-    ≡ read_on (preceded (frames_to is before) (frames_behind (in_riff (most_input - length (riffs_text before)) (number_of is) 0 (total is.extended - length (frames_to is before))) rest)) (λ frames. given (head, frames))
+    ≡ read_on (preceded (frames_to is before) (frames_behind (in_riff (most_input - length (riffs_text before)) (names_in is) 0 (total is.extended - length (frames_to is before))) rest)) (λ frames. given (head, frames))
 file_to {head = head} is before after rest parted =
-    let n = number_of is in
+    let n = names_in is in
     let known = file_before is before after parted in
     ap (file_read EveryRiff) (regrouped (codes "RIFF" ++ is.riff_size ++ codes "AVI ") (parts_text is.parts) (codes "LIST" ++ is.movi_size ++ codes "movi") (chunks_text is.chunks) (sections_text is.sections) (riffs_text before ++ rest))
     ∙ ap (λ z. read_on z (λ p. (frames_read p.1 >>= λ frames. given (p.0, frames)))) (file_opened is (chunks_text is.chunks ++ (sections_text is.sections ++ (riffs_text before ++ rest))))
@@ -145,7 +154,7 @@ every_complete file head frames is =
     let none : total is.extended - length all ≡ 0 = omega (arith, is.enough, ap length same) in
     ap (file_read EveryRiff) (file_parts is ∙ ap (λ z. first_riff is ++ z) (sym (append-nil (riffs_text is.riffs))))
     ∙ file_to is is.riffs [] [] (sym (append-nil is.riffs))
-    ∙ ap (λ z. read_on (preceded all z) (λ frames. given (head, frames))) (behind_end (most_input - length (riffs_text is.riffs)) (number_of is) (total is.extended - length all) none)
+    ∙ ap (λ z. read_on (preceded all z) (λ frames. given (head, frames))) (behind_end (most_input - length (riffs_text is.riffs)) (names_in is) (total is.extended - length all) none)
     ∙ ap (λ z. Ok ((head, z), [])) (append-nil all ∙ same)
 
 -- a file has one head and one list of frames

@@ -1,19 +1,19 @@
 -- The frames of a movi.
-use Rattle.std.proofs.Common.{◌≡◌, ℕ, suc, zero, ◌+◌, ◌-◌, ◌%◌, ◌≤◌, ◌<◌, ◌==◌, nat_lt, Bool, true, false, Option, Some, None, Result, Ok, Err, List, [], ◌∷◌, ◌++◌, length, codes, map, ap, ◌∙◌, sym, subst, arith, refl, append_assoc, append-nil, length-append}
+use Rattle.std.proofs.Common.{◌≡◌, ℕ, suc, zero, ◌+◌, ◌-◌, ◌%◌, ◌≤◌, ◌<◌, ◌==◌, nat_lt, Bool, true, false, Option, Some, None, Result, Ok, Err, List, [], ◌∷◌, ◌++◌, length, map, ap, ◌∙◌, sym, subst, arith, refl, append_assoc, append-nil, length-append}
 use Rattle.std.proofs.lemmas.Bool.{eqb-false, ltb-false, le-ltb, ne_eqb}
 use Rattle.std.proofs.lemmas.Grind.{flat_map-append}
 use Rattle.byteorder.specs.Endian.{little_number}
 use Rattle.ffv1_avi.specs.declared.chunk.Entry.{Entry}
-use Rattle.ffv1_avi.specs.Chunks.{AreChunks, AreFrames, AreSized, Chunk, IsChunk, chunk_text, chunks_text, is_named, those}
+use Rattle.ffv1_avi.specs.Chunks.{AreChunks, AreFrames, AreSized, Chunk, IsChunk, chunk_text, chunks_text, those}
 use Rattle.ffv1_avi.specs.declared.place.Extent.{Extent}
 use Rattle.ffv1_avi.specs.declared.place.Extent.TheVariants.{FirstMovi, EveryRiff}
 use Rattle.ffv1_avi.specs.declared.place.Place.{Place}
-use Rattle.ffv1_avi.specs.Files.{found_or_on, found_read, frame_found, frame_name, frame_read, frames_read, more_frames, moved, moved_by, movi_found, movi_or_riff, movi_sought, name_or_end, riff_begun, riff_named, sought_on, visit_movi}
+use Rattle.ffv1_avi.specs.Files.{found_or_on, found_read, frame_found, frame_read, frames_read, more_frames, moved, moved_by, movi_found, movi_or_riff, movi_sought, name_or_end, riff_begun, riff_named, sought_on, visit_movi}
 use Rattle.ffv1_avi.specs.Places.{extent_of, first_place, frame_at}
 use Rattle.ffv1_reads.specs.Reads.{Kept, Reading, Stop, given, passed, read_on, ◌>>=◌}
 use Rattle.ffv1_avi.specs.Padding.{content, padded}
 use Rattle.ffv1_reads.specs.Head.{limit}
-use Rattle.ffv1_avi.specs.Walk.{entry_read, is_name, resumed, visited, walk}
+use Rattle.ffv1_avi.specs.Walk.{entry_read, resumed, visited, walk}
 use Rattle.ffv1_avi.proofs.ListWalks.{Complete, Ended, IsPassed, Run, Sound, Taking, entry_complete, walk_complete, walk_sound}
 use Rattle.ffv1_avi.proofs.Fields.{skipped_passed}
 use Rattle.ffv1_avi.proofs.PassedBytes.{content_complete, content_sound, skip_complete}
@@ -22,10 +22,16 @@ use Rattle.ffv1_avi.proofs.FrameTurns.{frames_step}
 use Rattle.ffv1_avi.proofs.Moves.{frame_step, moved_first, movi_empty}
 use Rattle.ffv1_reads.proofs.Results.{ok_is, some_is}
 use Rattle.ffv1_avi.proofs.ChunkByChunk.{walk_step}
+use Rattle.ffv1_avi.specs.declared.place.Names.{Names}
+use Rattle.ffv1_avi.specs.Names.{is_barred}
+use Rattle.ffv1_avi.specs.Names.{is_frame}
+use Rattle.ffv1_avi.specs.Chunks.{barred_in}
+use Rattle.ffv1_avi.specs.Chunks.{frame_in}
+use Rattle.ffv1_avi.specs.declared.place.Names.TheVariants.{Any}
 
 -- a chunk that is no list and no frame
-abbrev pub TakesMovi : ℕ → Taking (Unit {0})
-TakesMovi stream s name bytes t = (is_name name (codes "LIST") ≡ false) × (is_name name (frame_name stream) ≡ false)
+abbrev pub TakesMovi : Names → Taking (Unit {0})
+TakesMovi names s name bytes t = (is_barred names name ≡ false) × (is_frame names name ≡ false)
 
 abbrev M : Type 0
 M = (Unit {0} × Option (ℕ × ℕ)) × List ℕ
@@ -33,38 +39,38 @@ M = (Unit {0} × Option (ℕ × ℕ)) × List ℕ
 no_some : {X : Type 0} (x : X) → ◌≡◌ {A = Option X} (Some x) None → ⊥
 no_some x e = absurd (cc)
 
-movi_sound : (stream : ℕ) → Sound (visit_movi stream) (TakesMovi stream)
+movi_sound : (names : Names) → Sound (visit_movi names) (TakesMovi names)
 unfolding visit_movi
-movi_sound stream s e text t rest listed h = on_names (is_name e.name (codes "LIST")) (is_name e.name (frame_name stream)) (nat_lt limit e.size) (e.size == 0) refl refl refl refl h
+movi_sound names s e text t rest listed h = on_names (is_barred names e.name) (is_frame names e.name) (nat_lt limit e.size) (e.size == 0) refl refl refl refl h
   where
-    on_names : (a b c d : Bool) → is_name e.name (codes "LIST") ≡ a → is_name e.name (frame_name stream) ≡ b → nat_lt limit e.size ≡ c → (e.size == 0) ≡ d → visit_movi stream s e text ≡ Ok ((t, None), rest) → IsPassed (TakesMovi stream) s e t text rest
+    on_names : (a b c d : Bool) → is_barred names e.name ≡ a → is_frame names e.name ≡ b → nat_lt limit e.size ≡ c → (e.size == 0) ≡ d → visit_movi names s e text ≡ Ok ((t, None), rest) → IsPassed (TakesMovi names) s e t text rest
     on_names true b c d p q r z h = absurd (cc (rw p at h))
     on_names false true true d p q r z h = absurd (cc (rw (p, q, r) at h))
     on_names false true false true p q r z h = absurd (cc (rw (p, q, r, z) at h))
     on_names false true false false p q r z h =
         let y : ℕ × ℕ = (e.size, e.left) in
         absurd (no_some y (ap (λ (m : M). m.0.1) (ok_is ((tt, Some y), text) ((t, None), rest) (rw (p, q, r, z) at h))))
-    on_names false false c d p q r z h = skipped_passed {Y = ℕ × ℕ} (TakesMovi stream) s e text t rest (λ bytes. (p, q)) (rw (p, q) at h)
+    on_names false false c d p q r z h = skipped_passed {Y = ℕ × ℕ} (TakesMovi names) s e text t rest (λ bytes. (p, q)) (rw (p, q) at h)
 
-pub movi_complete : (stream : ℕ) → Complete (visit_movi stream) (TakesMovi stream)
+pub movi_complete : (names : Names) → Complete (visit_movi names) (TakesMovi names)
 unfolding visit_movi
-movi_complete stream s e bytes padding t rest listed long odd takes = rw (takes.0, takes.1) (ap (λ z. read_on z (λ _. given (tt, None))) (skip_complete e.size bytes padding rest long odd))
+movi_complete names s e bytes padding t rest listed long odd takes = rw (takes.0, takes.1) (ap (λ z. read_on z (λ _. given (tt, None))) (skip_complete e.size bytes padding rest long odd))
 
 -- where the walk of movi stops there is a frame
-pub record IsFrame (stream : ℕ) (e : Entry) (text : List ℕ) (y : ℕ × ℕ) (rest : List ℕ) : Type 0 where
-  pub no_list : is_name e.name (codes "LIST") ≡ false
-  pub named : is_name e.name (frame_name stream) ≡ true
+pub record IsFrame (names : Names) (e : Entry) (text : List ℕ) (y : ℕ × ℕ) (rest : List ℕ) : Type 0 where
+  pub none_barred : is_barred names e.name ≡ false
+  pub named : is_frame names e.name ≡ true
   pub short : e.size ≤ limit
   pub some : 0 < e.size
   pub size : y.0 ≡ e.size
   pub left : y.1 ≡ e.left
   pub behind : text ≡ rest
 
-movi_stop : (stream : ℕ) (s : Unit {0}) (e : Entry) (text : List ℕ) (t : Unit {0}) (y : ℕ × ℕ) (rest : List ℕ) → visit_movi stream s e text ≡ Ok ((t, Some y), rest) → IsFrame stream e text y rest
+movi_stop : (names : Names) (s : Unit {0}) (e : Entry) (text : List ℕ) (t : Unit {0}) (y : ℕ × ℕ) (rest : List ℕ) → visit_movi names s e text ≡ Ok ((t, Some y), rest) → IsFrame names e text y rest
 unfolding visit_movi
-movi_stop stream s e text t y rest h = on_names (is_name e.name (codes "LIST")) (is_name e.name (frame_name stream)) (nat_lt limit e.size) (e.size == 0) refl refl refl refl h
+movi_stop names s e text t y rest h = on_names (is_barred names e.name) (is_frame names e.name) (nat_lt limit e.size) (e.size == 0) refl refl refl refl h
   where
-    on_names : (a b c d : Bool) → is_name e.name (codes "LIST") ≡ a → is_name e.name (frame_name stream) ≡ b → nat_lt limit e.size ≡ c → (e.size == 0) ≡ d → visit_movi stream s e text ≡ Ok ((t, Some y), rest) → IsFrame stream e text y rest
+    on_names : (a b c d : Bool) → is_barred names e.name ≡ a → is_frame names e.name ≡ b → nat_lt limit e.size ≡ c → (e.size == 0) ≡ d → visit_movi names s e text ≡ Ok ((t, Some y), rest) → IsFrame names e text y rest
     on_names true b c d p q r z h = absurd (cc (rw p at h))
     on_names false true true d p q r z h = absurd (cc (rw (p, q, r) at h))
     on_names false true false true p q r z h = absurd (cc (rw (p, q, r, z) at h))
@@ -73,21 +79,21 @@ movi_stop stream s e text t y rest h = on_names (is_name e.name (codes "LIST")) 
         let found = ok_is ((tt, Some x), text) ((t, Some y), rest) (rw (p, q, r, z) at h) in
         let same : x ≡ y = some_is x y (ap (λ (m : M). m.0.1) found) in
         let some : 0 < e.size = omega (arith, eqb-false e.size 0 z) in
-        record { no_list = p; named = q; short = ltb-false _ _ r; some = some; size = ap (λ (n : ℕ × ℕ). n.0) (sym same); left = ap (λ (n : ℕ × ℕ). n.1) (sym same); behind = ap (λ (m : M). m.1) found }
+        record { none_barred = p; named = q; short = ltb-false _ _ r; some = some; size = ap (λ (n : ℕ × ℕ). n.0) (sym same); left = ap (λ (n : ℕ × ℕ). n.1) (sym same); behind = ap (λ (m : M). m.1) found }
     on_names false false c d p q r z h =
         let first = read_on_ok (passed (padded e.size) text) (λ _. given (tt, None)) ((t, Some y), rest) (rw (p, q) at h) in
         absurd (no_some y (sym (ap (λ (m : M). m.0.1) (ok_is ((tt, None), first.0.1) ((t, Some y), rest) first.2))))
 
 -- movi ends with no further frame
-pub record IsEnd (stream left : ℕ) (text rest : List ℕ) : Type 0 where
+pub record IsEnd (names : Names) (left : ℕ) (text rest : List ℕ) : Type 0 where
   pub chunks : List Chunk
   pub text_is : text ≡ chunks_text chunks ++ rest
   pub each : AreChunks chunks
   pub long : length (chunks_text chunks) ≡ left
-  pub run : Run (TakesMovi stream) tt chunks tt
+  pub run : Run (TakesMovi names) tt chunks tt
 
 -- the next frame, after chunks that are none
-pub record IsNext (stream left : ℕ) (text bytes : List ℕ) (after : ℕ) (rest : List ℕ) : Type 0 where
+pub record IsNext (names : Names) (left : ℕ) (text bytes : List ℕ) (after : ℕ) (rest : List ℕ) : Type 0 where
   pub chunks : List Chunk
   pub frame : Chunk
   pub text_is : text ≡ chunks_text chunks ++ (chunk_text frame ++ rest)
@@ -95,9 +101,9 @@ pub record IsNext (stream left : ℕ) (text bytes : List ℕ) (after : ℕ) (res
   pub is : IsChunk frame
   pub bytes_are : frame.bytes ≡ bytes
   pub long : length (chunks_text chunks) + (length (chunk_text frame) + after) ≡ left
-  pub run : Run (TakesMovi stream) tt chunks tt
-  pub no_list : is_named (codes "LIST") frame ≡ false
-  pub named : is_named (frame_name stream) frame ≡ true
+  pub run : Run (TakesMovi names) tt chunks tt
+  pub none_barred : barred_in names frame ≡ false
+  pub named : frame_in names frame ≡ true
   pub short : length bytes ≤ limit
   pub some : 0 < length bytes
 
@@ -106,33 +112,33 @@ movi_frame None = given None
 movi_frame (Some p) = content Kept p.0 >>= λ bytes. given (Some (bytes, p.1))
 
 -- the next frame of a movi, with its bytes
-abbrev pub movi_read : ℕ → ℕ → Reading (Option (List ℕ × ℕ))
-movi_read stream left = movi_found stream left >>= movi_frame
+abbrev pub movi_read : Names → ℕ → Reading (Option (List ℕ × ℕ))
+movi_read names left = movi_found names left >>= movi_frame
 
-abbrev pub NextIs : ℕ → ℕ → List ℕ → Option (List ℕ × ℕ) × List ℕ → Type 0
-NextIs stream left text (None, rest) = IsEnd stream left text rest
-NextIs stream left text (Some p, rest) = IsNext stream left text p.0 p.1 rest
+abbrev pub NextIs : Names → ℕ → List ℕ → Option (List ℕ × ℕ) × List ℕ → Type 0
+NextIs names left text (None, rest) = IsEnd names left text rest
+NextIs names left text (Some p, rest) = IsNext names left text p.0 p.1 rest
 
-pub movi_read_sound : (stream left : ℕ) (text : List ℕ) (w : Option (List ℕ × ℕ) × List ℕ) → movi_read stream left text ≡ Ok w → NextIs stream left text w
+pub movi_read_sound : (names : Names) (left : ℕ) (text : List ℕ) (w : Option (List ℕ × ℕ) × List ℕ) → movi_read names left text ≡ Ok w → NextIs names left text w
 unfolding movi_found
-movi_read_sound stream left text w h =
-    let first = read_on_ok (movi_found stream left text) movi_frame w h in
-    let second = read_on_ok (walk (visit_movi stream) left tt text) (λ p. given p.1) first.0 first.1 in
-    let walked = walk_sound (visit_movi stream) (TakesMovi stream) (movi_sound stream) left tt text second.0 second.1 in
+movi_read_sound names left text w h =
+    let first = read_on_ok (movi_found names left text) movi_frame w h in
+    let second = read_on_ok (walk (visit_movi names) left tt text) (λ p. given p.1) first.0 first.1 in
+    let walked = walk_sound (visit_movi names) (TakesMovi names) (movi_sound names) left tt text second.0 second.1 in
     let same = ok_is (second.0.0.1, second.0.1) first.0 second.2 in
     let Q : Option (ℕ × ℕ) × List ℕ → Type 0 = λ z. movi_frame z.0 z.1 ≡ Ok w in
     on_end second.0.0.1 second.0.1 walked.chunks walked.behind walked.after walked.text_is walked.each walked.long walked.run walked.end (subst Q (sym same) first.2)
   where
-    on_end : (o : Option (ℕ × ℕ)) (more : List ℕ) (chunks : List Chunk) (behind : List ℕ) (after : ℕ) → text ≡ chunks_text chunks ++ behind → AreChunks chunks → length (chunks_text chunks) + after ≡ left → Run (TakesMovi stream) tt chunks tt →
-        Ended (visit_movi stream) after tt behind tt o more → movi_frame o more ≡ Ok w → NextIs stream left text w
+    on_end : (o : Option (ℕ × ℕ)) (more : List ℕ) (chunks : List Chunk) (behind : List ℕ) (after : ℕ) → text ≡ chunks_text chunks ++ behind → AreChunks chunks → length (chunks_text chunks) + after ≡ left → Run (TakesMovi names) tt chunks tt →
+        Ended (visit_movi names) after tt behind tt o more → movi_frame o more ≡ Ok w → NextIs names left text w
     on_end None more chunks behind after whole each long run end k =
-        let P : Option (List ℕ × ℕ) × List ℕ → Type 0 = λ z. NextIs stream left text z in
-        let here : IsEnd stream left text more = record { chunks = chunks; text_is = whole ∙ ap (λ z. chunks_text chunks ++ z) end.2; each = each; long = omega (arith, long, end.0); run = run } in
+        let P : Option (List ℕ × ℕ) × List ℕ → Type 0 = λ z. NextIs names left text z in
+        let here : IsEnd names left text more = record { chunks = chunks; text_is = whole ∙ ap (λ z. chunks_text chunks ++ z) end.2; each = each; long = omega (arith, long, end.0); run = run } in
         subst P (ok_is (None, more) w k) here
     on_end (Some y) more chunks behind after whole each long run end k =
         let e = end.0 in
         let entry = end.2 in
-        let is = movi_stop stream tt e end.1 tt y more end.3 in
+        let is = movi_stop names tt e end.1 tt y more end.3 in
         let third = read_on_ok (content Kept y.0 more) (λ bytes. given (Some (bytes, y.1))) w k in
         let c = content_sound Kept y.0 more third.0 third.1 in
         let bytes = third.0.0 in
@@ -143,8 +149,8 @@ movi_read_sound stream left text w h =
         let here : text ≡ chunks_text chunks ++ (chunk_text frame ++ third.0.1) =
         whole ∙ ap (λ z. chunks_text chunks ++ z) (entry.text_is ∙ ap (λ z. (e.name ++ entry.size) ++ z) (is.behind ∙ c.text_is) ∙ regrouped (e.name ++ entry.size) bytes c.padding third.0.1) in
         let total : length (chunk_text frame) ≡ 8 + padded e.size = omega (arith, entry.named, entry.sized, size, odd, length-append ((e.name ++ entry.size) ++ bytes) c.padding, length-append (e.name ++ entry.size) bytes, length-append e.name entry.size) in
-        let next : IsNext stream left text bytes y.1 third.0.1 = record { chunks = chunks; frame = frame; text_is = here; each = each; is = chunk; bytes_are = refl; long = omega (arith, long, entry.fits, total, is.left); run = run; no_list = is.no_list; named = is.named; short = rw size is.short; some = rw size is.some } in
-        let P : Option (List ℕ × ℕ) × List ℕ → Type 0 = λ z. NextIs stream left text z in
+        let next : IsNext names left text bytes y.1 third.0.1 = record { chunks = chunks; frame = frame; text_is = here; each = each; is = chunk; bytes_are = refl; long = omega (arith, long, entry.fits, total, is.left); run = run; none_barred = is.none_barred; named = is.named; short = rw size is.short; some = rw size is.some } in
+        let P : Option (List ℕ × ℕ) × List ℕ → Type 0 = λ z. NextIs names left text z in
         let p : List ℕ × ℕ = (bytes, y.1) in
         subst P (ok_is (Some p, third.0.1) w third.2) next
       where
@@ -164,23 +170,23 @@ chunks_both [] ys h k = k
 chunks_both (x ∷ xs) ys h k = (h.0, chunks_both xs ys h.1 k)
 
 -- chunks that are no frames
-no_frames : (stream : ℕ) (cs : List Chunk) → Run (TakesMovi stream) tt cs tt → (those (is_named (codes "LIST")) cs ≡ []) × (those (is_named (frame_name stream)) cs ≡ [])
-no_frames stream [] run = (refl, refl)
-no_frames stream (c ∷ cs) run = let more = no_frames stream cs run.2 in (rw run.1.0 more.0, rw run.1.1 more.1)
+no_frames : (names : Names) (cs : List Chunk) → Run (TakesMovi names) tt cs tt → (those (barred_in names) cs ≡ []) × (those (frame_in names) cs ≡ [])
+no_frames names [] run = (refl, refl)
+no_frames names (c ∷ cs) run = let more = no_frames names cs run.2 in (rw run.1.0 more.0, rw run.1.1 more.1)
 
-none_framed : (stream : ℕ) (cs : List Chunk) → AreChunks cs → Run (TakesMovi stream) tt cs tt → AreFrames (frame_name stream) cs []
-none_framed stream cs each run =
-    let none = no_frames stream cs run in
-    record { each = each; no_list = none.0; those_of = ap (map (λ (c : Chunk). c.bytes)) none.1; sized = tt }
+none_framed : (names : Names) (cs : List Chunk) → AreChunks cs → Run (TakesMovi names) tt cs tt → AreFrames names cs []
+none_framed names cs each run =
+    let none = no_frames names cs run in
+    record { each = each; none_barred = none.0; those_of = ap (map (λ (c : Chunk). c.bytes)) none.1; sized = tt }
 
-frames_more : (stream : ℕ) (before behind : List Chunk) (c : Chunk) (frames : List (List ℕ)) → AreChunks before → Run (TakesMovi stream) tt before tt → IsChunk c → is_named (codes "LIST") c ≡ false → is_named (frame_name stream) c ≡ true → length c.bytes ≤ limit → 0 < length c.bytes →
-    AreFrames (frame_name stream) behind frames → AreFrames (frame_name stream) (before ++ c ∷ behind) (c.bytes ∷ frames)
-frames_more stream before behind c frames each run is list named short some more =
-    let none = no_frames stream before run in
-    let lists : those (is_named (codes "LIST")) (before ++ c ∷ behind) ≡ [] = those_both (is_named (codes "LIST")) before (c ∷ behind) ∙ rw (none.0, list) more.no_list in
-    let there : those (is_named (frame_name stream)) (before ++ c ∷ behind) ≡ c ∷ those (is_named (frame_name stream)) behind = those_both (is_named (frame_name stream)) before (c ∷ behind) ∙ rw (none.1, named) refl in
-    let all : map (λ (c : Chunk). c.bytes) (those (is_named (frame_name stream)) (before ++ c ∷ behind)) ≡ c.bytes ∷ frames = ap (map (λ (c : Chunk). c.bytes)) there ∙ ap (λ z. c.bytes ∷ z) more.those_of in
-    record { each = chunks_both before (c ∷ behind) each (is, more.each); no_list = lists; those_of = all; sized = (some, short, more.sized) }
+frames_more : (names : Names) (before behind : List Chunk) (c : Chunk) (frames : List (List ℕ)) → AreChunks before → Run (TakesMovi names) tt before tt → IsChunk c → barred_in names c ≡ false → frame_in names c ≡ true → length c.bytes ≤ limit → 0 < length c.bytes →
+    AreFrames names behind frames → AreFrames names (before ++ c ∷ behind) (c.bytes ∷ frames)
+frames_more names before behind c frames each run is list named short some more =
+    let none = no_frames names before run in
+    let lists : those (barred_in names) (before ++ c ∷ behind) ≡ [] = those_both (barred_in names) before (c ∷ behind) ∙ rw (none.0, list) more.none_barred in
+    let there : those (frame_in names) (before ++ c ∷ behind) ≡ c ∷ those (frame_in names) behind = those_both (frame_in names) before (c ∷ behind) ∙ rw (none.1, named) refl in
+    let all : map (λ (c : Chunk). c.bytes) (those (frame_in names) (before ++ c ∷ behind)) ≡ c.bytes ∷ frames = ap (map (λ (c : Chunk). c.bytes)) there ∙ ap (λ z. c.bytes ∷ z) more.those_of in
+    record { each = chunks_both before (c ∷ behind) each (is, more.each); none_barred = lists; those_of = all; sized = (some, short, more.sized) }
 
 -- the frames after the end of a movi
 abbrev pub frames_on : Option Place → Reading (List (List ℕ))
@@ -192,7 +198,7 @@ frames_after place = moved place >>= frames_on
 
 -- a position where movi has so many bytes left, and so many frames are owed
 abbrev pub placed : Place → ℕ → ℕ → Place
-placed place movi owed = record { input = place.input; riff = place.riff; movi = movi; stream = place.stream; owed = owed }
+placed place movi owed = record { input = place.input; riff = place.riff; movi = movi; names = place.names; owed = owed }
 
 -- what is after a movi does not hang on its bytes
 begun_same : (place : Place) (movi : ℕ) (text : List ℕ) → riff_begun place text ≡ riff_begun (placed place movi place.owed) text
@@ -206,7 +212,7 @@ begun_same place movi text = on_name (name_or_end place.owed text)
 
 moved_by_same : (extent : Extent) (place : Place) (movi : ℕ) (text : List ℕ) → moved_by extent place text ≡ moved_by extent (placed place movi place.owed) text
 moved_by_same FirstMovi place movi text = refl
-moved_by_same EveryRiff place movi text = on_found (movi_sought place.riff text)
+moved_by_same EveryRiff place movi text = on_found (movi_sought place.names place.riff text)
   where
     on_found : (z : Result (Option (ℕ × ℕ) × List ℕ) Stop) → read_on z (movi_or_riff place) ≡ read_on z (movi_or_riff (placed place movi place.owed))
     on_found (Err why) = refl
@@ -223,7 +229,7 @@ found_same place movi (Ok (Some p, rest)) = refl
 found_same place movi (Ok (None, rest)) = ap (λ z. read_on z (sought_on frame_found)) (moved_same place movi place.owed refl rest)
 
 -- no frame is left in movi
-pub frames_none : (place : Place) (text more : List ℕ) → movi_found place.stream place.movi text ≡ Ok (None, more) → frames_read place text ≡ frames_after place more
+pub frames_none : (place : Place) (text more : List ℕ) → movi_found place.names place.movi text ≡ Ok (None, more) → frames_read place text ≡ frames_after place more
 frames_none place text more is =
     frames_step place text
     ∙ ap (λ z. read_on (read_on z found_read) (more_frames frames_read)) (frame_step place text ∙ ap (λ z. read_on z (found_or_on frame_found place)) is)
@@ -235,8 +241,8 @@ frames_none place text more is =
     on_moved (Ok (Some p, rest)) = sym (frames_step p rest)
 
 -- or one is
-pub frame_next : (place : Place) (text : List ℕ) (p : List ℕ × ℕ) (rest : List ℕ) → movi_read place.stream place.movi text ≡ Ok (Some p, rest) → frame_read place text ≡ Ok (Some (p.0, frame_at place p.1), rest)
-frame_next place text p rest h = ap (λ z. read_on z found_read) (frame_step place text) ∙ on_found (movi_found place.stream place.movi text) h
+pub frame_next : (place : Place) (text : List ℕ) (p : List ℕ × ℕ) (rest : List ℕ) → movi_read place.names place.movi text ≡ Ok (Some p, rest) → frame_read place text ≡ Ok (Some (p.0, frame_at place p.1), rest)
+frame_next place text p rest h = ap (λ z. read_on z found_read) (frame_step place text) ∙ on_found (movi_found place.names place.movi text) h
   where
     Framed : Type 0
     Framed = Option (List ℕ × Place) × List ℕ
@@ -262,7 +268,7 @@ pub record MoviPart (place : Place) (text : List ℕ) (frames : List (List ℕ))
   pub later : List (List ℕ)
   pub text_is : text ≡ chunks_text chunks ++ more
   pub long : length (chunks_text chunks) ≡ place.movi
-  pub framed : AreFrames (frame_name place.stream) chunks here
+  pub framed : AreFrames place.names chunks here
   pub parted : frames ≡ here ++ later
   pub after : frames_after (placed place 0 (place.owed - length here)) more ≡ Ok (later, rest)
 
@@ -270,7 +276,7 @@ err_is_no_ok : {X : Type 0} (why : Stop) (p : X × List ℕ) → ◌≡◌ {A = 
 err_is_no_ok why p e = absurd (cc)
 
 -- what the record says of a first frame and of the others
-part_more : (place : Place) (text bytes : List ℕ) (left : ℕ) (more : List ℕ) (frames : List (List ℕ)) (rest : List ℕ) → IsNext place.stream place.movi text bytes left more → MoviPart (frame_at place left) more frames rest → MoviPart place text (bytes ∷ frames) rest
+part_more : (place : Place) (text bytes : List ℕ) (left : ℕ) (more : List ℕ) (frames : List (List ℕ)) (rest : List ℕ) → IsNext place.names place.movi text bytes left more → MoviPart (frame_at place left) more frames rest → MoviPart place text (bytes ∷ frames) rest
 part_more place text bytes left more frames rest next part =
     let c = next.frame in
     let chunks = next.chunks ++ c ∷ part.chunks in
@@ -279,8 +285,8 @@ part_more place text bytes left more frames rest next part =
     let long : length (chunks_text chunks) ≡ place.movi = ap length apart ∙ length-append (chunks_text next.chunks) (chunk_text c ++ chunks_text part.chunks) ∙ (omega (arith, next.long, part.long, length-append (chunk_text c) (chunks_text part.chunks))) in
     let short : length c.bytes ≤ limit = rw next.bytes_are next.short in
     let some : 0 < length c.bytes = rw next.bytes_are next.some in
-    let framed = frames_more place.stream next.chunks part.chunks c part.here next.each next.run next.is next.no_list next.named short some part.framed in
-    let Q : List ℕ → Type 0 = λ b. AreFrames (frame_name place.stream) chunks (b ∷ part.here) in
+    let framed = frames_more place.names next.chunks part.chunks c part.here next.each next.run next.is next.none_barred next.named short some part.framed in
+    let Q : List ℕ → Type 0 = λ b. AreFrames place.names chunks (b ∷ part.here) in
     let owes : place.owed - 1 - length part.here ≡ place.owed - suc (length part.here) = omega arith in
     let R : ℕ → Type 0 = λ n. frames_after (placed place 0 n) part.more ≡ Ok (part.later, rest) in
     record { chunks = chunks; more = part.more; here = bytes ∷ part.here; later = part.later; text_is = whole; long = long; framed = subst Q next.bytes_are framed; parted = ap (λ z. bytes ∷ z) part.parted; after = subst R owes part.after }
@@ -292,7 +298,7 @@ abbrev Shorter : Place → Type 0
 Shorter place = (p : Place) (more : List ℕ) (v : List (List ℕ) × List ℕ) → p.movi < place.movi → frames_read p more ≡ Ok v → MoviPart p more v.0 v.1
 
 part_step : (place : Place) (text : List ℕ) (w : List (List ℕ) × List ℕ) → Shorter place → frames_read place text ≡ Ok w → MoviPart place text w.0 w.1
-part_step place text w again h = on_found (movi_found place.stream place.movi text) refl
+part_step place text w again h = on_found (movi_found place.names place.movi text) refl
   where
     P : List (List ℕ) × List ℕ → Type 0
     P z = MoviPart place text z.0 z.1
@@ -300,15 +306,15 @@ part_step place text w again h = on_found (movi_found place.stream place.movi te
     read : read_on (frame_read place text) (more_frames frames_read) ≡ Ok w
     read = sym (frames_step place text) ∙ h
 
-    on_found : (z : Result (Option (ℕ × ℕ) × List ℕ) Stop) → movi_found place.stream place.movi text ≡ z → P w
+    on_found : (z : Result (Option (ℕ × ℕ) × List ℕ) Stop) → movi_found place.names place.movi text ≡ z → P w
     on_found (Err why) is =
         let none : frame_read place text ≡ Err why = ap (λ z. read_on z found_read) (frame_step place text ∙ ap (λ z. read_on z (found_or_on frame_found place)) is) in
         absurd (err_is_no_ok why w (sym (ap (λ z. read_on z (more_frames frames_read)) none) ∙ read))
     on_found (Ok (None, more)) is =
-        let end = movi_read_sound place.stream place.movi text (None, more) (ap (λ z. read_on z movi_frame) is) in
+        let end = movi_read_sound place.names place.movi text (None, more) (ap (λ z. read_on z movi_frame) is) in
         let after : frames_after place more ≡ Ok w = sym (frames_none place text more is) ∙ h in
         let same : frames_after (placed place 0 (place.owed - 0)) more ≡ Ok w = ap (λ z. read_on z frames_on) (sym (moved_same place 0 (place.owed - 0) (omega arith) more)) ∙ after in
-        record { chunks = end.chunks; more = more; here = []; later = w.0; text_is = end.text_is; long = end.long; framed = none_framed place.stream end.chunks end.each end.run; parted = refl; after = same }
+        record { chunks = end.chunks; more = more; here = []; later = w.0; text_is = end.text_is; long = end.long; framed = none_framed place.names end.chunks end.each end.run; parted = refl; after = same }
     on_found (Ok (Some y, more)) is =
         let found : frame_read place text ≡ (content Kept y.0 >>= λ bytes. given (Some (bytes, frame_at place y.1))) more = ap (λ z. read_on z found_read) (frame_step place text ∙ ap (λ z. read_on z (found_or_on frame_found place)) is) in
         let first = read_on_ok (frame_read place text) (more_frames frames_read) w read in
@@ -317,8 +323,8 @@ part_step place text w again h = on_found (movi_found place.stream place.movi te
         let behind = second.0.1 in
         let p : List ℕ × ℕ = (bytes, y.1) in
         let q : List ℕ × Place = (bytes, frame_at place y.1) in
-        let there : movi_read place.stream place.movi text ≡ Ok (Some p, behind) = ap (λ z. read_on z movi_frame) is ∙ ap (λ z. read_on z (λ bytes. given (Some (bytes, y.1)))) second.1 in
-        let next = movi_read_sound place.stream place.movi text (Some p, behind) there in
+        let there : movi_read place.names place.movi text ≡ Ok (Some p, behind) = ap (λ z. read_on z movi_frame) is ∙ ap (λ z. read_on z (λ bytes. given (Some (bytes, y.1)))) second.1 in
+        let next = movi_read_sound place.names place.movi text (Some p, behind) there in
         let Q : Option (List ℕ × Place) × List ℕ → Type 0 = λ z. more_frames frames_read z.0 z.1 ≡ Ok w in
         let others : (frames_read (frame_at place y.1) >>= λ frames. given (bytes ∷ frames)) behind ≡ Ok w = subst Q (sym (ok_is (Some q, behind) first.0 second.2)) first.2 in
         let third = read_on_ok (frames_read (frame_at place y.1) behind) (λ frames. given (bytes ∷ frames)) w others in
@@ -336,18 +342,18 @@ pub movi_part : (place : Place) (text : List ℕ) (w : List (List ℕ) × List �
 movi_part place text w h = movi_part_up_to place.movi place text w (omega arith) h
 
 -- a chunk that is no frame is passed
-pub movi_passed : (stream : ℕ) (c : Chunk) (more : ℕ) (rest : List ℕ) → IsChunk c → is_named (codes "LIST") c ≡ false → is_named (frame_name stream) c ≡ false → movi_found stream (length (chunk_text c) + more) (chunk_text c ++ rest) ≡ movi_found stream more rest
+pub movi_passed : (names : Names) (c : Chunk) (more : ℕ) (rest : List ℕ) → IsChunk c → barred_in names c ≡ false → frame_in names c ≡ false → movi_found names (length (chunk_text c) + more) (chunk_text c ++ rest) ≡ movi_found names more rest
 unfolding movi_found
-movi_passed stream c more rest is list named =
+movi_passed names c more rest is list named =
     let one : chunks_text (c ∷ []) ≡ chunk_text c = append-nil (chunk_text c) in
-    let walked = walk_complete (visit_movi stream) (TakesMovi stream) (movi_complete stream) (c ∷ []) tt tt more rest (is, tt) (tt, (list, named), refl) in
-    let alone : walk (visit_movi stream) (length (chunk_text c) + more) tt (chunk_text c ++ rest) ≡ walk (visit_movi stream) more tt rest = rw one at walked in
+    let walked = walk_complete (visit_movi names) (TakesMovi names) (movi_complete names) (c ∷ []) tt tt more rest (is, tt) (tt, (list, named), refl) in
+    let alone : walk (visit_movi names) (length (chunk_text c) + more) tt (chunk_text c ++ rest) ≡ walk (visit_movi names) more tt rest = rw one at walked in
     ap (λ z. read_on z (λ p. given p.1)) alone
 
 -- a frame is read
-pub movi_there : (stream : ℕ) (c : Chunk) (more : ℕ) (rest : List ℕ) → IsChunk c → is_named (codes "LIST") c ≡ false → is_named (frame_name stream) c ≡ true → length c.bytes ≤ limit → 0 < length c.bytes → movi_read stream (length (chunk_text c) + more) (chunk_text c ++ rest) ≡ Ok (Some (c.bytes, more), rest)
+pub movi_there : (names : Names) (c : Chunk) (more : ℕ) (rest : List ℕ) → IsChunk c → barred_in names c ≡ false → frame_in names c ≡ true → length c.bytes ≤ limit → 0 < length c.bytes → movi_read names (length (chunk_text c) + more) (chunk_text c ++ rest) ≡ Ok (Some (c.bytes, more), rest)
 unfolding movi_found visit_movi
-movi_there stream c more rest is list named short some =
+movi_there names c more rest is list named short some =
     let left = length (chunk_text c) + more in
     let size = little_number 4 c.size in
     let total : length (chunk_text c) ≡ 8 + padded (length c.bytes) = omega (arith, is.named, is.sized, is.padded, length-append ((c.name ++ c.size) ++ c.bytes) c.padding, length-append (c.name ++ c.size) c.bytes, length-append c.name c.size) in
@@ -359,11 +365,11 @@ movi_there stream c more rest is list named short some =
     ap (entry_read left) whole ∙ entry_complete left c.name c.size ((c.bytes ++ c.padding) ++ rest) is.named is.sized (rw (← counted) (omega (arith, total))) (λ l. rw is.counted (is.listed l)) in
     let fits : nat_lt limit size ≡ false = le-ltb _ _ (rw is.counted short) in
     let not_none : (size == 0) ≡ false = ne_eqb _ _ (λ z. omega (arith, some, is.counted, z)) in
-    let stop : visit_movi stream tt e ((c.bytes ++ c.padding) ++ rest) ≡ Ok ((tt, Some (size, e.left)), (c.bytes ++ c.padding) ++ rest) = rw (list, named, fits, not_none) refl in
+    let stop : visit_movi names tt e ((c.bytes ++ c.padding) ++ rest) ≡ Ok ((tt, Some (size, e.left)), (c.bytes ++ c.padding) ++ rest) = rw (list, named, fits, not_none) refl in
     let read : content Kept size ((c.bytes ++ c.padding) ++ rest) ≡ Ok (c.bytes, rest) = content_complete Kept size c.bytes c.padding rest counted (rw is.counted is.padded) in
-    ap (λ z. read_on (read_on z (λ p. given p.1)) movi_frame) (walk_step (visit_movi stream) left tt (chunk_text c ++ rest))
-    ∙ ap (λ z. read_on (read_on (read_on z (visited (visit_movi stream) (walk (visit_movi stream)) tt)) (λ p. given p.1)) movi_frame) entry
-    ∙ ap (λ z. read_on (read_on (read_on z (λ p. resumed (walk (visit_movi stream) e.left) p.0 p.1)) (λ p. given p.1)) movi_frame) stop
+    ap (λ z. read_on (read_on z (λ p. given p.1)) movi_frame) (walk_step (visit_movi names) left tt (chunk_text c ++ rest))
+    ∙ ap (λ z. read_on (read_on (read_on z (visited (visit_movi names) (walk (visit_movi names)) tt)) (λ p. given p.1)) movi_frame) entry
+    ∙ ap (λ z. read_on (read_on (read_on z (λ p. resumed (walk (visit_movi names) e.left) p.0 p.1)) (λ p. given p.1)) movi_frame) stop
     ∙ ap (λ z. read_on z (λ bytes. given (Some (bytes, e.left)))) read
     ∙ rw behind refl
   where
@@ -371,32 +377,32 @@ movi_there stream c more rest is list named short some =
     regrouped a b c d e = simp append_assoc
 
 -- at a position whose movi begins with such a chunk
-pub frames_passed : (place : Place) (c : Chunk) (more : ℕ) (rest : List ℕ) → IsChunk c → is_named (codes "LIST") c ≡ false → is_named (frame_name place.stream) c ≡ false →
+pub frames_passed : (place : Place) (c : Chunk) (more : ℕ) (rest : List ℕ) → IsChunk c → barred_in place.names c ≡ false → frame_in place.names c ≡ false →
     frame_found (placed place (length (chunk_text c) + more) place.owed) (chunk_text c ++ rest) ≡ frame_found (placed place more place.owed) rest
 frames_passed place c more rest is list named =
     let here = placed place (length (chunk_text c) + more) place.owed in
     frame_step here (chunk_text c ++ rest)
-    ∙ ap (λ z. read_on z (found_or_on frame_found here)) (movi_passed place.stream c more rest is list named)
-    ∙ found_same here more (movi_found place.stream more rest)
+    ∙ ap (λ z. read_on z (found_or_on frame_found here)) (movi_passed place.names c more rest is list named)
+    ∙ found_same here more (movi_found place.names more rest)
     ∙ sym (frame_step (placed place more place.owed) rest)
 
 abbrev pub bytes_of : List Chunk → List (List ℕ)
 bytes_of cs = map (λ (c : Chunk). c.bytes) cs
 
 -- the frames of chunks are read, and then those after them
-pub movi_frames : (place : Place) (cs : List Chunk) (owed : ℕ) (rest : List ℕ) → AreChunks cs → those (is_named (codes "LIST")) cs ≡ [] → AreSized (bytes_of (those (is_named (frame_name place.stream)) cs)) →
+pub movi_frames : (place : Place) (cs : List Chunk) (owed : ℕ) (rest : List ℕ) → AreChunks cs → those (barred_in place.names) cs ≡ [] → AreSized (bytes_of (those (frame_in place.names) cs)) →
     frames_read (placed place (length (chunks_text cs)) owed) (chunks_text cs ++ rest)
-    ≡ read_on (frames_after (placed place 0 (owed - length (bytes_of (those (is_named (frame_name place.stream)) cs)))) rest) (λ frames. given (bytes_of (those (is_named (frame_name place.stream)) cs) ++ frames))
-movi_frames place [] owed rest each no_list sized =
-    frames_none (placed place 0 owed) rest rest (movi_empty place.stream rest)
+    ≡ read_on (frames_after (placed place 0 (owed - length (bytes_of (those (frame_in place.names) cs)))) rest) (λ frames. given (bytes_of (those (frame_in place.names) cs) ++ frames))
+movi_frames place [] owed rest each none_barred sized =
+    frames_none (placed place 0 owed) rest rest (movi_empty place.names rest)
     ∙ ap (λ z. read_on z frames_on) (moved_same (placed place 0 owed) 0 (owed - 0) (omega arith) rest)
     ∙ given_same (frames_after (placed place 0 (owed - 0)) rest)
   where
     given_same : (z : Result (List (List ℕ) × List ℕ) Stop) → z ≡ read_on z (λ frames. given ([] ++ frames))
     given_same (Ok p) = refl
     given_same (Err why) = refl
-movi_frames place (c ∷ cs) owed rest each no_list sized =
-    on_names (is_named (codes "LIST") c) (is_named (frame_name place.stream) c) refl refl (λ o l s. movi_frames place cs o rest each.1 l s)
+movi_frames place (c ∷ cs) owed rest each none_barred sized =
+    on_names (barred_in place.names c) (frame_in place.names c) refl refl (λ o l s. movi_frames place cs o rest each.1 l s)
   where
     behind : List ℕ
     behind = chunks_text cs ++ rest
@@ -405,13 +411,13 @@ movi_frames place (c ∷ cs) owed rest each no_list sized =
     more = length (chunks_text cs)
 
     these : List Chunk → List (List ℕ)
-    these xs = bytes_of (those (is_named (frame_name place.stream)) xs)
+    these xs = bytes_of (those (frame_in place.names) xs)
 
     Later : ℕ → List Chunk → Result (List (List ℕ) × List ℕ) Stop
     Later o xs = read_on (frames_after (placed place 0 (o - length (these xs))) rest) (λ frames. given (these xs ++ frames))
 
     Again : Type 0
-    Again = (o : ℕ) → those (is_named (codes "LIST")) cs ≡ [] → AreSized (these cs) → frames_read (placed place more o) behind ≡ Later o cs
+    Again = (o : ℕ) → those (barred_in place.names) cs ≡ [] → AreSized (these cs) → frames_read (placed place more o) behind ≡ Later o cs
 
     whole : frames_read (placed place (length (chunks_text (c ∷ cs))) owed) (chunks_text (c ∷ cs) ++ rest) ≡ frames_read (placed place (length (chunk_text c) + more) owed) (chunk_text c ++ behind)
     whole = ap (λ n. frames_read (placed place n owed) (chunks_text (c ∷ cs) ++ rest)) (length-append (chunk_text c) (chunks_text cs)) ∙ ap (frames_read (placed place (length (chunk_text c) + more) owed)) (append_assoc (chunk_text c) (chunks_text cs) rest)
@@ -420,10 +426,10 @@ movi_frames place (c ∷ cs) owed rest each no_list sized =
     one_more (Ok p) = refl
     one_more (Err why) = refl
 
-    on_names : (a b : Bool) → is_named (codes "LIST") c ≡ a → is_named (frame_name place.stream) c ≡ b → Again → frames_read (placed place (length (chunks_text (c ∷ cs))) owed) (chunks_text (c ∷ cs) ++ rest) ≡ Later owed (c ∷ cs)
-    on_names true b p q again = let gone : c ∷ those (is_named (codes "LIST")) cs ≡ [] = rw p at no_list in absurd (cc)
+    on_names : (a b : Bool) → barred_in place.names c ≡ a → frame_in place.names c ≡ b → Again → frames_read (placed place (length (chunks_text (c ∷ cs))) owed) (chunks_text (c ∷ cs) ++ rest) ≡ Later owed (c ∷ cs)
+    on_names true b p q again = let gone : c ∷ those (barred_in place.names) cs ≡ [] = rw p at none_barred in absurd (cc)
     on_names false false p q again =
-        let later = again owed (rw p at no_list) (rw q at sized) in
+        let later = again owed (rw p at none_barred) (rw q at sized) in
         let here = placed place (length (chunk_text c) + more) owed in
         rw q
         (whole
@@ -434,25 +440,25 @@ movi_frames place (c ∷ cs) owed rest each no_list sized =
     on_names false true p q again =
         let here = placed place (length (chunk_text c) + more) owed in
         let sizes = rw q at sized in
-        let later = again (owed - 1) (rw p at no_list) sizes.2 in
+        let later = again (owed - 1) (rw p at none_barred) sizes.2 in
         let owes : owed - 1 - length (these cs) ≡ owed - suc (length (these cs)) = omega arith in
         rw q
         (whole
         ∙ frames_step here (chunk_text c ++ behind)
-        ∙ ap (λ z. read_on z (more_frames frames_read)) (frame_next here (chunk_text c ++ behind) (c.bytes, more) behind (movi_there place.stream c more behind each.0 p q sizes.1 sizes.0))
+        ∙ ap (λ z. read_on z (more_frames frames_read)) (frame_next here (chunk_text c ++ behind) (c.bytes, more) behind (movi_there place.names c more behind each.0 p q sizes.1 sizes.0))
         ∙ ap (λ z. read_on z (λ frames. given (c.bytes ∷ frames))) later
         ∙ one_more (frames_after (placed place 0 (owed - 1 - length (these cs))) rest)
         ∙ ap (λ n. read_on (frames_after (placed place 0 n) rest) (λ frames. given (c.bytes ∷ (these cs ++ frames)))) owes)
 
 -- where the first movi alone is read
 abbrev pub in_movi : ℕ → Place
-in_movi left = first_place FirstMovi 0 left 0 0
+in_movi left = first_place FirstMovi 0 left Any 0
 
 pub record ReadFrames (left : ℕ) (text : List ℕ) (frames : List (List ℕ)) (rest : List ℕ) : Type 0 where
   pub chunks : List Chunk
   pub text_is : text ≡ chunks_text chunks ++ rest
   pub long : length (chunks_text chunks) ≡ left
-  pub framed : AreFrames (codes "00dc") chunks frames
+  pub framed : AreFrames Any chunks frames
 
 pub frames_sound : (left : ℕ) (text : List ℕ) (w : List (List ℕ) × List ℕ) → frames_read (in_movi left) text ≡ Ok w → ReadFrames left text w.0 w.1
 frames_sound left text w h =
@@ -461,14 +467,14 @@ frames_sound left text w h =
     let both = ok_is ([], part.more) (part.later, w.1) (sym end ∙ part.after) in
     let none : part.later ≡ [] = sym (ap (λ (z : List (List ℕ) × List ℕ). z.0) both) in
     let all : part.here ≡ w.0 = sym (part.parted ∙ ap (λ z. part.here ++ z) none ∙ append-nil part.here) in
-    let P : List (List ℕ) → Type 0 = λ z. AreFrames (codes "00dc") part.chunks z in
+    let P : List (List ℕ) → Type 0 = λ z. AreFrames Any part.chunks z in
     record { chunks = part.chunks; text_is = part.text_is ∙ ap (λ z. chunks_text part.chunks ++ z) (ap (λ (z : List (List ℕ) × List ℕ). z.1) both); long = part.long; framed = subst P all part.framed }
 
-pub frames_complete : (chunks : List Chunk) (frames : List (List ℕ)) (rest : List ℕ) → AreFrames (codes "00dc") chunks frames → frames_read (in_movi (length (chunks_text chunks))) (chunks_text chunks ++ rest) ≡ Ok (frames, rest)
+pub frames_complete : (chunks : List Chunk) (frames : List (List ℕ)) (rest : List ℕ) → AreFrames Any chunks frames → frames_read (in_movi (length (chunks_text chunks))) (chunks_text chunks ++ rest) ≡ Ok (frames, rest)
 frames_complete chunks frames rest are =
     let P : List (List ℕ) → Type 0 = λ z. AreSized z in
-    let here = bytes_of (those (is_named (codes "00dc")) chunks) in
+    let here = bytes_of (those (frame_in Any) chunks) in
     let end : (frames_after (placed (in_movi 0) 0 (0 - length here))) rest ≡ Ok ([], rest) = ap (λ z. read_on z frames_on) (moved_first (placed (in_movi 0) 0 (0 - length here)) refl rest) in
-    movi_frames (in_movi 0) chunks 0 rest are.each are.no_list (subst P (sym are.those_of) are.sized)
+    movi_frames (in_movi 0) chunks 0 rest are.each are.none_barred (subst P (sym are.those_of) are.sized)
     ∙ ap (λ z. read_on z (λ frames. given (here ++ frames))) end
     ∙ ap (λ z. Ok (z, rest)) (append-nil here ∙ are.those_of)

@@ -5,7 +5,7 @@ use Rattle.std.specs.Cmp.Lexicographic.{same_text}
 use Rattle.ffv1_avi.specs.declared.place.Extent.{Extent}
 use Rattle.ffv1_avi.specs.declared.place.Extent.TheVariants.{FirstMovi, EveryRiff}
 use Rattle.ffv1_avi.specs.Chunks.{AreChunks, AreOthers, Chunk, IsOther, IsStream, SaysOther, chunks_text, is_list, those}
-use Rattle.ffv1_avi.specs.Files.{Headers, extended_read, extended_visited, header_named, header_read, list_skipped, no_headers, stream_known, stream_visited, visit_header}
+use Rattle.ffv1_avi.specs.Files.{Headers, extended_read, extended_visited, header_named, header_read, list_skipped, no_headers, stream_came, stream_known, stream_visited, visit_header}
 use Rattle.ffv1_reads.specs.Head.{Head}
 use Rattle.ffv1_reads.specs.Reads.{Reading, given, passed, read_on, taken, ◌>>=◌}
 use Rattle.ffv1_avi.specs.Padding.{padded}
@@ -36,7 +36,7 @@ StreamTakes extent s None true bytes t = (o : Option Head) × (t ≡ stream_know
 
 -- what is known with a number of frames
 abbrev pub with_frames : Headers → Option ℕ → Headers
-with_frames s n = record { passed = s.passed; head = s.head; frames = n }
+with_frames s n = record { passed = s.passed; head = s.head; frames = n; streams = s.streams }
 
 abbrev pub ExtendedTakes : Extent → Headers → List ℕ → Headers → Type 0
 ExtendedTakes FirstMovi s bytes t = t ≡ s
@@ -45,7 +45,7 @@ ExtendedTakes EveryRiff s bytes t =
 
 abbrev pub HeaderTakes : Extent → Bool → Bool → Bool → Headers → List ℕ → Headers → Type 0
 HeaderTakes extent false b d s bytes t = t ≡ s
-HeaderTakes extent true true d s bytes t = StreamTakes extent s s.head (nat_lt s.passed 100) bytes t
+HeaderTakes extent true true d s bytes t = StreamTakes extent (stream_came extent s) s.head (nat_lt s.passed 100) bytes t
 HeaderTakes extent true false true s bytes t = ExtendedTakes extent s bytes t
 HeaderTakes extent true false false s bytes t = t ≡ s
 
@@ -66,21 +66,24 @@ header_sound extent s e text t rest listed h = on_list (is_name e.name (codes "L
     T : Taking Headers
     T = TakesHeader extent
 
-    on_rest : (own more : List ℕ) → is_name e.name (codes "LIST") ≡ true → text ≡ own ++ more → length own ≡ 4 → ((bytes : List ℕ) → T s e.name (own ++ bytes) s) → list_skipped {Y = ⊥} s e.size more ≡ Ok ((t, None), rest) → IsPassed T s e t text rest
-    on_rest own more list whole four takes k =
-        let first = read_on_ok (passed (padded e.size - 4) more) (λ _. given (s, None)) ((t, None), rest) k in
+    on_rest : (u : Headers) (own more : List ℕ) → is_name e.name (codes "LIST") ≡ true → text ≡ own ++ more → length own ≡ 4 → ((bytes : List ℕ) → T s e.name (own ++ bytes) u) → list_skipped {Y = ⊥} u e.size more ≡ Ok ((t, None), rest) → IsPassed T s e t text rest
+    on_rest u own more list whole four takes k =
+        let first = read_on_ok (passed (padded e.size - 4) more) (λ _. given (u, None)) ((t, None), rest) k in
         let c = list_skip_sound e.size own more first.0 (listed list) four first.1 in
-        let here : IsPassed T s e s text first.0.1 = record { bytes = own ++ c.0; padding = c.1.padding; text_is = whole ∙ c.1.text_is; long = c.1.long; padded_by = c.1.odd; takes = takes c.0 } in
+        let here : IsPassed T s e u text first.0.1 = record { bytes = own ++ c.0; padding = c.1.padding; text_is = whole ∙ c.1.text_is; long = c.1.long; padded_by = c.1.odd; takes = takes c.0 } in
         let P : Z → Type 0 = λ z. IsPassed T s e z.0.0 text z.1 in
-        subst P (ok_is ((s, None), first.0.1) ((t, None), rest) first.2) here
+        subst P (ok_is ((u, None), first.0.1) ((t, None), rest) first.2) here
+
+    came : Headers
+    came = stream_came extent s
 
     on_few : (own more : List ℕ) → s.head ≡ None → nat_lt s.passed 100 ≡ true → is_name e.name (codes "LIST") ≡ true → is_name own (codes "strl") ≡ true → text ≡ own ++ more → length own ≡ 4 →
-        (stream_read extent (e.size - 4) >>= stream_end s e.size) more ≡ Ok ((t, None), rest) → IsPassed T s e t text rest
+        (stream_read extent (e.size - 4) >>= stream_end came e.size) more ≡ Ok ((t, None), rest) → IsPassed T s e t text rest
     on_few own more is few list strl whole four k =
         let room : 4 ≤ e.size = listed list in
-        let first = read_on_ok (stream_read extent (e.size - 4) more) (stream_end s e.size) ((t, None), rest) k in
+        let first = read_on_ok (stream_read extent (e.size - 4) more) (stream_end came e.size) ((t, None), rest) k in
         let stream = stream_sound extent (e.size - 4) more first.0 first.1 in
-        let next = stream_known s first.0.0 in
+        let next = stream_known came first.0.0 in
         let second = read_on_ok (passed (e.size % 2) first.0.1) (λ _. given (next, None)) ((t, None), rest) first.2 in
         let gone = passed_sound (e.size % 2) first.0.1 second.0 second.1 in
         let fields = stream.0 in
@@ -97,16 +100,16 @@ header_sound extent s e text t rest listed h = on_list (is_name e.name (codes "L
         regrouped : (a b c d : List ℕ) → a ++ (b ++ (c ++ d)) ≡ ((a ++ b) ++ c) ++ d
         regrouped a b c d = simp append_assoc
 
-    on_stream : (o : Option Head) (b : Bool) (own more : List ℕ) → s.head ≡ o → nat_lt s.passed 100 ≡ b → is_name e.name (codes "LIST") ≡ true → is_name own (codes "strl") ≡ true → text ≡ own ++ more → length own ≡ 4 → stream_visited extent s e.size o more ≡ Ok ((t, None), rest) → IsPassed T s e t text rest
+    on_stream : (o : Option Head) (b : Bool) (own more : List ℕ) → s.head ≡ o → nat_lt s.passed 100 ≡ b → is_name e.name (codes "LIST") ≡ true → is_name own (codes "strl") ≡ true → text ≡ own ++ more → length own ≡ 4 → stream_visited extent came e.size o more ≡ Ok ((t, None), rest) → IsPassed T s e t text rest
     on_stream (Some head) b own more is few list strl whole four k =
-        on_rest own more list whole four (λ bytes. rw (list, cut_front 4 own bytes four, strl, is) refl) k
+        on_rest came own more list whole four (λ bytes. rw (list, cut_front 4 own bytes four, strl, is) refl) k
     on_stream None false own more is few list strl whole four k =
-        on_rest own more list whole four (λ bytes. rw (list, cut_front 4 own bytes four, strl, is, few) refl) (rw few at k)
+        on_rest came own more list whole four (λ bytes. rw (list, cut_front 4 own bytes four, strl, is, few) refl) (rw few at k)
     on_stream None true own more is few list strl whole four k = on_few own more is few list strl whole four (rw few at k)
 
     on_extended : (x : Extent) (own more : List ℕ) → extent ≡ x → is_name e.name (codes "LIST") ≡ true → is_name own (codes "strl") ≡ false → is_name own (codes "odml") ≡ true → text ≡ own ++ more → length own ≡ 4 → extended_visited x s e.size more ≡ Ok ((t, None), rest) → IsPassed T s e t text rest
     on_extended FirstMovi own more is list strl odml whole four k =
-        on_rest own more list whole four (λ bytes. rw (list, cut_front 4 own bytes four, strl, odml, is) refl) k
+        on_rest s own more list whole four (λ bytes. rw (list, cut_front 4 own bytes four, strl, odml, is) refl) k
     on_extended EveryRiff own more is list strl odml whole four k =
         let room : 4 ≤ e.size = listed list in
         let first = read_on_ok (extended_read s.frames e.size more) (λ frames. given (with_frames s frames, None)) ((t, None), rest) k in
@@ -128,7 +131,7 @@ header_sound extent s e text t rest listed h = on_list (is_name e.name (codes "L
     on_own : (own more : List ℕ) (b d : Bool) → is_name own (codes "strl") ≡ b → is_name own (codes "odml") ≡ d → is_name e.name (codes "LIST") ≡ true → text ≡ own ++ more → length own ≡ 4 → header_named extent s e.size own more ≡ Ok ((t, None), rest) → IsPassed T s e t text rest
     on_own own more true d strl odml list whole four k = on_stream s.head (nat_lt s.passed 100) own more refl refl list strl whole four (rw strl at k)
     on_own own more false true strl odml list whole four k = on_extended extent own more refl list strl odml whole four (rw (strl, odml) at k)
-    on_own own more false false strl odml list whole four k = on_rest own more list whole four (λ bytes. rw (list, cut_front 4 own bytes four, strl, odml) refl) (rw (strl, odml) at k)
+    on_own own more false false strl odml list whole four k = on_rest s own more list whole four (λ bytes. rw (list, cut_front 4 own bytes four, strl, odml) refl) (rw (strl, odml) at k)
 
     on_list : (a : Bool) → is_name e.name (codes "LIST") ≡ a → visit_header extent s e text ≡ Ok ((t, None), rest) → IsPassed T s e t text rest
     on_list false p h = skipped_passed {Y = ⊥} T s e text t rest (λ bytes. rw p refl) (rw p at h)
@@ -147,8 +150,11 @@ header_complete extent s e bytes padding t rest listed long odd takes = on_list 
     inner : List ℕ
     inner = (drop 4 bytes ++ padding) ++ rest
 
-    skip : 4 ≤ e.size → list_skipped {Y = ⊥} s e.size inner ≡ Ok ((s, None), rest)
-    skip room = ap (λ z. read_on z (λ _. given (s, None))) (list_skip_complete e.size bytes padding rest room long odd)
+    came : Headers
+    came = stream_came extent s
+
+    skip : (u : Headers) → 4 ≤ e.size → list_skipped {Y = ⊥} u e.size inner ≡ Ok ((u, None), rest)
+    skip u room = ap (λ z. read_on z (λ _. given (u, None))) (list_skip_complete e.size bytes padding rest room long odd)
 
     stream_is : (x : Extent) (fields : List Chunk) (o : Option Head) → AreChunks fields → SaysThat x fields o → stream_read x (length (chunks_text fields)) (chunks_text fields ++ (padding ++ rest)) ≡ Ok (o, padding ++ rest)
     stream_is x fields (Some head) each says = stream_complete x fields head (padding ++ rest) each says
@@ -157,7 +163,7 @@ header_complete extent s e bytes padding t rest listed long odd takes = on_list 
         let Q : Extent → Type 0 = λ z. SaysOther z fields in
         subst P (sym says.0) (stream_other fields (padding ++ rest) each (subst Q says.0 says.1))
 
-    on_few : 4 ≤ e.size → (o : Option Head) → t ≡ stream_known s o → StreamBytes extent bytes o → (stream_read extent (e.size - 4) >>= stream_end s e.size) inner ≡ Ok ((t, None), rest)
+    on_few : 4 ≤ e.size → (o : Option Head) → t ≡ stream_known came o → StreamBytes extent bytes o → (stream_read extent (e.size - 4) >>= stream_end came e.size) inner ≡ Ok ((t, None), rest)
     on_few room o is has =
         let fields = has.fields in
         let behind : drop 4 bytes ≡ chunks_text fields = ap (drop 4) has.bytes_are ∙ cut_back 4 (codes "strl") (chunks_text fields) refl in
@@ -165,16 +171,16 @@ header_complete extent s e bytes padding t rest listed long odd takes = on_list 
         let whole : inner ≡ chunks_text fields ++ (padding ++ rest) = append_assoc (drop 4 bytes) padding rest ∙ ap (λ z. z ++ (padding ++ rest)) behind in
         let read : stream_read extent (e.size - 4) inner ≡ Ok (o, padding ++ rest) = ap (stream_read extent (e.size - 4)) whole ∙ ap (λ n. stream_read extent n (chunks_text fields ++ (padding ++ rest))) count ∙ stream_is extent fields o has.each has.says in
         rw is
-        (ap (λ z. read_on z (stream_end s e.size)) read
-        ∙ ap (λ z. read_on z (λ _. given (stream_known s o, None))) (passed_complete (e.size % 2) padding rest odd))
+        (ap (λ z. read_on z (stream_end came e.size)) read
+        ∙ ap (λ z. read_on z (λ _. given (stream_known came o, None))) (passed_complete (e.size % 2) padding rest odd))
 
-    on_stream : (o : Option Head) (b : Bool) → nat_lt s.passed 100 ≡ b → 4 ≤ e.size → StreamTakes extent s o b bytes t → stream_visited extent s e.size o inner ≡ Ok ((t, None), rest)
-    on_stream (Some head) b few room takes = rw takes (skip room)
-    on_stream None false few room takes = rw (few, takes) (skip room)
+    on_stream : (o : Option Head) (b : Bool) → nat_lt s.passed 100 ≡ b → 4 ≤ e.size → StreamTakes extent came o b bytes t → stream_visited extent came e.size o inner ≡ Ok ((t, None), rest)
+    on_stream (Some head) b few room takes = rw takes (skip came room)
+    on_stream None false few room takes = rw (few, takes) (skip came room)
     on_stream None true few room takes = rw few (on_few room takes.0 takes.1 takes.2)
 
     on_extended : (x : Extent) → 4 ≤ e.size → ExtendedTakes x s bytes t → extended_visited x s e.size inner ≡ Ok ((t, None), rest)
-    on_extended FirstMovi room takes = rw takes (skip room)
+    on_extended FirstMovi room takes = rw takes (skip s room)
     on_extended EveryRiff room takes =
         let chunks = takes.0 in
         let behind : drop 4 bytes ≡ chunks_text chunks = ap (drop 4) takes.1 ∙ cut_back 4 (codes "odml") (chunks_text chunks) refl in
@@ -193,7 +199,7 @@ header_complete extent s e bytes padding t rest listed long odd takes = on_list 
         rw p (ap (λ z. read_on z (header_named extent s e.size)) own ∙ rw (q, r) (on_extended extent (listed p) (rw (p, q, r) at takes)))
     on_list true false false p q r takes =
         let own = own_taken e.size bytes padding rest (listed p) long in
-        rw (p, rw (p, q, r) at takes) (ap (λ z. read_on z (header_named extent s e.size)) own ∙ rw (q, r) (skip (listed p)))
+        rw (p, rw (p, q, r) at takes) (ap (λ z. read_on z (header_named extent s e.size)) own ∙ rw (q, r) (skip s (listed p)))
 
 -- the list hdrl after its own name
 pub header_read_sound : (extent : Extent) (s : Headers) (size : ℕ) (text : List ℕ) (p : Headers × List ℕ) → header_read extent s size text ≡ Ok p → IsList (TakesHeader extent) s size text p.0 p.1
@@ -219,8 +225,11 @@ run_kept extent (c ∷ cs) s t head some run =
     same : (m : Headers) → m ≡ s → (m.head ≡ s.head) × (m.passed ≡ s.passed)
     same m is = (ap (λ (z : Headers). z.head) is, ap (λ (z : Headers). z.passed) is)
 
-    on_stream : (o : Option Head) (b : Bool) (m : Headers) → s.head ≡ o → StreamTakes extent s o b c.bytes m → (m.head ≡ s.head) × (m.passed ≡ s.passed)
-    on_stream (Some x) b m is takes = same m takes
+    came : (m : Headers) → m ≡ stream_came extent s → (m.head ≡ s.head) × (m.passed ≡ s.passed)
+    came m is = (ap (λ (z : Headers). z.head) is, ap (λ (z : Headers). z.passed) is)
+
+    on_stream : (o : Option Head) (b : Bool) (m : Headers) → s.head ≡ o → StreamTakes extent (stream_came extent s) o b c.bytes m → (m.head ≡ s.head) × (m.passed ≡ s.passed)
+    on_stream (Some x) b m is takes = came m takes
     on_stream None b m is takes = absurd (no_head head (sym some ∙ is))
 
     on_extended : (x : Extent) (m : Headers) → ExtendedTakes x s c.bytes m → (m.head ≡ s.head) × (m.passed ≡ s.passed)
@@ -243,9 +252,12 @@ run_many extent (c ∷ cs) s t none many run =
     same : (m : Headers) → m ≡ s → (m.head ≡ s.head) × (m.passed ≡ s.passed)
     same m is = (ap (λ (z : Headers). z.head) is, ap (λ (z : Headers). z.passed) is)
 
-    on_stream : (o : Option Head) (b : Bool) (m : Headers) → s.head ≡ o → nat_lt s.passed 100 ≡ b → StreamTakes extent s o b c.bytes m → (m.head ≡ s.head) × (m.passed ≡ s.passed)
-    on_stream (Some x) b m is few takes = same m takes
-    on_stream None false m is few takes = same m takes
+    came : (m : Headers) → m ≡ stream_came extent s → (m.head ≡ s.head) × (m.passed ≡ s.passed)
+    came m is = (ap (λ (z : Headers). z.head) is, ap (λ (z : Headers). z.passed) is)
+
+    on_stream : (o : Option Head) (b : Bool) (m : Headers) → s.head ≡ o → nat_lt s.passed 100 ≡ b → StreamTakes extent (stream_came extent s) o b c.bytes m → (m.head ≡ s.head) × (m.passed ≡ s.passed)
+    on_stream (Some x) b m is few takes = came m takes
+    on_stream None false m is few takes = came m takes
     on_stream None true m is few takes = let gone : true ≡ false = sym few ∙ many in absurd (cc)
 
     on_extended : (x : Extent) (m : Headers) → ExtendedTakes x s c.bytes m → (m.head ≡ s.head) × (m.passed ≡ s.passed)
@@ -289,7 +301,7 @@ run_streams extent (c ∷ cs) s t head none some run =
     same : (m : Headers) → m ≡ s → (m.head ≡ s.head) × (m.passed ≡ s.passed)
     same m is = (ap (λ (z : Headers). z.head) is, ap (λ (z : Headers). z.passed) is)
 
-    on_found : (o : Option Head) (m : Headers) → nat_lt s.passed 100 ≡ true → m ≡ stream_known s o → StreamBytes extent c.bytes o → is_list (codes "strl") c ≡ true → Run (TakesHeader extent) m cs t → Again → Goal
+    on_found : (o : Option Head) (m : Headers) → nat_lt s.passed 100 ≡ true → m ≡ stream_known (stream_came extent s) o → StreamBytes extent c.bytes o → is_list (codes "strl") c ≡ true → Run (TakesHeader extent) m cs t → Again → Goal
     on_found (Some x) m few is has list r again =
         let kept = run_kept extent cs m t x (ap (λ (z : Headers). z.head) is) r in
         let one : x ≡ head = some_is x head (sym kept.0 ∙ some) in
@@ -304,12 +316,12 @@ run_streams extent (c ∷ cs) s t head none some run =
         let other : IsOther extent c = record { extent_is = has.says.0; fields = has.fields; bytes = has.bytes_are; each = has.each; says = has.says.1 } in
         rw list (record { before = c ∷ more.before; stream = more.stream; after = more.after; parted = ap (λ z. c ∷ z) more.parted; others = (other, more.others); is = more.is; number = omega (arith, more.number, passed); few = more.few })
 
-    on_stream : (o : Option Head) (b : Bool) (m : Headers) → s.head ≡ o → nat_lt s.passed 100 ≡ b → StreamTakes extent s o b c.bytes m → is_list (codes "strl") c ≡ true → Run (TakesHeader extent) m cs t → Again → Goal
+    on_stream : (o : Option Head) (b : Bool) (m : Headers) → s.head ≡ o → nat_lt s.passed 100 ≡ b → StreamTakes extent (stream_came extent s) o b c.bytes m → is_list (codes "strl") c ≡ true → Run (TakesHeader extent) m cs t → Again → Goal
     on_stream (Some x) b m is few takes list r again = absurd (no_head x (sym is ∙ none))
     on_stream None true m is few takes list r again = on_found takes.0 m few takes.1 takes.2 list r again
     on_stream None false m is few takes list r again =
         let P : Headers → Type 0 = λ z. Run (TakesHeader extent) z cs t in
-        absurd (no_head head (sym some ∙ run_many extent cs s t none few (subst P takes r)))
+        absurd (no_head head (sym some ∙ run_many extent cs (stream_came extent s) t none few (subst P takes r)))
 
     on_extended : (x : Extent) (m : Headers) → ExtendedTakes x s c.bytes m → (m.head ≡ s.head) × (m.passed ≡ s.passed)
     on_extended FirstMovi m takes = same m takes
@@ -332,16 +344,24 @@ run_none (c ∷ cs) s none = on_list (is_name c.name (codes "LIST")) (is_name (t
     on_list true false false p q r go = (s, rw (p, q, r) refl, go (rw (p, q) at none))
     on_list true true d p q r go = let gone : c ∷ those (is_list (codes "strl")) cs ≡ [] = rw (p, q) at none in absurd (cc)
 
+-- where the first movi alone is read streams are not counted
+first_came : (s : Headers) → s ≡ stream_came FirstMovi s
+first_came s = refl
+
 -- after the first stream all are passed
 pub run_keep : (cs : List Chunk) (s : Headers) (head : Head) → s.head ≡ Some head → Run (TakesHeader FirstMovi) s cs s
 run_keep [] s head some = refl
 run_keep (c ∷ cs) s head some = (s, takes (is_name c.name (codes "LIST")) (is_name (take 4 c.bytes) (codes "strl")) (is_name (take 4 c.bytes) (codes "odml")), run_keep cs s head some)
   where
+    kept : (o : Option Head) (b : Bool) → o ≡ Some head → StreamTakes FirstMovi (stream_came FirstMovi s) o b c.bytes s
+    kept None b is = absurd (no_head head (sym is))
+    kept (Some x) b is = first_came s
+
     takes : (a b d : Bool) → HeaderTakes FirstMovi a b d s c.bytes s
     takes false b d = refl
     takes true false true = refl
     takes true false false = refl
-    takes true true d = rw some refl
+    takes true true d = kept s.head (nat_lt s.passed 100) some
 
 abbrev pub headed : Head → Headers
 headed head = stream_known no_headers (Some head)

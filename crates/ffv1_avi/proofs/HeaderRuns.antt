@@ -3,12 +3,12 @@ use Rattle.std.proofs.Common.{◌≡◌, ◌⊎◌, inl, inr, ℕ, ◌+◌, ◌<
 use Rattle.std.proofs.lemmas.Bool.{lt-ltb}
 use Rattle.ffv1_avi.specs.declared.place.Extent.TheVariants.{EveryRiff}
 use Rattle.ffv1_avi.specs.Chunks.{AreOthers, Chunk, IsStream, first_of, is_list, is_named, those, total_next}
-use Rattle.ffv1_avi.specs.Files.{Headers, stream_known}
+use Rattle.ffv1_avi.specs.Files.{Headers, stream_came, stream_known}
 use Rattle.ffv1_reads.specs.Head.{Head}
 use Rattle.ffv1_avi.specs.Riffs.{AreExtended, is_total}
 use Rattle.ffv1_avi.specs.Walk.{is_name}
 use Rattle.ffv1_avi.proofs.FrameLaws.{those_both}
-use Rattle.ffv1_avi.proofs.HeaderLaws.{StreamBytes, TakesHeader, with_frames}
+use Rattle.ffv1_avi.proofs.HeaderLaws.{StreamBytes, StreamTakes, TakesHeader, with_frames}
 use Rattle.ffv1_avi.proofs.ListWalks.{Run}
 use Rattle.ffv1_avi.proofs.StreamLaws.{one_name}
 use Rattle.ffv1_avi.proofs.TotalLaws.{TakesTotal}
@@ -72,23 +72,35 @@ heads (c ∷ cs) s inners o n counts extended =
     passing : (m : Headers) → m.frames ≡ s.frames → TakesHeader EveryRiff s c.name c.bytes m → Heads m cs inners o n → Heads s (c ∷ cs) inners o n
     passing m same takes more = record { known = more.known; run = (m, takes, more.run); head_is = more.head_is; number = more.number; frames_are = more.frames_are ∙ ap (λ z. total_after z (first_of (those is_total (all_of inners)))) same }
 
-    known_frames : (x : Option Head) → (stream_known s x).frames ≡ s.frames
+    came : Headers
+    came = stream_came EveryRiff s
+
+    no_some : {b : Bool} (x : Head) → ◌≡◌ {A = Option Head} (Some x) None → b ≡ false
+    no_some x is = absurd (cc)
+
+    -- a stream that is passed
+    stays : (o : Option Head) (b : Bool) → (o ≡ None → b ≡ false) → StreamTakes EveryRiff came o b c.bytes came
+    stays (Some x) b none = refl
+    stays None false none = refl
+    stays None true none = let gone : true ≡ false = none refl in absurd (cc)
+
+    known_frames : (x : Option Head) → (stream_known came x).frames ≡ s.frames
     known_frames None = refl
     known_frames (Some head) = refl
 
-    known_counts : (x : Option Head) → Counts x (number_after s.passed x) (those (is_list (codes "strl")) cs) o n → Counts (stream_known s x).head (stream_known s x).passed (those (is_list (codes "strl")) cs) o n
+    known_counts : (x : Option Head) → Counts x (number_after s.passed x) (those (is_list (codes "strl")) cs) o n → Counts (stream_known came x).head (stream_known came x).passed (those (is_list (codes "strl")) cs) o n
     known_counts None k = k
     known_counts (Some head) k = k
 
     on_stream : (x : Option Head) → s.head ≡ x → is_name c.name (codes "LIST") ≡ true → is_name (take 4 c.bytes) (codes "strl") ≡ true → Counts x s.passed (c ∷ those (is_list (codes "strl")) cs) o n → AreExtended (those (is_list (codes "odml")) cs) inners → Again → Heads s (c ∷ cs) inners o n
     on_stream (Some x) is p q k extended again =
         let next : Counts s.head s.passed (those (is_list (codes "strl")) cs) o n = rw is k in
-        passing s refl (rw (p, q, is) refl) (again s inners next extended)
+        passing came refl (rw (p, q) (stays s.head (nat_lt s.passed 100) (λ z. no_some x (sym is ∙ z)))) (again came inners next extended)
     on_stream None is p q (inl (many, none, same)) extended again =
         let next : Counts s.head s.passed (those (is_list (codes "strl")) cs) o n = rw is (counts_many s.passed (those (is_list (codes "strl")) cs) o n many none same) in
-        passing s refl (rw (p, q, is, many) refl) (again s inners next extended)
+        passing came refl (rw (p, q) (stays s.head (nat_lt s.passed 100) (λ z. many))) (again came inners next extended)
     on_stream None is p q (inr (few, x, bytes, more)) extended again =
-        passing (stream_known s x) (known_frames x) (rw (p, q, is, few) (x, refl, bytes)) (again (stream_known s x) inners (known_counts x more) extended)
+        passing (stream_known came x) (known_frames x) (rw (p, q, is, few) (x, refl, bytes)) (again (stream_known came x) inners (known_counts x more) extended)
 
     on_extended : (is : List (List Chunk)) → is_name c.name (codes "LIST") ≡ true → is_name (take 4 c.bytes) (codes "strl") ≡ false → is_name (take 4 c.bytes) (codes "odml") ≡ true → Counts s.head s.passed (those (is_list (codes "strl")) cs) o n → AreExtended (c ∷ those (is_list (codes "odml")) cs) is → Again → Heads s (c ∷ cs) is o n
     on_extended [] p q r k extended again = absurd extended

@@ -5,9 +5,11 @@ mod ChunkByChunk
 mod Moves
 mod FrameTurns
 pub mod ListWalks
+mod ListedNames
 pub mod PassedBytes
 pub mod Fields
-pub mod StreamLaws
+pub mod StreamCounts
+mod StreamLaws
 pub mod InnerLists
 pub mod TotalLaws
 pub mod HeaderLaws

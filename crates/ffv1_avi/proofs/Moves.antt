@@ -5,7 +5,7 @@ use Rattle.byteorder.specs.Endian.{little_number}
 use Rattle.ffv1_avi.specs.declared.chunk.Entry.{Entry}
 use Rattle.ffv1_avi.specs.declared.place.Extent.TheVariants.{FirstMovi, EveryRiff}
 use Rattle.ffv1_avi.specs.declared.place.Place.{Place}
-use Rattle.ffv1_avi.specs.Files.{found_read, frame_found, frame_found_up_to, frame_read, frame_name, found_or_on, moved, moved_by, movi_found, movi_or_riff, movi_sought, name_or_end, riff_begun, riff_judged, riff_list, riff_named, sought_on, visit_movi, visit_riff}
+use Rattle.ffv1_avi.specs.Files.{found_read, frame_found, frame_found_up_to, frame_read, found_or_on, moved, moved_by, movi_found, movi_or_riff, movi_sought, name_or_end, riff_begun, riff_judged, riff_list, riff_named, sought_on, visit_movi, visit_riff}
 use Rattle.ffv1_avi.specs.Places.{amount, extent_of, frame_at, movi_at, riff_at}
 use Rattle.ffv1_reads.specs.Reads.{Stop, given, passed, read_on, taken, ◌>>=◌}
 use Rattle.ffv1_avi.specs.Padding.{padded}
@@ -14,6 +14,9 @@ use Rattle.ffv1_avi.specs.Walk.{Visit, entry_read, is_name, resumed, visited, wa
 use Rattle.ffv1_avi.proofs.ListWalks.{entry_sound}
 use Rattle.ffv1_reads.proofs.Results.{read_on_ok}
 use Rattle.ffv1_reads.proofs.Results.{ok_is, some_is}
+use Rattle.ffv1_avi.specs.declared.place.Names.{Names}
+use Rattle.ffv1_avi.specs.Names.{is_barred}
+use Rattle.ffv1_avi.specs.Names.{is_frame}
 
 no_some : {X : Type 0} (x : X) → ◌≡◌ {A = Option X} (Some x) None → ⊥
 no_some x e = absurd (cc)
@@ -58,9 +61,9 @@ walk_given {S = S} {Y = Y} visit left s text y rest h =
     (first.0.0.0, subst P same first.1)
 
 -- the bytes of a movi, and those that RIFF has after it, are fewer than RIFF had
-riff_stop : (s : Unit {0}) (e : Entry) (text : List ℕ) (t : Unit {0}) (y : ℕ × ℕ) (rest : List ℕ) → visit_riff s e text ≡ Ok ((t, Some y), rest) → (y.0 ≡ e.size - 4) × (y.1 ≡ e.left)
+riff_stop : (names : Names) (s : Unit {0}) (e : Entry) (text : List ℕ) (t : Unit {0}) (y : ℕ × ℕ) (rest : List ℕ) → visit_riff names s e text ≡ Ok ((t, Some y), rest) → (y.0 ≡ e.size - 4) × (y.1 ≡ e.left)
 unfolding visit_riff
-riff_stop s e text t y rest h = on_list (is_name e.name (codes "LIST")) refl h
+riff_stop names s e text t y rest h = on_list (is_name e.name (codes "LIST")) refl h
   where
     Z : Type 0
     Z = (Unit {0} × Option (ℕ × ℕ)) × List ℕ
@@ -74,20 +77,24 @@ riff_stop s e text t y rest h = on_list (is_name e.name (codes "LIST")) refl h
         let first = read_on_ok (passed (padded e.size - 4) more) (λ _. given (tt, None)) ((t, Some y), rest) (rw p at k) in
         absurd (no_some y (sym (ap (λ (z : Z). z.0.1) (ok_is ((tt, None), first.0.1) ((t, Some y), rest) first.2))))
 
-    on_list : (a : Bool) → is_name e.name (codes "LIST") ≡ a → visit_riff s e text ≡ Ok ((t, Some y), rest) → (y.0 ≡ e.size - 4) × (y.1 ≡ e.left)
-    on_list false p h =
-        let first = read_on_ok (passed (padded e.size) text) (λ _. given (s, None)) ((t, Some y), rest) (rw p at h) in
-        absurd (no_some y (sym (ap (λ (z : Z). z.0.1) (ok_is ((s, None), first.0.1) ((t, Some y), rest) first.2))))
+    on_list : (a : Bool) → is_name e.name (codes "LIST") ≡ a → visit_riff names s e text ≡ Ok ((t, Some y), rest) → (y.0 ≡ e.size - 4) × (y.1 ≡ e.left)
+    on_list false p h = on_frame (is_frame names e.name) refl p h
+      where
+        on_frame : (b : Bool) → is_frame names e.name ≡ b → is_name e.name (codes "LIST") ≡ false → visit_riff names s e text ≡ Ok ((t, Some y), rest) → (y.0 ≡ e.size - 4) × (y.1 ≡ e.left)
+        on_frame true q p h = absurd (cc (rw (p, q) at h))
+        on_frame false q p h =
+            let first = read_on_ok (passed (padded e.size) text) (λ _. given (s, None)) ((t, Some y), rest) (rw (p, q) at h) in
+            absurd (no_some y (sym (ap (λ (z : Z). z.0.1) (ok_is ((s, None), first.0.1) ((t, Some y), rest) first.2))))
     on_list true p h =
         let first = read_on_ok (taken 4 text) (riff_list e.left e.size) ((t, Some y), rest) (rw p at h) in
         on_own first.0.0 first.0.1 (is_name first.0.0 (codes "movi")) refl first.2
 
-sought_less : (left : ℕ) (text : List ℕ) (y : ℕ × ℕ) (rest : List ℕ) → movi_sought left text ≡ Ok (Some y, rest) → y.0 + y.1 + 8 ≤ left
+sought_less : (names : Names) (left : ℕ) (text : List ℕ) (y : ℕ × ℕ) (rest : List ℕ) → movi_sought names left text ≡ Ok (Some y, rest) → y.0 + y.1 + 8 ≤ left
 unfolding movi_sought
-sought_less left text y rest h =
-    let walked = walk_given visit_riff left tt text y rest h in
-    let stop = stops_up_to visit_riff left left tt text walked.0 y rest walked.1 in
-    let movi = riff_stop stop.state stop.entry stop.text walked.0 y rest stop.is in
+sought_less names left text y rest h =
+    let walked = walk_given (visit_riff names) left tt text y rest h in
+    let stop = stops_up_to (visit_riff names) left left tt text walked.0 y rest walked.1 in
+    let movi = riff_stop names stop.state stop.entry stop.text walked.0 y rest stop.is in
     omega (arith, stop.fits, movi.0, movi.1)
 
 -- the next RIFF is counted
@@ -134,7 +141,7 @@ pub moved_first : (place : Place) → place.input ≡ 0 → (text : List ℕ) �
 unfolding moved
 moved_first place none text = ap (λ z. moved_by z place text) (extent_first place none)
 
-pub moved_every : (place : Place) → (place.input ≡ 0 → ⊥) → (text : List ℕ) → moved place text ≡ (movi_sought place.riff >>= movi_or_riff place) text
+pub moved_every : (place : Place) → (place.input ≡ 0 → ⊥) → (text : List ℕ) → moved place text ≡ (movi_sought place.names place.riff >>= movi_or_riff place) text
 unfolding moved
 moved_every place some text = ap (λ z. moved_by z place text) (extent_every place some)
 
@@ -145,14 +152,14 @@ moved_less place next text rest h = on_input (place.input == 0) refl
     Goal : Type 0
     Goal = (amount next < amount place) × (extent_of next ≡ extent_of place)
 
-    on_found : (o : Option (ℕ × ℕ)) (more : List ℕ) → (place.input ≡ 0 → ⊥) → movi_sought place.riff text ≡ Ok (o, more) → movi_or_riff place o more ≡ Ok (Some next, rest) → Goal
+    on_found : (o : Option (ℕ × ℕ)) (more : List ℕ) → (place.input ≡ 0 → ⊥) → movi_sought place.names place.riff text ≡ Ok (o, more) → movi_or_riff place o more ≡ Ok (Some next, rest) → Goal
     on_found None more some is k =
         let begun = begun_less place next more rest k in
         (omega (arith, begun.0), extent_every next (λ e. omega (arith, e, begun.1)) ∙ sym (extent_every place some))
     on_found (Some p) more some is k =
         let made = movi_at place p in
         let same : made ≡ next = some_is made next (ap (λ (z : Option Place × List ℕ). z.0) (ok_is (Some made, more) (Some next, rest) k)) in
-        let less = sought_less place.riff text p more is in
+        let less = sought_less place.names place.riff text p more is in
         let P : Place → Type 0 = λ z. (amount z < amount place) × (extent_of z ≡ extent_of place) in
         subst P same (omega (arith, less), refl)
 
@@ -160,18 +167,18 @@ moved_less place next text rest h = on_input (place.input == 0) refl
     on_input true e = absurd (no_some next (sym (ap (λ (z : Option Place × List ℕ). z.0) (ok_is (None, text) (Some next, rest) (sym (moved_first place (eqb-true place.input 0 e) text) ∙ h)))))
     on_input false e =
         let some : place.input ≡ 0 → ⊥ = eqb-false place.input 0 e in
-        let first = read_on_ok (movi_sought place.riff text) (movi_or_riff place) (Some next, rest) (sym (moved_every place some text) ∙ h) in
+        let first = read_on_ok (movi_sought place.names place.riff text) (movi_or_riff place) (Some next, rest) (sym (moved_every place some text) ∙ h) in
         on_found first.0.0 first.0.1 some first.1 first.2
 
 -- the frame at which the walk of a movi stops
-movi_stop_at : (stream : ℕ) (s : Unit {0}) (e : Entry) (text : List ℕ) (t : Unit {0}) (y : ℕ × ℕ) (rest : List ℕ) → visit_movi stream s e text ≡ Ok ((t, Some y), rest) → (y.0 ≡ e.size) × (y.1 ≡ e.left)
+movi_stop_at : (names : Names) (s : Unit {0}) (e : Entry) (text : List ℕ) (t : Unit {0}) (y : ℕ × ℕ) (rest : List ℕ) → visit_movi names s e text ≡ Ok ((t, Some y), rest) → (y.0 ≡ e.size) × (y.1 ≡ e.left)
 unfolding visit_movi
-movi_stop_at stream s e text t y rest h = on_names (is_name e.name (codes "LIST")) (is_name e.name (frame_name stream)) (nat_lt limit e.size) (e.size == 0) refl refl refl refl h
+movi_stop_at names s e text t y rest h = on_names (is_barred names e.name) (is_frame names e.name) (nat_lt limit e.size) (e.size == 0) refl refl refl refl h
   where
     Z : Type 0
     Z = (Unit {0} × Option (ℕ × ℕ)) × List ℕ
 
-    on_names : (a b c d : Bool) → is_name e.name (codes "LIST") ≡ a → is_name e.name (frame_name stream) ≡ b → nat_lt limit e.size ≡ c → (e.size == 0) ≡ d → visit_movi stream s e text ≡ Ok ((t, Some y), rest) → (y.0 ≡ e.size) × (y.1 ≡ e.left)
+    on_names : (a b c d : Bool) → is_barred names e.name ≡ a → is_frame names e.name ≡ b → nat_lt limit e.size ≡ c → (e.size == 0) ≡ d → visit_movi names s e text ≡ Ok ((t, Some y), rest) → (y.0 ≡ e.size) × (y.1 ≡ e.left)
     on_names true b c d p q r z h = absurd (cc (rw p at h))
     on_names false true true d p q r z h = absurd (cc (rw (p, q, r) at h))
     on_names false true false true p q r z h = absurd (cc (rw (p, q, r, z) at h))
@@ -183,12 +190,12 @@ movi_stop_at stream s e text t y rest h = on_names (is_name e.name (codes "LIST"
         let first = read_on_ok (passed (padded e.size) text) (λ _. given (tt, None)) ((t, Some y), rest) (rw (p, q) at h) in
         absurd (no_some y (sym (ap (λ (m : Z). m.0.1) (ok_is ((tt, None), first.0.1) ((t, Some y), rest) first.2))))
 
-found_less : (stream left : ℕ) (text : List ℕ) (y : ℕ × ℕ) (rest : List ℕ) → movi_found stream left text ≡ Ok (Some y, rest) → y.0 + y.1 + 8 ≤ left
+found_less : (names : Names) (left : ℕ) (text : List ℕ) (y : ℕ × ℕ) (rest : List ℕ) → movi_found names left text ≡ Ok (Some y, rest) → y.0 + y.1 + 8 ≤ left
 unfolding movi_found
-found_less stream left text y rest h =
-    let walked = walk_given (visit_movi stream) left tt text y rest h in
-    let stop = stops_up_to (visit_movi stream) left left tt text walked.0 y rest walked.1 in
-    let frame = movi_stop_at stream stop.state stop.entry stop.text walked.0 y rest stop.is in
+found_less names left text y rest h =
+    let walked = walk_given (visit_movi names) left tt text y rest h in
+    let stop = stops_up_to (visit_movi names) left left tt text walked.0 y rest walked.1 in
+    let frame = movi_stop_at names stop.state stop.entry stop.text walked.0 y rest stop.is in
     omega (arith, stop.fits, frame.0, frame.1)
 
 -- less is left after a frame, and as much is read
@@ -198,7 +205,7 @@ frame_up_to_less zero place next size text rest h =
     let y : ℕ × Place = (size, next) in
     absurd (no_some y (sym (ap (λ (z : Option (ℕ × Place) × List ℕ). z.0) (ok_is (None, text) (Some y, rest) h))))
 frame_up_to_less (suc most) place next size text rest h =
-    let first = read_on_ok (movi_found place.stream place.movi text) (found_or_on (frame_found_up_to most) place) (Some (size, next), rest) h in
+    let first = read_on_ok (movi_found place.names place.movi text) (found_or_on (frame_found_up_to most) place) (Some (size, next), rest) h in
     on_found (λ p more k. frame_up_to_less most p next size more rest k) first.0.0 first.0.1 first.1 first.2
   where
     Goal : Type 0
@@ -217,14 +224,14 @@ frame_up_to_less (suc most) place next size text rest h =
         let less = moved_less place p more behind is in
         (omega (arith, later.0, less.0), later.1 ∙ less.1)
 
-    on_found : Again → (o : Option (ℕ × ℕ)) (more : List ℕ) → movi_found place.stream place.movi text ≡ Ok (o, more) → found_or_on (frame_found_up_to most) place o more ≡ Ok (Some (size, next), rest) → Goal
+    on_found : Again → (o : Option (ℕ × ℕ)) (more : List ℕ) → movi_found place.names place.movi text ≡ Ok (o, more) → found_or_on (frame_found_up_to most) place o more ≡ Ok (Some (size, next), rest) → Goal
     on_found again None more is k =
         let second = read_on_ok (moved place more) (sought_on (frame_found_up_to most)) (Some (size, next), rest) k in
         on_moved again second.0.0 more second.0.1 second.1 second.2
     on_found again (Some p) more is k =
         let x : ℕ × Place = (p.0, frame_at place p.1) in
         let same : x ≡ y = some_is x y (ap (λ (z : Option (ℕ × Place) × List ℕ). z.0) (ok_is (Some x, more) (Some y, rest) k)) in
-        let less = found_less place.stream place.movi text p more is in
+        let less = found_less place.names place.movi text p more is in
         let P : Place → Type 0 = λ z. (amount z < amount place) × (extent_of z ≡ extent_of place) in
         subst P (ap (λ (z : ℕ × Place). z.1) same) (omega (arith, less), refl)
 
@@ -233,17 +240,17 @@ unfolding frame_found
 frame_less_at place next size text rest h = frame_up_to_less (amount place) place next size text rest h
 
 -- an empty movi has no frame
-pub movi_empty : (stream : ℕ) (text : List ℕ) → movi_found stream 0 text ≡ Ok (None, text)
+pub movi_empty : (names : Names) (text : List ℕ) → movi_found names 0 text ≡ Ok (None, text)
 unfolding movi_found walk_up_to
-movi_empty stream text = refl
+movi_empty names text = refl
 
 -- where nothing is left there is no frame
 pub found_nothing : (most : ℕ) (place : Place) (text : List ℕ) → place.movi ≡ 0 → place.input ≡ 0 → frame_found_up_to most place text ≡ Ok (None, text)
 unfolding frame_found_up_to
 found_nothing zero place text movi input = refl
 found_nothing (suc most) place text movi input =
-    ap (λ n. read_on (movi_found place.stream n text) (found_or_on (frame_found_up_to most) place)) movi
-    ∙ ap (λ z. read_on z (found_or_on (frame_found_up_to most) place)) (movi_empty place.stream text)
+    ap (λ n. read_on (movi_found place.names n text) (found_or_on (frame_found_up_to most) place)) movi
+    ∙ ap (λ z. read_on z (found_or_on (frame_found_up_to most) place)) (movi_empty place.names text)
     ∙ ap (λ z. read_on z (sought_on (frame_found_up_to most))) (moved_first place input text)
 
 -- more lists than there can be make no difference
@@ -252,7 +259,7 @@ unfolding frame_found_up_to
 found_enough zero zero place text h k = refl
 found_enough zero (suc g) place text h k = sym (found_nothing (suc g) place text (omega (arith, h)) (omega (arith, h)))
 found_enough (suc f) zero place text h k = found_nothing (suc f) place text (omega (arith, k)) (omega (arith, k))
-found_enough (suc f) (suc g) place text h k = on_found (λ p more. found_enough f g p more) (movi_found place.stream place.movi text) refl
+found_enough (suc f) (suc g) place text h k = on_found (λ p more. found_enough f g p more) (movi_found place.names place.movi text) refl
   where
     Same : Type 0
     Same = (p : Place) (more : List ℕ) → amount p ≤ f → amount p ≤ g → frame_found_up_to f p more ≡ frame_found_up_to g p more
@@ -264,15 +271,15 @@ found_enough (suc f) (suc g) place text h k = on_found (λ p more. found_enough 
         let less = moved_less place p text rest is in
         same p rest (omega (arith, less.0, h)) (omega (arith, less.0, k))
 
-    on_found : Same → (z : Result (Option (ℕ × ℕ) × List ℕ) Stop) → movi_found place.stream place.movi text ≡ z → read_on z (found_or_on (frame_found_up_to f) place) ≡ read_on z (found_or_on (frame_found_up_to g) place)
+    on_found : Same → (z : Result (Option (ℕ × ℕ) × List ℕ) Stop) → movi_found place.names place.movi text ≡ z → read_on z (found_or_on (frame_found_up_to f) place) ≡ read_on z (found_or_on (frame_found_up_to g) place)
     on_found same (Err why) is = refl
     on_found same (Ok (Some p, rest)) is = refl
     on_found same (Ok (None, rest)) is = on_moved same rest (moved place rest) refl
 
 -- a frame is that of movi, or the first one after it
-pub frame_step : (place : Place) (text : List ℕ) → frame_found place text ≡ (movi_found place.stream place.movi >>= found_or_on frame_found place) text
+pub frame_step : (place : Place) (text : List ℕ) → frame_found place text ≡ (movi_found place.names place.movi >>= found_or_on frame_found place) text
 unfolding frame_found frame_found_up_to
-frame_step place text = found_enough (amount place) (suc (amount place)) place text (omega arith) (omega arith) ∙ on_found (movi_found place.stream place.movi text) refl
+frame_step place text = found_enough (amount place) (suc (amount place)) place text (omega arith) (omega arith) ∙ on_found (movi_found place.names place.movi text) refl
   where
     on_moved : (more : List ℕ) (z : Result (Option Place × List ℕ) Stop) → moved place more ≡ z → read_on z (sought_on (frame_found_up_to (amount place))) ≡ read_on z (sought_on frame_found)
     on_moved more (Err why) is = refl
@@ -281,7 +288,7 @@ frame_step place text = found_enough (amount place) (suc (amount place)) place t
         let less = moved_less place p more rest is in
         found_enough (amount place) (amount p) p rest (omega (arith, less.0)) (omega arith)
 
-    on_found : (z : Result (Option (ℕ × ℕ) × List ℕ) Stop) → movi_found place.stream place.movi text ≡ z → read_on z (found_or_on (frame_found_up_to (amount place)) place) ≡ read_on z (found_or_on frame_found place)
+    on_found : (z : Result (Option (ℕ × ℕ) × List ℕ) Stop) → movi_found place.names place.movi text ≡ z → read_on z (found_or_on (frame_found_up_to (amount place)) place) ≡ read_on z (found_or_on frame_found place)
     on_found (Err why) is = refl
     on_found (Ok (Some p, rest)) is = refl
     on_found (Ok (None, rest)) is = on_moved rest (moved place rest) refl

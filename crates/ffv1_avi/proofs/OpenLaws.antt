@@ -25,6 +25,7 @@ use Rattle.ffv1_reads.proofs.WantedBytes.{taken_complete, taken_sound}
 use Rattle.ffv1_avi.proofs.TopLaws.{TakesTop, top_complete, top_sound, top_stop}
 use Rattle.ffv1_reads.proofs.Results.{ok_is}
 use Rattle.ffv1_avi.proofs.ChunkByChunk.{walk_step}
+use Rattle.ffv1_avi.specs.declared.place.Names.TheVariants.{Closed}
 
 -- RIFF's chunks up to movi, where it has so many bytes for them, and so many after movi
 pub record IsTop (extent : Extent) (room : ℕ) (text : List ℕ) (y : Head × Place) (rest : List ℕ) : Type 0 where
@@ -39,7 +40,7 @@ pub record IsTop (extent : Extent) (room : ℕ) (text : List ℕ) (y : Head × P
   pub each : AreParts parts
   pub run : Run (TakesHeader extent) no_headers (flat_map header_chunks parts) known
   pub head : known.head ≡ Some y.0
-  pub place : y.1 ≡ first_place extent left (little_number 4 movi_size - 4) known.passed (owed known.frames)
+  pub place : y.1 ≡ first_place extent left (little_number 4 movi_size - 4) (Closed known.passed known.streams) (owed known.frames)
 
 top_read_sound : (extent : Extent) (room : ℕ) (text : List ℕ) (w : (Head × Place) × List ℕ) → top_read extent room text ≡ Ok w → IsTop extent room text w.0 w.1
 unfolding top_read
@@ -60,7 +61,7 @@ top_read_sound extent room text w h =
         let here : text ≡ parts_text parts.parts ++ ((codes "LIST" ++ entry.size ++ codes "movi") ++ rest) =
         whole ∙ ap (λ z. z ++ behind) parts.text ∙ ap (λ z. parts_text parts.parts ++ z) (entry.text_is ∙ ap (λ z. (z ++ entry.size) ++ end.1) named ∙ ap (λ z. (codes "LIST" ++ entry.size) ++ z) movi.text_is ∙ sym (append_assoc (codes "LIST" ++ entry.size) (codes "movi") rest)) in
         let four : 4 ≤ little_number 4 entry.size = rw entry.counted (entry.listed movi.list) in
-        let place : y.1 ≡ first_place extent e.left (little_number 4 entry.size - 4) last.passed (owed last.frames) = rw entry.counted movi.place in
+        let place : y.1 ≡ first_place extent e.left (little_number 4 entry.size - 4) (Closed last.passed last.streams) (owed last.frames) = rw entry.counted movi.place in
         let counted : length (parts_text parts.parts) + (8 + padded (little_number 4 entry.size)) + e.left ≡ room = rw entry.counted (omega (arith, long, entry.fits, ap length parts.text)) in
         let Q : (Head × Place) × List ℕ → Type 0 = λ z. IsTop extent room text z.0 z.1 in
         subst Q (ok_is (y, rest) w k) (record { parts = parts.parts; movi_size = entry.size; left = e.left; known = last; text_is = here; movi_sized = entry.sized; movi_named = four; counted = counted; each = parts.each; run = parts.run; head = movi.head; place = place })
@@ -101,7 +102,7 @@ open_sound extent text w h =
 
 pub top_read_complete : (extent : Extent) (room : ℕ) (parts : List Part) (movi_size : List ℕ) (left : ℕ) (known : Headers) (head : Head) (rest : List ℕ) → length movi_size ≡ 4 → 4 ≤ little_number 4 movi_size →
     length (parts_text parts) + (8 + padded (little_number 4 movi_size)) + left ≡ room → AreParts parts → Run (TakesHeader extent) no_headers (flat_map header_chunks parts) known → known.head ≡ Some head →
-    top_read extent room (parts_text parts ++ ((codes "LIST" ++ movi_size ++ codes "movi") ++ rest)) ≡ Ok ((head, first_place extent left (little_number 4 movi_size - 4) known.passed (owed known.frames)), rest)
+    top_read extent room (parts_text parts ++ ((codes "LIST" ++ movi_size ++ codes "movi") ++ rest)) ≡ Ok ((head, first_place extent left (little_number 4 movi_size - 4) (Closed known.passed known.streams) (owed known.frames)), rest)
 unfolding top_read visit_top
 top_read_complete extent room parts movi_size left known head rest sized named fits each run has =
     let size = little_number 4 movi_size in
@@ -122,11 +123,11 @@ top_read_complete extent room parts movi_size left known head rest sized named f
     ∙ ap (λ z. read_on (read_on z (visited (visit_top extent) (walk (visit_top extent)) known)) (λ p. opened p.1)) entry
     ∙ ap (λ z. read_on (read_on (read_on z (list_visited extent known e.left size)) on) (λ p. opened p.1)) own
     ∙ ap (λ z. read_on (read_on (movi_reached extent known e.left size z rest) on) (λ p. opened p.1)) has
-    ∙ ap (λ n. Ok ((head, first_place extent n (size - 4) known.passed (owed known.frames)), rest)) after
+    ∙ ap (λ n. Ok ((head, first_place extent n (size - 4) (Closed known.passed known.streams) (owed known.frames)), rest)) after
 
 pub open_complete : (extent : Extent) (riff_size : List ℕ) (parts : List Part) (movi_size : List ℕ) (left : ℕ) (known : Headers) (head : Head) (rest : List ℕ) → length riff_size ≡ 4 → length movi_size ≡ 4 → 4 ≤ little_number 4 movi_size →
     4 + length (parts_text parts) + (8 + padded (little_number 4 movi_size)) + left ≡ little_number 4 riff_size → AreParts parts → Run (TakesHeader extent) no_headers (flat_map header_chunks parts) known → known.head ≡ Some head →
-    open_read extent ((codes "RIFF" ++ riff_size ++ codes "AVI ") ++ (parts_text parts ++ ((codes "LIST" ++ movi_size ++ codes "movi") ++ rest))) ≡ Ok ((head, first_place extent left (little_number 4 movi_size - 4) known.passed (owed known.frames)), rest)
+    open_read extent ((codes "RIFF" ++ riff_size ++ codes "AVI ") ++ (parts_text parts ++ ((codes "LIST" ++ movi_size ++ codes "movi") ++ rest))) ≡ Ok ((head, first_place extent left (little_number 4 movi_size - 4) (Closed known.passed known.streams) (owed known.frames)), rest)
 unfolding open_read
 open_complete extent riff_size parts movi_size left known head rest riff sized named fits each run has =
     let bytes = codes "RIFF" ++ riff_size ++ codes "AVI " in

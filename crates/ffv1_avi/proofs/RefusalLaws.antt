@@ -7,6 +7,7 @@ use Rattle.ffv1_reads.specs.declared.fault.FileFault.TheVariants as fault
 use Rattle.ffv1_avi.specs.Chunks.{AreChunks, AreParts, Chunk, MoviBegins, Part, chunk_text, chunks_text, header_chunks, is_named, streams, those}
 use Rattle.ffv1_avi.specs.Files.{begins, found_or_on, found_read, frame_read, frame_found, list_visited, movi_found, no_headers, open_read, opened, top_read, visit_movi, visit_top}
 use Rattle.ffv1_avi.specs.declared.place.Extent.TheVariants.{FirstMovi}
+use Rattle.ffv1_avi.specs.declared.place.Names.TheVariants.{Any}
 use Rattle.ffv1_reads.specs.Reads.{Met, given, read_on, refused, taken}
 use Rattle.ffv1_avi.specs.Padding.{padded}
 use Rattle.ffv1_avi.specs.Walk.{entry_read, is_name, resumed, visited, walk}
@@ -83,8 +84,8 @@ chunk_long [] left name size rest each lists frames named sized enough long =
     let text = (name ++ size) ++ rest in
     ap (λ n. frame_read (in_movi n) text) (zero-add left)
     ∙ ap (λ z. read_on z found_read) (frame_step (in_movi left) text)
-    ∙ ap (λ z. read_on (read_on (read_on z (λ p. given p.1)) (found_or_on frame_found (in_movi left))) found_read) (walk_step (visit_movi 0) left tt text)
-    ∙ ap (λ z. read_on (read_on (read_on (read_on z (visited (visit_movi 0) (walk (visit_movi 0)) tt)) (λ p. given p.1)) (found_or_on frame_found (in_movi left))) found_read) (entry_long left name size rest named sized enough long)
+    ∙ ap (λ z. read_on (read_on (read_on z (λ p. given p.1)) (found_or_on frame_found (in_movi left))) found_read) (walk_step (visit_movi Any) left tt text)
+    ∙ ap (λ z. read_on (read_on (read_on (read_on z (visited (visit_movi Any) (walk (visit_movi Any)) tt)) (λ p. given p.1)) (found_or_on frame_found (in_movi left))) found_read) (entry_long left name size rest named sized enough long)
 chunk_long (c ∷ cs) left name size rest each lists frames named sized enough long = on_names (is_named (codes "LIST") c) (is_named (codes "00dc") c) refl refl (λ l f. chunk_long cs left name size rest each.1 l f named sized enough long)
   where
     text : List ℕ

@@ -1,14 +1,17 @@
 -- The RIFFs of a file after its first movi.
-use Rattle.std.proofs.Common.{◌≡◌, ℕ, suc, zero, ◌+◌, ◌-◌, ◌%◌, ◌≤◌, ◌<◌, ◌&&◌, nat_le, nat_lt, Bool, true, false, Option, Some, None, Ok, List, [], ◌∷◌, ◌++◌, length, take, drop, codes, map, ap, ◌∙◌, sym, subst, arith, refl, append_assoc, length-append, length-take}
+use Rattle.std.proofs.Common.{◌≡◌, ℕ, suc, zero, ◌+◌, ◌-◌, ◌%◌, ◌≤◌, ◌<◌, ◌/◌, ◌&&◌, ◌||◌, nat_eq, nat_le, nat_lt, Bool, true, false, Option, Some, None, Ok, List, [], ◌∷◌, ◌++◌, length, take, drop, codes, map, ap, ◌∙◌, sym, subst, arith, refl, append_assoc, length-append, length-take}
 use Rattle.std.proofs.lemmas.Bool.{leb-true, ltb-true}
 use Rattle.std.proofs.lemmas.Grind.{flat_map-append}
 use Rattle.std.proofs.lemmas.List.{take-append-drop}
 use Rattle.std.specs.Cmp.Lexicographic.{same_text}
 use Rattle.byteorder.specs.Endian.{little_number}
 use Rattle.ffv1_avi.specs.declared.chunk.Entry.{Entry}
+use Rattle.ffv1_avi.specs.declared.place.Names.{Names}
+use Rattle.ffv1_avi.specs.declared.place.Names.TheVariants.{Any, Closed}
+use Rattle.ffv1_avi.specs.Names.{bitmap_name, frame_name, is_frame, is_stream_frame}
 use Rattle.ffv1_avi.specs.declared.place.Place.{Place}
-use Rattle.ffv1_avi.specs.Chunks.{AreChunks, AreFrames, AreSized, Chunk, chunk_text, chunks_text, is_named, those}
-use Rattle.ffv1_avi.specs.Files.{frame_name, frames_read, moved, movi_or_riff, movi_sought, name_or_end, riff_begun, riff_judged, riff_list, riff_named, visit_riff}
+use Rattle.ffv1_avi.specs.Chunks.{AreChunks, AreFrames, AreSized, Chunk, chunk_text, chunks_text, those}
+use Rattle.ffv1_avi.specs.Files.{frames_read, moved, movi_or_riff, movi_sought, name_or_end, riff_begun, riff_judged, riff_list, riff_named, visit_riff}
 use Rattle.ffv1_avi.specs.Places.{amount, movi_at, riff_at}
 use Rattle.ffv1_reads.specs.Reads.{given, passed, read_on, taken, ◌>>=◌}
 use Rattle.ffv1_avi.specs.Padding.{padded}
@@ -25,46 +28,71 @@ use Rattle.ffv1_reads.proofs.Results.{read_on_ok}
 use Rattle.ffv1_avi.proofs.PassedBytes.{skip_complete}
 use Rattle.ffv1_reads.proofs.WantedBytes.{taken_sound}
 use Rattle.ffv1_reads.proofs.Results.{ok_is, some_is}
+use Rattle.ffv1_avi.specs.Chunks.{barred_in}
+use Rattle.ffv1_avi.specs.Chunks.{frame_in}
 
 no_some : {X : Type 0} (x : X) → ◌≡◌ {A = Option X} (Some x) None → ⊥
 no_some x e = absurd (cc)
 
--- a chunk that is no movi is passed
-abbrev pub TakesRiff : Taking (Unit {0})
-TakesRiff s name bytes t = (is_name name (codes "LIST") && is_name (take 4 bytes) (codes "movi")) ≡ false
+-- a chunk that is no movi and no frame is passed
+abbrev pub TakesRiff : Names → Taking (Unit {0})
+TakesRiff names s name bytes t = ((is_name name (codes "LIST") && is_name (take 4 bytes) (codes "movi")) ≡ false) × (is_frame names name ≡ false)
+
+-- a list is no frame, by its name
+list_no_frame : (names : Names) (name : List ℕ) → is_name name (codes "LIST") ≡ true → is_frame names name ≡ false
+unfolding is_frame is_stream_frame
+list_no_frame Any name list = let named : name ≡ codes "LIST" = same_text name (codes "LIST") (sym list) in rw named refl
+list_no_frame (Closed stream streams) name list =
+    let named : name ≡ codes "LIST" = same_text name (codes "LIST") (sym list) in
+    let first : is_name (codes "LIST") (frame_name stream) ≡ false = both_false (nat_eq 76 (48 + stream / 10)) (nat_eq 73 (48 + stream % 10)) in
+    let second : is_name (codes "LIST") (bitmap_name stream) ≡ false = both_false (nat_eq 76 (48 + stream / 10)) (nat_eq 73 (48 + stream % 10)) in
+    let P : List ℕ → Type 0 = λ z. is_frame (Closed stream streams) z ≡ false in
+    subst P (sym named) (neither (is_name (codes "LIST") (frame_name stream)) (is_name (codes "LIST") (bitmap_name stream)) first second)
+  where
+    neither : (a b : Bool) → a ≡ false → b ≡ false → (a || b) ≡ false
+    neither a b p q = rw (p, q) refl
+
+    both_false : (a b : Bool) → (a && (b && false)) ≡ false
+    both_false true true = refl
+    both_false true false = refl
+    both_false false b = refl
 
 abbrev Z : Type 0
 Z = (Unit {0} × Option (ℕ × ℕ)) × List ℕ
 
-pub riff_sound : Sound visit_riff TakesRiff
+pub riff_sound : (names : Names) → Sound (visit_riff names) (TakesRiff names)
 unfolding visit_riff
-riff_sound s e text t rest listed h = on_list (is_name e.name (codes "LIST")) refl h
+riff_sound names s e text t rest listed h = on_list (is_name e.name (codes "LIST")) refl h
   where
-    on_own : (own more : List ℕ) (b : Bool) → is_name own (codes "movi") ≡ b → is_name e.name (codes "LIST") ≡ true → text ≡ own ++ more → length own ≡ 4 → riff_list e.left e.size own more ≡ Ok ((t, None), rest) → IsPassed TakesRiff s e t text rest
+    on_own : (own more : List ℕ) (b : Bool) → is_name own (codes "movi") ≡ b → is_name e.name (codes "LIST") ≡ true → text ≡ own ++ more → length own ≡ 4 → riff_list e.left e.size own more ≡ Ok ((t, None), rest) → IsPassed (TakesRiff names) s e t text rest
     on_own own more true p list whole four k =
         let x : ℕ × ℕ = (e.size - 4, e.left) in
         absurd (no_some x (ap (λ (z : Z). z.0.1) (ok_is ((tt, Some x), more) ((t, None), rest) (rw p at k))))
     on_own own more false p list whole four k =
         let first = read_on_ok (passed (padded e.size - 4) more) (λ _. given (tt, None)) ((t, None), rest) (rw p at k) in
         let c = list_skip_sound e.size own more first.0 (listed list) four first.1 in
-        let here : IsPassed TakesRiff s e tt text first.0.1 = record { bytes = own ++ c.0; padding = c.1.padding; text_is = whole ∙ c.1.text_is; long = c.1.long; padded_by = c.1.odd; takes = rw (list, cut_front 4 own c.0 four, p) refl } in
-        let P : Z → Type 0 = λ z. IsPassed TakesRiff s e z.0.0 text z.1 in
+        let here : IsPassed (TakesRiff names) s e tt text first.0.1 = record { bytes = own ++ c.0; padding = c.1.padding; text_is = whole ∙ c.1.text_is; long = c.1.long; padded_by = c.1.odd; takes = (rw (list, cut_front 4 own c.0 four, p) refl, list_no_frame names e.name list) } in
+        let P : Z → Type 0 = λ z. IsPassed (TakesRiff names) s e z.0.0 text z.1 in
         subst P (ok_is ((tt, None), first.0.1) ((t, None), rest) first.2) here
 
-    on_list : (a : Bool) → is_name e.name (codes "LIST") ≡ a → visit_riff s e text ≡ Ok ((t, None), rest) → IsPassed TakesRiff s e t text rest
-    on_list false p h = skipped_passed {Y = ℕ × ℕ} TakesRiff s e text t rest (λ bytes. rw p refl) (rw p at h)
+    on_list : (a : Bool) → is_name e.name (codes "LIST") ≡ a → visit_riff names s e text ≡ Ok ((t, None), rest) → IsPassed (TakesRiff names) s e t text rest
+    on_list false p h = on_frame (is_frame names e.name) refl p h
+      where
+        on_frame : (b : Bool) → is_frame names e.name ≡ b → is_name e.name (codes "LIST") ≡ false → visit_riff names s e text ≡ Ok ((t, None), rest) → IsPassed (TakesRiff names) s e t text rest
+        on_frame true q p h = absurd (cc (rw (p, q) at h))
+        on_frame false q p h = skipped_passed {Y = ℕ × ℕ} (TakesRiff names) s e text t rest (λ bytes. (rw p refl, q)) (rw (p, q) at h)
     on_list true p h =
         let first = read_on_ok (taken 4 text) (riff_list e.left e.size) ((t, None), rest) (rw p at h) in
         let own = taken_sound 4 text first.0 first.1 in
         on_own first.0.0 first.0.1 (is_name first.0.0 (codes "movi")) refl p own.0 own.1 first.2
 
-pub riff_complete : Complete visit_riff TakesRiff
+pub riff_complete : (names : Names) → Complete (visit_riff names) (TakesRiff names)
 unfolding visit_riff
-riff_complete s e bytes padding t rest listed long odd takes = on_list (is_name e.name (codes "LIST")) (is_name (take 4 bytes) (codes "movi")) refl refl takes
+riff_complete names s e bytes padding t rest listed long odd takes = on_list (is_name e.name (codes "LIST")) (is_name (take 4 bytes) (codes "movi")) refl refl takes
   where
-    on_list : (a b : Bool) → is_name e.name (codes "LIST") ≡ a → is_name (take 4 bytes) (codes "movi") ≡ b → TakesRiff s e.name bytes t → visit_riff s e ((bytes ++ padding) ++ rest) ≡ Ok ((t, None), rest)
-    on_list false b p q takes = rw p (ap (λ z. read_on z (λ _. given (s, None))) (skip_complete e.size bytes padding rest long odd))
-    on_list true true p q takes = absurd (cc (rw (p, q) at takes))
+    on_list : (a b : Bool) → is_name e.name (codes "LIST") ≡ a → is_name (take 4 bytes) (codes "movi") ≡ b → TakesRiff names s e.name bytes t → visit_riff names s e ((bytes ++ padding) ++ rest) ≡ Ok ((t, None), rest)
+    on_list false b p q takes = rw (p, takes.1) (ap (λ z. read_on z (λ _. given (s, None))) (skip_complete e.size bytes padding rest long odd))
+    on_list true true p q takes = absurd (cc (rw (p, q) at takes.0))
     on_list true false p q takes =
         let own = own_taken e.size bytes padding rest (listed p) long in
         rw p (ap (λ z. read_on z (riff_list e.left e.size)) own ∙ rw q (ap (λ z. read_on z (λ _. given (tt, None))) (list_skip_complete e.size bytes padding rest (listed p) long odd)))
@@ -76,9 +104,9 @@ pub record StopsAtMovi (e : Entry) (text : List ℕ) (y : ℕ × ℕ) (rest : Li
   pub size : y.0 ≡ e.size - 4
   pub left : y.1 ≡ e.left
 
-riff_stop : (s : Unit {0}) (e : Entry) (text : List ℕ) (t : Unit {0}) (y : ℕ × ℕ) (rest : List ℕ) → visit_riff s e text ≡ Ok ((t, Some y), rest) → StopsAtMovi e text y rest
+riff_stop : (names : Names) (s : Unit {0}) (e : Entry) (text : List ℕ) (t : Unit {0}) (y : ℕ × ℕ) (rest : List ℕ) → visit_riff names s e text ≡ Ok ((t, Some y), rest) → StopsAtMovi e text y rest
 unfolding visit_riff
-riff_stop s e text t y rest h = on_list (is_name e.name (codes "LIST")) refl h
+riff_stop names s e text t y rest h = on_list (is_name e.name (codes "LIST")) refl h
   where
     on_own : (own more : List ℕ) (b : Bool) → is_name own (codes "movi") ≡ b → is_name e.name (codes "LIST") ≡ true → text ≡ own ++ more → riff_list e.left e.size own more ≡ Ok ((t, Some y), rest) → StopsAtMovi e text y rest
     on_own own more true p list whole k =
@@ -91,10 +119,14 @@ riff_stop s e text t y rest h = on_list (is_name e.name (codes "LIST")) refl h
         let first = read_on_ok (passed (padded e.size - 4) more) (λ _. given (tt, None)) ((t, Some y), rest) (rw p at k) in
         absurd (no_some y (sym (ap (λ (z : Z). z.0.1) (ok_is ((tt, None), first.0.1) ((t, Some y), rest) first.2))))
 
-    on_list : (a : Bool) → is_name e.name (codes "LIST") ≡ a → visit_riff s e text ≡ Ok ((t, Some y), rest) → StopsAtMovi e text y rest
-    on_list false p h =
-        let first = read_on_ok (passed (padded e.size) text) (λ _. given (s, None)) ((t, Some y), rest) (rw p at h) in
-        absurd (no_some y (sym (ap (λ (z : Z). z.0.1) (ok_is ((s, None), first.0.1) ((t, Some y), rest) first.2))))
+    on_list : (a : Bool) → is_name e.name (codes "LIST") ≡ a → visit_riff names s e text ≡ Ok ((t, Some y), rest) → StopsAtMovi e text y rest
+    on_list false p h = on_frame (is_frame names e.name) refl p h
+      where
+        on_frame : (b : Bool) → is_frame names e.name ≡ b → is_name e.name (codes "LIST") ≡ false → visit_riff names s e text ≡ Ok ((t, Some y), rest) → StopsAtMovi e text y rest
+        on_frame true q p h = absurd (cc (rw (p, q) at h))
+        on_frame false q p h =
+            let first = read_on_ok (passed (padded e.size) text) (λ _. given (s, None)) ((t, Some y), rest) (rw (p, q) at h) in
+            absurd (no_some y (sym (ap (λ (z : Z). z.0.1) (ok_is ((s, None), first.0.1) ((t, Some y), rest) first.2))))
     on_list true p h =
         let first = read_on_ok (taken 4 text) (riff_list e.left e.size) ((t, Some y), rest) (rw p at h) in
         let own = taken_sound 4 text first.0 first.1 in
@@ -112,56 +144,56 @@ pub others_movis : (cs : List Chunk) → movis (others_of cs) ≡ []
 others_movis [] = refl
 others_movis (c ∷ cs) = others_movis cs
 
-pub others_are : (cs : List Chunk) → AreChunks cs → Run TakesRiff tt cs tt → AreSections (others_of cs)
-others_are [] each run = tt
-others_are (c ∷ cs) each run = ((each.0, run.1), others_are cs each.1 run.2)
+pub others_are : (names : Names) (cs : List Chunk) → AreChunks cs → Run (TakesRiff names) tt cs tt → AreSections names (others_of cs)
+others_are names [] each run = tt
+others_are names (c ∷ cs) each run = ((each.0, run.1.0, run.1.1), others_are names cs each.1 run.2)
 
-pub sections_both : (xs ys : List Section) → AreSections xs → AreSections ys → AreSections (xs ++ ys)
-sections_both [] ys h k = k
-sections_both (x ∷ xs) ys h k = (h.0, sections_both xs ys h.1 k)
+pub sections_both : (names : Names) (xs ys : List Section) → AreSections names xs → AreSections names ys → AreSections names (xs ++ ys)
+sections_both names [] ys h k = k
+sections_both names (x ∷ xs) ys h k = (h.0, sections_both names xs ys h.1 k)
 
 -- what was found in RIFF: chunks that are no movi, and then a movi, or the end
-pub record FoundMovi (left : ℕ) (text : List ℕ) (y : ℕ × ℕ) (rest : List ℕ) : Type 0 where
+pub record FoundMovi (names : Names) (left : ℕ) (text : List ℕ) (y : ℕ × ℕ) (rest : List ℕ) : Type 0 where
   pub chunks : List Chunk
   pub size : List ℕ
   pub text_is : text ≡ chunks_text chunks ++ ((codes "LIST" ++ size ++ codes "movi") ++ rest)
   pub sized : length size ≡ 4
   pub named : little_number 4 size ≡ 4 + y.0
   pub long : length (chunks_text chunks) + (8 + padded (little_number 4 size)) + y.1 ≡ left
-  pub sections : AreSections (others_of chunks)
+  pub sections : AreSections names (others_of chunks)
 
-pub record FoundEnd (left : ℕ) (text rest : List ℕ) : Type 0 where
+pub record FoundEnd (names : Names) (left : ℕ) (text rest : List ℕ) : Type 0 where
   pub chunks : List Chunk
   pub text_is : text ≡ chunks_text chunks ++ rest
   pub long : length (chunks_text chunks) ≡ left
-  pub sections : AreSections (others_of chunks)
+  pub sections : AreSections names (others_of chunks)
 
-abbrev Sought : ℕ → List ℕ → Option (ℕ × ℕ) × List ℕ → Type 0
-Sought left text (None, rest) = FoundEnd left text rest
-Sought left text (Some y, rest) = FoundMovi left text y rest
+abbrev Sought : Names → ℕ → List ℕ → Option (ℕ × ℕ) × List ℕ → Type 0
+Sought names left text (None, rest) = FoundEnd names left text rest
+Sought names left text (Some y, rest) = FoundMovi names left text y rest
 
-sought_sound : (left : ℕ) (text : List ℕ) (w : Option (ℕ × ℕ) × List ℕ) → movi_sought left text ≡ Ok w → Sought left text w
+sought_sound : (names : Names) (left : ℕ) (text : List ℕ) (w : Option (ℕ × ℕ) × List ℕ) → movi_sought names left text ≡ Ok w → Sought names left text w
 unfolding movi_sought
-sought_sound left text w h =
-    let first = read_on_ok (walk visit_riff left tt text) (λ p. given p.1) w h in
-    let walked = walk_sound visit_riff TakesRiff riff_sound left tt text first.0 first.1 in
-    let P : Option (ℕ × ℕ) × List ℕ → Type 0 = λ z. Sought left text z in
+sought_sound names left text w h =
+    let first = read_on_ok (walk (visit_riff names) left tt text) (λ p. given p.1) w h in
+    let walked = walk_sound (visit_riff names) (TakesRiff names) (riff_sound names) left tt text first.0 first.1 in
+    let P : Option (ℕ × ℕ) × List ℕ → Type 0 = λ z. Sought names left text z in
     subst P (ok_is (first.0.0.1, first.0.1) w first.2) (on_end first.0.0.1 first.0.1 walked.chunks walked.behind walked.after walked.text_is walked.each walked.long walked.run walked.end)
   where
-    on_end : (o : Option (ℕ × ℕ)) (rest : List ℕ) (chunks : List Chunk) (behind : List ℕ) (after : ℕ) → text ≡ chunks_text chunks ++ behind → AreChunks chunks → length (chunks_text chunks) + after ≡ left → Run TakesRiff tt chunks tt → Ended visit_riff after tt behind tt o rest → Sought left text (o, rest)
+    on_end : (o : Option (ℕ × ℕ)) (rest : List ℕ) (chunks : List Chunk) (behind : List ℕ) (after : ℕ) → text ≡ chunks_text chunks ++ behind → AreChunks chunks → length (chunks_text chunks) + after ≡ left → Run (TakesRiff names) tt chunks tt → Ended (visit_riff names) after tt behind tt o rest → Sought names left text (o, rest)
     on_end None rest chunks behind after whole each long run end =
-        record { chunks = chunks; text_is = whole ∙ ap (λ z. chunks_text chunks ++ z) end.2; long = omega (arith, long, end.0); sections = others_are chunks each run }
+        record { chunks = chunks; text_is = whole ∙ ap (λ z. chunks_text chunks ++ z) end.2; long = omega (arith, long, end.0); sections = others_are names chunks each run }
     on_end (Some y) rest chunks behind after whole each long run end =
         let e = end.0 in
         let entry = end.2 in
-        let movi = riff_stop tt e end.1 tt y rest end.3 in
+        let movi = riff_stop names tt e end.1 tt y rest end.3 in
         let named : e.name ≡ codes "LIST" = same_text e.name (codes "LIST") (sym movi.list) in
         let here : text ≡ chunks_text chunks ++ ((codes "LIST" ++ entry.size ++ codes "movi") ++ rest) =
         whole ∙ ap (λ z. chunks_text chunks ++ z) (entry.text_is ∙ ap (λ z. (z ++ entry.size) ++ end.1) named ∙ ap (λ z. (codes "LIST" ++ entry.size) ++ z) movi.text_is ∙ sym (append_assoc (codes "LIST" ++ entry.size) (codes "movi") rest)) in
         let room : 4 ≤ e.size = entry.listed movi.list in
         let size : little_number 4 entry.size ≡ 4 + y.0 = entry.counted ∙ (omega (arith, movi.size, room)) in
         let all : length (chunks_text chunks) + (8 + padded (little_number 4 entry.size)) + y.1 ≡ left = rw entry.counted (omega (arith, long, entry.fits, movi.left)) in
-        record { chunks = chunks; size = entry.size; text_is = here; sized = entry.sized; named = size; long = all; sections = others_are chunks each run }
+        record { chunks = chunks; size = entry.size; text_is = here; sized = entry.sized; named = size; long = all; sections = others_are names chunks each run }
 
 -- the next RIFF, or the end
 pub record FoundRiff (place : Place) (text : List ℕ) (q : Place) (rest : List ℕ) : Type 0 where
@@ -263,12 +295,12 @@ map_both [] ys = refl
 map_both (x ∷ xs) ys = ap (λ z. x.bytes ∷ z) (map_both xs ys)
 
 -- the frames of chunks in a row
-pub framed_both : (name : List ℕ) (xs ys : List Chunk) (fs gs : List (List ℕ)) → AreFrames name xs fs → AreFrames name ys gs → AreFrames name (xs ++ ys) (fs ++ gs)
-framed_both name xs ys fs gs h k =
-    let lists : those (is_named (codes "LIST")) (xs ++ ys) ≡ [] = those_both (is_named (codes "LIST")) xs ys ∙ ap (λ z. z ++ those (is_named (codes "LIST")) ys) h.no_list ∙ k.no_list in
-    let all : map (λ (c : Chunk). c.bytes) (those (is_named name) (xs ++ ys)) ≡ fs ++ gs =
-    ap (map (λ (c : Chunk). c.bytes)) (those_both (is_named name) xs ys) ∙ map_both (those (is_named name) xs) (those (is_named name) ys) ∙ ap (λ z. z ++ map (λ (c : Chunk). c.bytes) (those (is_named name) ys)) h.those_of ∙ ap (λ z. fs ++ z) k.those_of in
-    record { each = chunks_both xs ys h.each k.each; no_list = lists; those_of = all; sized = sized_both fs gs h.sized k.sized }
+pub framed_both : (names : Names) (xs ys : List Chunk) (fs gs : List (List ℕ)) → AreFrames names xs fs → AreFrames names ys gs → AreFrames names (xs ++ ys) (fs ++ gs)
+framed_both names xs ys fs gs h k =
+    let lists : those (barred_in names) (xs ++ ys) ≡ [] = those_both (barred_in names) xs ys ∙ ap (λ z. z ++ those (barred_in names) ys) h.none_barred ∙ k.none_barred in
+    let all : map (λ (c : Chunk). c.bytes) (those (frame_in names) (xs ++ ys)) ≡ fs ++ gs =
+    ap (map (λ (c : Chunk). c.bytes)) (those_both (frame_in names) xs ys) ∙ map_both (those (frame_in names) xs) (those (frame_in names) ys) ∙ ap (λ z. z ++ map (λ (c : Chunk). c.bytes) (those (frame_in names) ys)) h.those_of ∙ ap (λ z. fs ++ z) k.those_of in
+    record { each = chunks_both xs ys h.each k.each; none_barred = lists; those_of = all; sized = sized_both fs gs h.sized k.sized }
 
 -- what RIFF has after a movi, and the RIFFs after it, to the end of the input
 pub record RiffRest (place : Place) (text : List ℕ) (frames : List (List ℕ)) (rest : List ℕ) : Type 0 where
@@ -276,25 +308,25 @@ pub record RiffRest (place : Place) (text : List ℕ) (frames : List (List ℕ))
   pub riffs : List Riff
   pub text_is : text ≡ sections_text sections ++ riffs_text riffs
   pub long : length (sections_text sections) ≡ place.riff
-  pub sections_are : AreSections sections
-  pub riffs_are : AreRiffs riffs
+  pub sections_are : AreSections place.names sections
+  pub riffs_are : AreRiffs place.names riffs
   pub bounded : length (riffs_text riffs) < place.input
-  pub framed : AreFrames (frame_name place.stream) (movis sections ++ riff_movis riffs) frames
+  pub framed : AreFrames place.names (movis sections ++ riff_movis riffs) frames
   pub enough : place.owed ≤ length frames
   pub over : rest ≡ []
 
-rest_end : (place : Place) (text more : List ℕ) → (place.input ≡ 0 → ⊥) → FoundEnd place.riff text more → place.owed ≡ 0 → more ≡ [] → RiffRest place text [] []
+rest_end : (place : Place) (text more : List ℕ) → (place.input ≡ 0 → ⊥) → FoundEnd place.names place.riff text more → place.owed ≡ 0 → more ≡ [] → RiffRest place text [] []
 rest_end place text more some end owed none =
     let whole : text ≡ sections_text (others_of end.chunks) ++ [] = end.text_is ∙ ap (λ z. chunks_text end.chunks ++ z) none ∙ ap (λ z. z ++ []) (sym (others_text end.chunks)) in
-    let nothing : AreFrames (frame_name place.stream) [] [] = record { each = tt; no_list = refl; those_of = refl; sized = tt } in
-    let P : List Chunk → Type 0 = λ z. AreFrames (frame_name place.stream) (z ++ []) [] in
+    let nothing : AreFrames place.names [] [] = record { each = tt; none_barred = refl; those_of = refl; sized = tt } in
+    let P : List Chunk → Type 0 = λ z. AreFrames place.names (z ++ []) [] in
     record { sections = others_of end.chunks; riffs = []; text_is = whole; long = ap length (others_text end.chunks) ∙ end.long; sections_are = end.sections; riffs_are = tt; bounded = above place.input some; framed = subst P (sym (others_movis end.chunks)) nothing; enough = omega (arith, owed); over = refl }
   where
     above : (n : ℕ) → (n ≡ 0 → ⊥) → 0 < n
     above zero some = absurd (some refl)
     above (suc n) some = omega arith
 
-rest_riff : (place : Place) (text more behind : List ℕ) (size : List ℕ) (frames : List (List ℕ)) (rest : List ℕ) → FoundEnd place.riff text more → more ≡ (codes "RIFF" ++ size ++ codes "AVIX") ++ behind → length size ≡ 4 → 4 ≤ little_number 4 size → 8 + little_number 4 size < place.input →
+rest_riff : (place : Place) (text more behind : List ℕ) (size : List ℕ) (frames : List (List ℕ)) (rest : List ℕ) → FoundEnd place.names place.riff text more → more ≡ (codes "RIFF" ++ size ++ codes "AVIX") ++ behind → length size ≡ 4 → 4 ≤ little_number 4 size → 8 + little_number 4 size < place.input →
     RiffRest (riff_at place (little_number 4 size)) behind frames rest → RiffRest place text frames rest
 rest_riff place text more behind size frames rest end riff sized room fits part =
     let r : Riff = record { size = size; sections = part.sections } in
@@ -302,17 +334,17 @@ rest_riff place text more behind size frames rest end riff sized room fits part 
     end.text_is
     ∙ ap (λ z. chunks_text end.chunks ++ z) (riff ∙ ap (λ z. (codes "RIFF" ++ size ++ codes "AVIX") ++ z) part.text_is ∙ sym (append_assoc (codes "RIFF" ++ size ++ codes "AVIX") (sections_text part.sections) (riffs_text part.riffs)))
     ∙ ap (λ z. z ++ riffs_text (r ∷ part.riffs)) (sym (others_text end.chunks)) in
-    let is : IsRiff r = record { sized = sized; counted = omega (arith, part.long, room); each = part.sections_are } in
+    let is : IsRiff place.names r = record { sized = sized; counted = omega (arith, part.long, room); each = part.sections_are } in
     let front : length (codes "RIFF" ++ size ++ codes "AVIX") ≡ 12 = length-append (codes "RIFF" ++ size) (codes "AVIX") ∙ ap (λ n. n + length (codes "AVIX")) (length-append (codes "RIFF") size) ∙ (omega (arith, sized, spelled)) in
     let long : length (riff_text r ++ riffs_text part.riffs) ≡ 12 + length (sections_text part.sections) + length (riffs_text part.riffs) = length-append (riff_text r) (riffs_text part.riffs) ∙ ap (λ n. n + length (riffs_text part.riffs)) (length-append (codes "RIFF" ++ size ++ codes "AVIX") (sections_text part.sections) ∙ ap (λ n. n + length (sections_text part.sections)) front) in
-    let framed : AreFrames (frame_name place.stream) ([] ++ riff_movis (r ∷ part.riffs)) frames = part.framed in
-    let P : List Chunk → Type 0 = λ z. AreFrames (frame_name place.stream) (z ++ riff_movis (r ∷ part.riffs)) frames in
+    let framed : AreFrames place.names ([] ++ riff_movis (r ∷ part.riffs)) frames = part.framed in
+    let P : List Chunk → Type 0 = λ z. AreFrames place.names (z ++ riff_movis (r ∷ part.riffs)) frames in
     record { sections = others_of end.chunks; riffs = r ∷ part.riffs; text_is = whole; long = ap length (others_text end.chunks) ∙ end.long; sections_are = end.sections; riffs_are = (is, part.riffs_are); bounded = omega (arith, long, part.bounded, part.long, room, fits); framed = subst P (sym (others_movis end.chunks)) framed; enough = part.enough; over = part.over }
   where
     spelled : (length (codes "RIFF") ≡ 4) × (length (codes "AVIX") ≡ 4)
     spelled = (refl, refl)
 
-rest_movi : (place : Place) (text more : List ℕ) (y : ℕ × ℕ) (frames : List (List ℕ)) (rest : List ℕ) → FoundMovi place.riff text y more → (part : MoviPart (movi_at place y) more frames rest) →
+rest_movi : (place : Place) (text more : List ℕ) (y : ℕ × ℕ) (frames : List (List ℕ)) (rest : List ℕ) → FoundMovi place.names place.riff text y more → (part : MoviPart (movi_at place y) more frames rest) →
     RiffRest (placed (movi_at place y) 0 (place.owed - length part.here)) part.more part.later rest → RiffRest place text frames rest
 rest_movi place text more y frames rest found part after =
     let s = Section.Movi found.size part.chunks in
@@ -330,14 +362,14 @@ rest_movi place text more y frames rest found part after =
     ap length apart ∙ length-append (chunks_text found.chunks) ((front ++ chunks_text part.chunks) ++ sections_text after.sections)
     ∙ ap (λ n. length (chunks_text found.chunks) + n) (length-append (front ++ chunks_text part.chunks) (sections_text after.sections) ∙ ap (λ n. n + length (sections_text after.sections)) (length-append front (chunks_text part.chunks) ∙ ap (λ n. n + length (chunks_text part.chunks)) twelve)) in
     let long : length (sections_text sections) ≡ place.riff = omega (arith, size, even, found.long, found.named, part.long, after.long) in
-    let is : IsSection s = (found.sized, omega (arith, found.named, part.long)) in
+    let is : IsSection place.names s = (found.sized, omega (arith, found.named, part.long)) in
     let all : movis sections ++ riff_movis after.riffs ≡ part.chunks ++ (movis after.sections ++ riff_movis after.riffs) =
     ap (λ z. z ++ riff_movis after.riffs) (flat_map-append movi_chunks (others_of found.chunks) (s ∷ after.sections) ∙ ap (λ z. z ++ (part.chunks ++ movis after.sections)) (others_movis found.chunks)) ∙ append_assoc part.chunks (movis after.sections) (riff_movis after.riffs) in
-    let both = framed_both (frame_name place.stream) part.chunks (movis after.sections ++ riff_movis after.riffs) part.here part.later part.framed after.framed in
-    let P : List Chunk → Type 0 = λ z. AreFrames (frame_name place.stream) z (part.here ++ part.later) in
-    let Q : List (List ℕ) → Type 0 = λ z. AreFrames (frame_name place.stream) (movis sections ++ riff_movis after.riffs) z in
+    let both = framed_both place.names part.chunks (movis after.sections ++ riff_movis after.riffs) part.here part.later part.framed after.framed in
+    let P : List Chunk → Type 0 = λ z. AreFrames place.names z (part.here ++ part.later) in
+    let Q : List (List ℕ) → Type 0 = λ z. AreFrames place.names (movis sections ++ riff_movis after.riffs) z in
     let count : length frames ≡ length part.here + length part.later = ap length part.parted ∙ length-append part.here part.later in
-    record { sections = sections; riffs = after.riffs; text_is = whole; long = long; sections_are = sections_both (others_of found.chunks) (s ∷ after.sections) found.sections (is, after.sections_are); riffs_are = after.riffs_are; bounded = after.bounded; framed = subst Q (sym part.parted) (subst P (sym all) both); enough = omega (arith, count, after.enough); over = after.over }
+    record { sections = sections; riffs = after.riffs; text_is = whole; long = long; sections_are = sections_both place.names (others_of found.chunks) (s ∷ after.sections) found.sections (is, after.sections_are); riffs_are = after.riffs_are; bounded = after.bounded; framed = subst Q (sym part.parted) (subst P (sym all) both); enough = omega (arith, count, after.enough); over = after.over }
   where
     spelled : (length (codes "LIST") ≡ 4) × (length (codes "movi") ≡ 4)
     spelled = (refl, refl)
@@ -351,13 +383,13 @@ Fewer place = (p : Place) (text : List ℕ) (v : List (List ℕ) × List ℕ) �
 after_step : (place : Place) (text : List ℕ) (w : List (List ℕ) × List ℕ) → (place.input ≡ 0 → ⊥) → Fewer place → frames_after place text ≡ Ok w → RiffRest place text w.0 w.1
 after_step place text w some again h =
     let first = read_on_ok (moved place text) frames_on w h in
-    let second = read_on_ok (movi_sought place.riff text) (movi_or_riff place) first.0 (sym (moved_every place some text) ∙ first.1) in
+    let second = read_on_ok (movi_sought place.names place.riff text) (movi_or_riff place) first.0 (sym (moved_every place some text) ∙ first.1) in
     on_sought second.0.0 second.0.1 second.1 first.0 second.2 first.2
   where
     P : List (List ℕ) × List ℕ → Type 0
     P z = RiffRest place text z.0 z.1
 
-    on_begun : (more : List ℕ) → FoundEnd place.riff text more → (o : Option Place) (behind : List ℕ) → Begun place more (o, behind) → frames_on o behind ≡ Ok w → P w
+    on_begun : (more : List ℕ) → FoundEnd place.names place.riff text more → (o : Option Place) (behind : List ℕ) → Begun place more (o, behind) → frames_on o behind ≡ Ok w → P w
     on_begun more end None behind begun k = subst P (ok_is ([], behind) w k) (over (rest_end place text more some end begun.0 begun.1) begun.2)
       where
         over : RiffRest place text [] [] → behind ≡ [] → P ([], behind)
@@ -366,14 +398,14 @@ after_step place text w some again h =
         let n = little_number 4 begun.size in
         let next = riff_at place n in
         let read : frames_read next behind ≡ Ok w = ap (λ (z : Place). frames_read z behind) (sym begun.place_is) ∙ k in
-        let after : frames_after next behind ≡ Ok w = sym (frames_none next behind behind (movi_empty next.stream behind)) ∙ read in
+        let after : frames_after next behind ≡ Ok w = sym (frames_none next behind behind (movi_empty next.names behind)) ∙ read in
         let part = again next behind w (omega (arith, begun.room, begun.fits)) (λ e. omega (arith, e, begun.fits)) after in
         rest_riff place text more behind begun.size w.0 w.1 end begun.text_is begun.sized begun.room begun.fits part
 
-    on_sought : (o : Option (ℕ × ℕ)) (more : List ℕ) → movi_sought place.riff text ≡ Ok (o, more) → (p : Option Place × List ℕ) → movi_or_riff place o more ≡ Ok p → frames_on p.0 p.1 ≡ Ok w → P w
-    on_sought None more is p begun k = on_begun more (sought_sound place.riff text (None, more) is) p.0 p.1 (begun_sound place more p begun) k
+    on_sought : (o : Option (ℕ × ℕ)) (more : List ℕ) → movi_sought place.names place.riff text ≡ Ok (o, more) → (p : Option Place × List ℕ) → movi_or_riff place o more ≡ Ok p → frames_on p.0 p.1 ≡ Ok w → P w
+    on_sought None more is p begun k = on_begun more (sought_sound place.names place.riff text (None, more) is) p.0 p.1 (begun_sound place more p begun) k
     on_sought (Some y) more is p begun k =
-        let found = sought_sound place.riff text (Some y, more) is in
+        let found = sought_sound place.names place.riff text (Some y, more) is in
         let next = movi_at place y in
         let Q : Option Place × List ℕ → Type 0 = λ z. frames_on z.0 z.1 ≡ Ok w in
         let read : frames_read next more ≡ Ok w = subst Q (sym (ok_is (Some next, more) p begun)) k in

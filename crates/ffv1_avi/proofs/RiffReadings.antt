@@ -16,11 +16,13 @@ use Rattle.ffv1_reads.proofs.Taking.{Any, Takes, takes_given, takes_if, takes_pa
 use Rattle.ffv1_avi.specs.declared.chunk.Entry.{Entry}
 use Rattle.ffv1_avi.specs.declared.place.Extent.{Extent}
 use Rattle.ffv1_avi.specs.declared.place.Extent.TheVariants.{FirstMovi, EveryRiff}
+use Rattle.ffv1_avi.specs.declared.place.Names.{Names}
 use Rattle.ffv1_avi.specs.declared.place.Place.{Place}
 use Rattle.ffv1_avi.specs.Files.{name_or_end, riff_begun, riff_entered, riff_list, riff_named, visit_riff}
 use Rattle.ffv1_avi.specs.Internal.Ending.{RefusedOrNone}
 use Rattle.ffv1_avi.specs.Offsets.{Counts, ReadsTo, ReadsUpTo, StopsIn, chunk_taken, movi_entered, riff_left, riff_next, riff_taken}
 use Rattle.ffv1_avi.specs.Internal.Offsets.{FrameBegins, MovesTo}
+use Rattle.ffv1_avi.specs.Names.{is_frame}
 use Rattle.ffv1_avi.specs.Padding.{padded}
 use Rattle.ffv1_avi.specs.Places.{frame_at, movi_at, riff_at}
 use Rattle.ffv1_avi.specs.Walk.{entry_read, is_name}
@@ -43,32 +45,33 @@ abbrev Roomy : Entry → Unit {0} × Option (ℕ × ℕ) → Type 0
 Roomy e (u, None) = Unit {0}
 Roomy e (u, Some p) = 4 ≤ e.size
 
-visit_takes : (e : Entry) → Listed e → Takes (Roomy e) (padded e.size) (visit_left e) (visit_riff tt e)
+visit_takes : (names : Names) (e : Entry) → Listed e → Takes (Roomy e) (padded e.size) (visit_left e) (visit_riff names tt e)
 unfolding visit_riff
-visit_takes e listed =
+visit_takes names e listed =
     takes_if (is_name e.name (codes "LIST")) (taken 4 >>= riff_list e.left e.size) _
     (λ list. (let four : 4 ≤ e.size = listed list in
     takes_then (taken 4) _ (takes_same _ _ (taken 4) (omega (arith, four)) (takes_wanted Looked 4 (padded e.size - 4))) (λ own _.
     takes_if (is_name own (codes "movi")) (given (tt, Some (e.size - 4, e.left))) _ (λ _. takes_given _ four refl)
     (λ _. takes_then (passed (padded e.size - 4)) _ (takes_same _ _ (passed (padded e.size - 4)) (omega arith) (takes_passed (padded e.size - 4) 0)) (λ _ _. takes_given _ tt refl)))))
-    (λ _. takes_then (passed (padded e.size)) _ (takes_same _ _ (passed (padded e.size)) (omega arith) (takes_passed (padded e.size) 0)) (λ _ _. takes_given _ tt refl))
+    (λ _. takes_if (is_frame names e.name) (refused fault.NotAvi) _ (λ _. takes_refused fault.NotAvi)
+    (λ _. takes_then (passed (padded e.size)) _ (takes_same _ _ (passed (padded e.size)) (omega arith) (takes_passed (padded e.size) 0)) (λ _ _. takes_given _ tt refl)))
 
 module _ (place : Place) (left : ℕ) (more : 0 < place.input) where
   abbrev here : Place
   here = riff_left place left
 
-  pub riff_passed : (e : Entry) {a b c : Option (List ℕ)} → Listed e → Read (entry_read left) a b (Some e) → Read (visit_riff tt e) b c (tt, None) → ReadsCounted (chunk_taken here) a c (riff_left place e.left) (8 + (padded e.size + 0))
+  pub riff_passed : (e : Entry) {a b c : Option (List ℕ)} → Listed e → Read (entry_read left) a b (Some e) → Read (visit_riff place.names tt e) b c (tt, None) → ReadsCounted (chunk_taken here) a c (riff_left place e.left) (8 + (padded e.size + 0))
   riff_passed e {c = c} listed header visit =
       counted_same (entry_read left >>= riff_taken here) _ (λ text. sym (riff_chunk place left more text))
       (counted_then (entry_read left) (riff_taken here) (entry_counted left e header)
-      (counted_then (visit_riff tt e) (λ p. movi_entered here e.left p.1) (reads_counted (padded e.size) (visit_takes e listed) (omega arith) visit) (counted_given (riff_left place e.left) c)))
+      (counted_then (visit_riff place.names tt e) (λ p. movi_entered here e.left p.1) (reads_counted (padded e.size) (visit_takes place.names e listed) (omega arith) visit) (counted_given (riff_left place e.left) c)))
 
-  pub riff_movi : (e : Entry) (movi : ℕ × ℕ) {a b c : Option (List ℕ)} → Listed e → Read (entry_read left) a b (Some e) → Read (visit_riff tt e) b c (tt, Some movi) → ReadsCounted (chunk_taken here) a c (movi_at place movi) (8 + (4 + 0))
+  pub riff_movi : (e : Entry) (movi : ℕ × ℕ) {a b c : Option (List ℕ)} → Listed e → Read (entry_read left) a b (Some e) → Read (visit_riff place.names tt e) b c (tt, Some movi) → ReadsCounted (chunk_taken here) a c (movi_at place movi) (8 + (4 + 0))
   riff_movi e movi {c = c} listed header visit =
-      let four : 4 ≤ e.size = ((visit_takes e listed).only _ _ _ (visit.is [])).0 in
+      let four : 4 ≤ e.size = ((visit_takes place.names e listed).only _ _ _ (visit.is [])).0 in
       counted_same (entry_read left >>= riff_taken here) _ (λ text. sym (riff_chunk place left more text))
       (counted_then (entry_read left) (riff_taken here) (entry_counted left e header)
-      (counted_then (visit_riff tt e) (λ p. movi_entered here e.left p.1) (reads_counted {x = (tt {0}, Some movi)} 4 (visit_takes e listed) (omega (arith, four)) visit) (counted_given (movi_at place movi) c)))
+      (counted_then (visit_riff place.names tt e) (λ p. movi_entered here e.left p.1) (reads_counted {x = (tt {0}, Some movi)} 4 (visit_takes place.names e listed) (omega (arith, four)) visit) (counted_given (movi_at place movi) c)))
 
   reached : (old : Option (List ℕ)) (before : ℕ) → Goes (chunk_taken here) old before (entry_read left >>= riff_taken here) old before
   reached old before = goes_same (chunk_taken here) (entry_read left >>= riff_taken here) (riff_chunk place left more) (goes_none (chunk_taken here) old before)
@@ -76,9 +79,9 @@ module _ (place : Place) (left : ℕ) (more : 0 < place.input) where
   pub riff_entry_refused : (old new : Option (List ℕ)) (before after : ℕ) (f : FileFault) → Refused (entry_read left) old new before after f → RefusedOrEnds (chunk_taken here) old new before after f
   riff_entry_refused old new before after f why = ends_refused (entry_read left) (riff_taken here) new after f (reached old before) why
 
-  pub riff_visit_refused : (e : Entry) (old mid new : Option (List ℕ)) (before between after : ℕ) (f : FileFault) → (between ≡ before) × Read (entry_read left) old mid (Some e) → Refused (visit_riff tt e) mid new between after f → RefusedOrEnds (chunk_taken here) old new before after f
+  pub riff_visit_refused : (e : Entry) (old mid new : Option (List ℕ)) (before between after : ℕ) (f : FileFault) → (between ≡ before) × Read (entry_read left) old mid (Some e) → Refused (visit_riff place.names tt e) mid new between after f → RefusedOrEnds (chunk_taken here) old new before after f
   riff_visit_refused e old mid new before between after f header why =
-      ends_refused (visit_riff tt e) (λ p. movi_entered here e.left p.1) new after f (goes_read (entry_read left) (riff_taken here) mid between (Some e) (reached old before) header) why
+      ends_refused (visit_riff place.names tt e) (λ p. movi_entered here e.left p.1) new after f (goes_read (entry_read left) (riff_taken here) mid between (Some e) (reached old before) header) why
 
 -- the next RIFF
 named_same : (place : Place) (o : Option (List ℕ)) (text : List ℕ) → riff_named (riff_left place 0) o text ≡ riff_named place o text
@@ -205,11 +208,11 @@ counts_more_by before mid after m n more one is same k first = is ∙ rw (one k 
     all : (k most : ℕ) → min (min (k + m) most + more) most ≡ min (k + (m + n)) most
     all k most = grind (arith, same)
 
-pub passed_next : {from : Place} {a b c d : Option (List ℕ)} {first mid after : ℕ} (place : Place) (left : ℕ) (e : Entry) (more : 0 < place.input) → Listed e → ReadsUpTo from a b (riff_left place left) first mid → Read (entry_read left) b c (Some e) → Read (visit_riff tt e) c d (tt, None) → after ≡ min (mid + (8 + padded e.size)) (2 ^ 64 - 1) →
+pub passed_next : {from : Place} {a b c d : Option (List ℕ)} {first mid after : ℕ} (place : Place) (left : ℕ) (e : Entry) (more : 0 < place.input) → Listed e → ReadsUpTo from a b (riff_left place left) first mid → Read (entry_read left) b c (Some e) → Read (visit_riff place.names tt e) c d (tt, None) → after ≡ min (mid + (8 + padded e.size)) (2 ^ 64 - 1) →
     ReadsUpTo from a d (riff_left place e.left) first after
 passed_next {first = first} {mid = mid} {after = after} place left e more listed h header visit is = (h.0 + (8 + (padded e.size + 0)), counts_more h.1 (riff_passed place left more e listed header visit), counts_more_by first mid after h.0 (8 + (padded e.size + 0)) (8 + padded e.size) h.2 is (omega arith))
 
-pub movi_next : {from : Place} {a b c d : Option (List ℕ)} {first mid after : ℕ} (place : Place) (left : ℕ) (e : Entry) (movi : ℕ × ℕ) (more : 0 < place.input) → Listed e → ReadsUpTo from a b (riff_left place left) first mid → Read (entry_read left) b c (Some e) → Read (visit_riff tt e) c d (tt, Some movi) → after ≡ min (mid + 12) (2 ^ 64 - 1) →
+pub movi_next : {from : Place} {a b c d : Option (List ℕ)} {first mid after : ℕ} (place : Place) (left : ℕ) (e : Entry) (movi : ℕ × ℕ) (more : 0 < place.input) → Listed e → ReadsUpTo from a b (riff_left place left) first mid → Read (entry_read left) b c (Some e) → Read (visit_riff place.names tt e) c d (tt, Some movi) → after ≡ min (mid + 12) (2 ^ 64 - 1) →
     ReadsUpTo from a d (movi_at place movi) first after
 movi_next {first = first} {mid = mid} {after = after} place left e movi more listed h header visit is = (h.0 + (8 + (4 + 0)), counts_more h.1 (riff_movi place left more e movi listed header visit), counts_more_by first mid after h.0 (8 + (4 + 0)) 12 h.2 is refl)
 

@@ -28,6 +28,7 @@ use Rattle.ffv1_avi.proofs.RefusalLaws.{entry_long}
 use Rattle.ffv1_avi.proofs.StreamLaws.{run_exists}
 use Rattle.ffv1_avi.proofs.TotalLaws.{TakesTotal, total_complete}
 use Rattle.ffv1_avi.proofs.ChunkByChunk.{walk_step}
+use Rattle.ffv1_avi.specs.Files.{stream_came}
 
 -- what streams lead to
 counted : (k n : ℕ) (streams : List Chunk) → n + k ≡ 100 → AreCounted k streams → (o : Option Head) × (m : ℕ) × Counts None n streams o m
@@ -130,6 +131,7 @@ every_stream_long file parts chunks fields left name size rest is are few has sh
     let low : nat_lt none.known.passed 100 ≡ true = lt-ltb _ _ (omega (arith, none.passed, ap length all, below)) in
     let parted = run_part (TakesHeader EveryRiff) (flat_map header_chunks parts) chunks no_headers none.known none.run in
     let t = none.known in
+    let came = stream_came EveryRiff t in
     let run = run_exists EveryRiff fields nothing_known (λ _. short) in
     let own_text = chunks_text fields ++ text in
     let count = little_number 4 is.stream.size in
@@ -145,9 +147,9 @@ every_stream_long file parts chunks fields left name size rest is are few has sh
     (walk_step (visit_header EveryRiff) is.room t is.text
     ∙ ap (λ z. read_on z (visited (visit_header EveryRiff) (walk (visit_header EveryRiff)) t)) (list_entry is.text is.room (codes "strl") fields left text is.stream)
     ∙ ap (λ z. read_on (read_on z (header_named EveryRiff t count)) on) own
-    ∙ ap (λ h. read_on (stream_visited EveryRiff t count h own_text) on) none.none
-    ∙ ap (λ b. read_on ((if b then (stream_read EveryRiff (count - 4) >>= stream_end t count) else list_skipped t count) own_text) on) low
-    ∙ ap (λ z. read_on (read_on z (stream_end t count)) on) read)
+    ∙ ap (λ h. read_on (stream_visited EveryRiff came count h own_text) on) none.none
+    ∙ ap (λ b. read_on ((if b then (stream_read EveryRiff (count - 4) >>= stream_end came count) else list_skipped came count) own_text) on) low
+    ∙ ap (λ z. read_on (read_on z (stream_end came count)) on) read)
 
 pub every_extended_long : (file : List ℕ) (parts : List Part) (chunks inner : List Chunk) (left : ℕ) (name size rest : List ℕ) → ExtendedBegins file parts chunks inner left ((name ++ size) ++ rest) →
     AreCounted 100 (streams parts ++ streams_of chunks) → HasExtended (flat_map header_chunks parts ++ chunks) → Passes left name size → open_read EveryRiff file ≡ Err (Met fault.Truncated rest)

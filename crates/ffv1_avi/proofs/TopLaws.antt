@@ -21,6 +21,7 @@ use Rattle.ffv1_reads.proofs.Results.{read_on_ok}
 use Rattle.ffv1_avi.proofs.PassedBytes.{skip_complete}
 use Rattle.ffv1_reads.proofs.WantedBytes.{taken_sound}
 use Rattle.ffv1_reads.proofs.Results.{ok_is, some_is}
+use Rattle.ffv1_avi.specs.declared.place.Names.TheVariants.{Closed}
 
 abbrev pub TopTakes : Extent → Bool → Bool → Bool → Headers → List ℕ → Headers → Type 0
 TopTakes extent false h m s bytes t = t ≡ s
@@ -73,7 +74,7 @@ top_sound extent s e text t rest listed h = on_list (is_name e.name (codes "LIST
     on_movi : (o : Option Head) (more : List ℕ) → movi_reached extent s e.left e.size o more ≡ Ok ((t, None), rest) → ⊥
     on_movi None more k = absurd (cc)
     on_movi (Some head) more k =
-        let q : Head × Place = (head, first_place extent e.left (e.size - 4) s.passed (owed s.frames)) in
+        let q : Head × Place = (head, first_place extent e.left (e.size - 4) (Closed s.passed s.streams) (owed s.frames)) in
         no_some q (ap (λ (z : Z). z.0.1) (ok_is ((s, Some q), more) ((t, None), rest) k))
 
     on_own : (own more : List ℕ) (a b : Bool) → is_name own (codes "hdrl") ≡ a → is_name own (codes "movi") ≡ b → is_name e.name (codes "LIST") ≡ true → text ≡ own ++ more → length own ≡ 4 → list_visited extent s e.left e.size own more ≡ Ok ((t, None), rest) → IsPassed (TakesTop extent) s e t text rest
@@ -120,7 +121,7 @@ pub record IsMovi (extent : Extent) (s : Headers) (e : Entry) (text : List ℕ) 
   pub list : is_name e.name (codes "LIST") ≡ true
   pub text_is : text ≡ codes "movi" ++ rest
   pub head : s.head ≡ Some y.0
-  pub place : y.1 ≡ first_place extent e.left (e.size - 4) s.passed (owed s.frames)
+  pub place : y.1 ≡ first_place extent e.left (e.size - 4) (Closed s.passed s.streams) (owed s.frames)
 
 pub top_stop : (extent : Extent) (s : Headers) (e : Entry) (text : List ℕ) (t : Headers) (y : Head × Place) (rest : List ℕ) → visit_top extent s e text ≡ Ok ((t, Some y), rest) → IsMovi extent s e text y rest
 unfolding visit_top
@@ -132,7 +133,7 @@ top_stop extent s e text t y rest h = on_list (is_name e.name (codes "LIST")) re
     on_movi : (o : Option Head) (own more : List ℕ) → s.head ≡ o → is_name e.name (codes "LIST") ≡ true → text ≡ own ++ more → is_name own (codes "movi") ≡ true → movi_reached extent s e.left e.size o more ≡ Ok ((t, Some y), rest) → IsMovi extent s e text y rest
     on_movi None own more is list whole movi k = absurd (cc)
     on_movi (Some head) own more is list whole movi k =
-        let q : Head × Place = (head, first_place extent e.left (e.size - 4) s.passed (owed s.frames)) in
+        let q : Head × Place = (head, first_place extent e.left (e.size - 4) (Closed s.passed s.streams) (owed s.frames)) in
         let found = ok_is ((s, Some q), more) ((t, Some y), rest) k in
         let pair : q ≡ y = some_is q y (ap (λ (z : Z). z.0.1) found) in
         let behind : more ≡ rest = ap (λ (z : Z). z.1) found in

@@ -1,15 +1,17 @@
 -- A whole file, of which every RIFF is read.
-use Rattle.std.proofs.Common.{◌≡◌, ℕ, ◌+◌, ◌-◌, ◌%◌, ◌≤◌, ◌<◌, ◌&&◌, nat_le, nat_lt, Bool, true, false, Option, Some, None, Ok, List, [], ◌∷◌, ◌++◌, length, take, codes, flat_map, ap, ◌∙◌, sym, subst, arith, refl, length-append}
+use Rattle.std.proofs.Common.{◌≡◌, ℕ, ◌+◌, ◌-◌, ◌%◌, ◌≤◌, ◌<◌, ◌&&◌, nat_le, nat_lt, Bool, true, false, Option, Some, None, Ok, List, [], ◌∷◌, ◌++◌, length, take, codes, flat_map, ap, ◌∙◌, sym, subst, arith, refl, length-append, min, zero-add}
 use Rattle.std.proofs.lemmas.Bool.{le-ltb, leb-false, leb-true, lt-ltb}
 use Rattle.byteorder.specs.Endian.{little_number}
 use Rattle.ffv1_avi.specs.declared.place.Extent.TheVariants.{EveryRiff}
+use Rattle.ffv1_avi.specs.declared.place.Names.{Names}
+use Rattle.ffv1_avi.specs.declared.place.Names.TheVariants.{Closed}
 use Rattle.ffv1_avi.specs.declared.place.Place.{Place}
-use Rattle.ffv1_avi.specs.Chunks.{AreChunks, AreFrames, Chunk, chunks_text, first_of, header_chunks, is_list, is_named, those, total_next}
-use Rattle.ffv1_avi.specs.Files.{Headers, file_read, frame_name, frames_read, no_headers, open_read, owed, stream_known}
+use Rattle.ffv1_avi.specs.Chunks.{AreChunks, AreFrames, Chunk, chunks_text, first_of, header_chunks, is_list, is_named, streams, those, total_next}
+use Rattle.ffv1_avi.specs.Files.{Headers, file_read, frames_read, no_headers, open_read, owed, stream_came, stream_known}
 use Rattle.ffv1_reads.specs.Head.{Head}
 use Rattle.ffv1_avi.specs.Places.{first_place}
 use Rattle.ffv1_reads.specs.Reads.{given, ◌>>=◌}
-use Rattle.ffv1_avi.specs.Riffs.{AreExtended, RiffFile, is_total, movis, riff_movis, riffs_text, sections_text, total, total_of}
+use Rattle.ffv1_avi.specs.Riffs.{AreExtended, AreRiffs, AreSections, RiffFile, names_of, is_total, movis, riff_movis, riffs_text, sections_text, total, total_of}
 use Rattle.ffv1_avi.specs.Walk.{is_name}
 use Rattle.ffv1_avi.proofs.FrameLaws.{movi_part, placed, those_both}
 use Rattle.ffv1_avi.proofs.HeaderLaws.{StreamTakes, TakesHeader, run_streams}
@@ -18,6 +20,7 @@ use Rattle.ffv1_avi.proofs.OpenLaws.{open_sound}
 use Rattle.ffv1_avi.proofs.PartLaws.{parts_text}
 use Rattle.ffv1_reads.proofs.Results.{read_on_ok}
 use Rattle.ffv1_avi.proofs.RiffLaws.{after_sound, chunks_even, framed_both}
+use Rattle.ffv1_avi.proofs.StreamCounts.{run_counted}
 use Rattle.ffv1_avi.proofs.StreamLaws.{one_name}
 use Rattle.ffv1_avi.proofs.TotalLaws.{TakesTotal}
 use Rattle.ffv1_reads.proofs.Results.{ok_is}
@@ -87,11 +90,11 @@ run_extended (c ∷ cs) s t run =
     both_true : (a b : Bool) → a ≡ true → b ≡ true → (a && b) ≡ true
     both_true a b p q = rw (p, q) refl
 
-    known_frames : (o : Option Head) → (stream_known s o).frames ≡ s.frames
+    known_frames : (o : Option Head) → (stream_known (stream_came EveryRiff s) o).frames ≡ s.frames
     known_frames None = refl
     known_frames (Some head) = refl
 
-    on_stream : (o : Option Head) (b : Bool) (m : Headers) → StreamTakes EveryRiff s o b c.bytes m → m.frames ≡ s.frames
+    on_stream : (o : Option Head) (b : Bool) (m : Headers) → StreamTakes EveryRiff (stream_came EveryRiff s) o b c.bytes m → m.frames ≡ s.frames
     on_stream (Some head) b m takes = ap (λ (z : Headers). z.frames) takes
     on_stream None false m takes = ap (λ (z : Headers). z.frames) takes
     on_stream None true m takes = ap (λ (z : Headers). z.frames) takes.1 ∙ known_frames takes.0
@@ -124,7 +127,7 @@ whole_sound file w h =
     let top = opening.top in
     let known = top.known in
     let size = little_number 4 top.movi_size in
-    let place = first_place EveryRiff top.left (size - 4) known.passed (owed known.frames) in
+    let place = first_place EveryRiff top.left (size - 4) (Closed known.passed known.streams) (owed known.frames) in
     let second = read_on_ok (frames_read first.0.0.1 first.0.1) (λ frames. given (head, frames)) w first.2 in
     let frames = second.0.0 in
     let read : frames_read place first.0.1 ≡ Ok second.0 = ap (λ (p : Place). frames_read p first.0.1) (sym top.place) ∙ second.1 in
@@ -139,13 +142,17 @@ whole_sound file w h =
     let even : length (chunks_text part.chunks) % 2 ≡ 0 = chunks_even part.chunks part.framed.each in
     let counted : size ≡ 4 + length (chunks_text part.chunks) = omega (arith, part.long, top.movi_named) in
     let filled : little_number 4 opening.riff_size ≡ 4 + length (parts_text top.parts) + (8 + size) + length (sections_text after.sections) = omega (arith, top.counted, opening.riff_named, counted, even, after.long) in
-    let both = framed_both (frame_name known.passed) part.chunks (movis after.sections ++ riff_movis after.riffs) part.here part.later part.framed after.framed in
+    let both = framed_both (Closed known.passed known.streams) part.chunks (movis after.sections ++ riff_movis after.riffs) part.here part.later part.framed after.framed in
     let chunks = part.chunks ++ (movis after.sections ++ riff_movis after.riffs) in
-    let P : List (List ℕ) → Type 0 = λ z. AreFrames (frame_name known.passed) chunks z in
-    let Q : ℕ → Type 0 = λ n. AreFrames (frame_name n) chunks frames in
+    let P : List (List ℕ) → Type 0 = λ z. AreFrames (Closed known.passed known.streams) chunks z in
     let number : known.passed ≡ length found.before = omega (arith, found.number) in
+    let streams_are = run_counted cs no_headers known (omega arith) top.run in
+    let names : Closed known.passed known.streams ≡ names_of found.before (streams top.parts) = ap (λ n. Closed n known.streams) number ∙ ap (Closed (length found.before)) (streams_are ∙ ap (λ n. min n 100) (zero-add (length (streams top.parts)))) in
+    let Q : Names → Type 0 = λ z. AreFrames z chunks frames in
+    let S : Names → Type 0 = λ z. AreSections z after.sections in
+    let T : Names → Type 0 = λ z. AreRiffs z after.riffs in
     let count : length frames ≡ length part.here + length part.later = ap length part.parted ∙ length-append part.here part.later in
-    let here : RiffFile file head frames = record { riff_size = opening.riff_size; parts = top.parts; movi_size = top.movi_size; chunks = part.chunks; sections = after.sections; riffs = after.riffs; before = found.before; stream = found.stream; after = found.after; extended = extended.inners; bytes = text; riff_sized = opening.riff_sized; movi_sized = top.movi_sized; counted = counted; filled = filled; each = top.each; sections_are = after.sections_are; riffs_are = after.riffs_are; bounded = after.bounded; streams_are = found.parted; others = found.others; few = omega (arith, found.few, number); says = found.is; extended_are = extended.are; framed = subst Q number (subst P (sym part.parted) both); enough = omega (arith, after.enough, owes, count) } in
+    let here : RiffFile file head frames = record { riff_size = opening.riff_size; parts = top.parts; movi_size = top.movi_size; chunks = part.chunks; sections = after.sections; riffs = after.riffs; before = found.before; stream = found.stream; after = found.after; extended = extended.inners; bytes = text; riff_sized = opening.riff_sized; movi_sized = top.movi_sized; counted = counted; filled = filled; each = top.each; sections_are = subst S names after.sections_are; riffs_are = subst T names after.riffs_are; bounded = after.bounded; streams_are = found.parted; others = found.others; few = omega (arith, found.few, number); says = found.is; extended_are = extended.are; framed = subst Q names (subst P (sym part.parted) both); enough = omega (arith, after.enough, owes, count) } in
     let R : (Head × List (List ℕ)) × List ℕ → Type 0 = λ z. RiffFile file z.0.0 z.0.1 × (z.1 ≡ []) in
     let pair : Head × List (List ℕ) = (head, frames) in
     subst R (ok_is (pair, second.0.1) w second.2) (here, after.over)

@@ -1,5 +1,5 @@
 -- What is written is a file by its chunks.
-use Rattle.std.proofs.Common.{◌≡◌, ℕ, ◌+◌, ◌-◌, ◌%◌, ◌^◌, ◌≤◌, ◌<◌, nat_le, true, Result, Ok, List, [], ◌∷◌, ◌++◌, length, take, drop, codes, flat_map, map, sum, ap, ◌∙◌, sym, arith, refl, append-nil, length-append}
+use Rattle.std.proofs.Common.{◌≡◌, ℕ, ◌+◌, ◌-◌, ◌%◌, ◌^◌, ◌≤◌, ◌<◌, nat_le, true, Result, Ok, List, [], ◌∷◌, ◌++◌, length, take, drop, codes, flat_map, map, sum, ap, ◌∙◌, sym, arith, refl, append-nil, length-append, false}
 use Rattle.std.proofs.lemmas.Bool.{le-leb}
 use Rattle.std.proofs.lemmas.List.{length-replicate, take_all}
 use Rattle.std.proofs.lemmas.List.Sums.{sum_by-cons}
@@ -7,6 +7,9 @@ use Rattle.byteorder.specs.Endian.{little_number}
 use Rattle.byteorder.specs.Numbers.{little_number-reads_back}
 use Rattle.ffv1_avi.specs.Chunks.{AreFrames, AreSized, AviFile, Chunk, IsChunk, IsPart, IsStream, IsWritable, Part, Says, chunk_text, chunks_text, part_chunk}
 use Rattle.ffv1_reads.specs.Reads.{Stop}
+use Rattle.ffv1_avi.specs.declared.place.Names.{Names}
+use Rattle.ffv1_avi.specs.declared.place.Names.TheVariants.{Any}
+use Rattle.ffv1_avi.specs.Names.{is_barred, is_frame}
 use Rattle.ffv1_avi.specs.declared.place.Extent.{Extent}
 use Rattle.ffv1_avi.specs.declared.place.Extent.TheVariants.{FirstMovi, EveryRiff}
 use Rattle.ffv1_reads.specs.Head.{Head, limit}
@@ -30,11 +33,11 @@ pub frames_text : (frames : List (List ℕ)) → chunks_text (map frame_of frame
 frames_text [] = refl
 frames_text (f ∷ fs) = ap (λ z. frame_chunk f ++ z) (frames_text fs)
 
-pub frames_are : (frames : List (List ℕ)) → AreSized frames → AreFrames (codes "00dc") (map frame_of frames) frames
-frames_are [] sized = record { each = tt; no_list = refl; those_of = refl; sized = tt }
-frames_are (f ∷ fs) sized =
-    let more = frames_are fs sized.2 in
-    record { each = (frame_is f sized.1, more.each); no_list = more.no_list; those_of = ap (λ z. f ∷ z) more.those_of; sized = sized }
+pub frames_are : (names : Names) → is_barred names (codes "00dc") ≡ false → is_frame names (codes "00dc") ≡ true → (frames : List (List ℕ)) → AreSized frames → AreFrames names (map frame_of frames) frames
+frames_are names stands named [] sized = record { each = tt; none_barred = refl; those_of = refl; sized = tt }
+frames_are names stands named (f ∷ fs) sized =
+    let more = frames_are names stands named fs sized.2 in
+    record { each = (frame_is f sized.1, more.each); none_barred = rw stands more.none_barred; those_of = rw named (ap (λ z. f ∷ z) more.those_of); sized = sized }
 
 pub frames_long : (frames : List (List ℕ)) → AreSized frames → (4 + length (chunks_text (map frame_of frames)) ≡ movi_size frames) × (movi_size frames % 2 ≡ 0)
 frames_long [] sized = (refl, refl)
@@ -167,7 +170,7 @@ written_file head frames is =
     let whole : file_of head frames ≡ (codes "RIFF" ++ number (riff_size head frames) ++ codes "AVI ") ++ (parts_text (header_of head count ∷ []) ++ ((codes "LIST" ++ number size ++ codes "movi") ++ (chunks_text (map frame_of frames) ++ []))) =
     ap (λ z. head_text head count (riff_size head frames) ++ z) behind
     ∙ ap (λ z. front head count (riff_size head frames) ++ z) (tail_same head.config_record (padding (40 + length head.config_record)) (spelled (movi size) ++ (chunks_text (map frame_of frames) ++ []))) in
-    record { riff_size = number (riff_size head frames); parts = header_of head count ∷ []; movi_size = number size; chunks = map frame_of frames; rest = []; stream = stream_of head count; others = []; bytes = whole; riff_sized = refl; movi_sized = refl; counted = counted; fits = fits; each = (header_is head count is.short, tt); first = refl; says = written_stream FirstMovi head frames count is; framed = frames_are frames is.sized }
+    record { riff_size = number (riff_size head frames); parts = header_of head count ∷ []; movi_size = number size; chunks = map frame_of frames; rest = []; stream = stream_of head count; others = []; bytes = whole; riff_sized = refl; movi_sized = refl; counted = counted; fits = fits; each = (header_is head count is.short, tt); first = refl; says = written_stream FirstMovi head frames count is; framed = frames_are Any refl refl frames is.sized }
 
 -- of which nothing is left
 pub written_rest : (head : Head) (frames : List (List ℕ)) (is : IsWritable head frames) → ◌≡◌ {A = Result ((Head × List (List ℕ)) × List ℕ) Stop} (Ok ((head, frames), (written_file head frames is).rest)) (Ok ((head, frames), []))

@@ -5,6 +5,9 @@ use Rattle.std.specs.Prelude.{map, nat_lt, Option, Some, None}
 use Rattle.byteorder.specs.Endian.{little_number}
 use Rattle.ffv1_avi.specs.declared.place.Extent.{Extent}
 use Rattle.ffv1_avi.specs.declared.place.Extent.TheVariants.{FirstMovi, EveryRiff}
+use Rattle.ffv1_avi.specs.declared.place.Names.{Names}
+use Rattle.ffv1_avi.specs.declared.place.Names.TheVariants.{Any}
+use Rattle.ffv1_avi.specs.Names.{is_barred, is_frame}
 use Rattle.ffv1_reads.specs.Head.{Head, limit}
 use Rattle.ffv1_avi.specs.Padding.{padded}
 use Rattle.ffv1_avi.specs.Walk.{is_name}
@@ -148,12 +151,21 @@ abbrev pub AreSized : List (List ℕ) → Type 0
 AreSized [] = Unit {0}
 AreSized (f ∷ fs) = (0 < length f) × (length f ≤ limit) × AreSized fs
 
--- the frames are the chunks of this name in movi, which has no lists
-pub record AreFrames (name : List ℕ) (chunks : List Chunk) (frames : List (List ℕ))
+-- a chunk that may not stand in movi
+abbrev pub barred_in : Names → Chunk → Bool
+barred_in names c = is_barred names c.name
+
+-- a chunk that is a frame
+abbrev pub frame_in : Names → Chunk → Bool
+frame_in names c = is_frame names c.name
+
+-- the frames are those chunks of movi that are frames by their name, and it has none that may not
+-- stand there
+pub record AreFrames (names : Names) (chunks : List Chunk) (frames : List (List ℕ))
     : Type 0 where
   pub each : AreChunks chunks
-  pub no_list : those (is_named (codes "LIST")) chunks ≡ []
-  pub those_of : map (λ (c : Chunk). c.bytes) (those (is_named name) chunks) ≡ frames
+  pub none_barred : those (barred_in names) chunks ≡ []
+  pub those_of : map (λ (c : Chunk). c.bytes) (those (frame_in names) chunks) ≡ frames
   pub sized : AreSized frames
 
 -- a file with this head and these frames: RIFF with its parts and then the first movi, which fits
@@ -178,7 +190,7 @@ pub record AviFile (file : List ℕ) (head : Head) (frames : List (List ℕ)) : 
   pub each : AreParts parts
   pub first : streams parts ≡ stream ∷ others
   pub says : IsStream FirstMovi stream head
-  pub framed : AreFrames (codes "00dc") chunks frames
+  pub framed : AreFrames Any chunks frames
 
 -- a file whose first movi begins after these parts of RIFF, in which it fits
 pub record MoviBegins (file : List ℕ) (parts : List Part) (rest : List ℕ) : Type 0 where

@@ -1,16 +1,17 @@
 -- Files of several RIFFs, up to the edge of one of them.
-use Rattle.std.specs.Prelude.{◌≡◌, ℕ, List, [], ◌∷◌, ◌++◌, length, map, Some, Ok, Err}
+use Rattle.std.specs.Prelude.{◌≡◌, ℕ, List, [], ◌∷◌, ◌++◌, map, Some, Ok, Err}
 use Rattle.ffv1_avi.specs.declared.place.Extent.TheVariants.{EveryRiff}
 use Rattle.ffv1_avi.specs.declared.place.Place.{Place}
-use Rattle.ffv1_avi.specs.Chunks.{Chunk, is_named, those}
-use Rattle.ffv1_avi.specs.Files.{frame_name, frame_read, open_read}
+use Rattle.ffv1_avi.specs.declared.place.Names.{Names}
+use Rattle.ffv1_avi.specs.Chunks.{Chunk, frame_in, streams, those}
+use Rattle.ffv1_avi.specs.Files.{frame_read, open_read}
 use Rattle.ffv1_reads.specs.Head.{Head}
 use Rattle.ffv1_reads.specs.Reads.{Stop}
-use Rattle.ffv1_avi.specs.Riffs.{Riff, RiffFile, movis, riff_movis, riffs_text}
+use Rattle.ffv1_avi.specs.Riffs.{Riff, RiffFile, movis, names_of, riff_movis, riffs_text}
 
--- the bytes of the chunks of this name
-abbrev pub bytes_named : List ℕ → List Chunk → List (List ℕ)
-bytes_named name chunks = map (λ (c : Chunk). c.bytes) (those (is_named name) chunks)
+-- the bytes of the chunks that are frames
+abbrev pub bytes_framed : Names → List Chunk → List (List ℕ)
+bytes_framed names chunks = map (λ (c : Chunk). c.bytes) (those (frame_in names) chunks)
 
 -- these bytes are the last ones of some RIFFs, from the edge of one of them on
 abbrev pub IsAtEdge : List Riff → List ℕ → Type 0
@@ -21,7 +22,7 @@ IsAtEdge riffs bytes =
 abbrev pub frames_to : {file : List ℕ} {head : Head} {frames : List (List ℕ)} →
     RiffFile file head frames → List Riff → List (List ℕ)
 frames_to is riffs =
-    bytes_named (frame_name (length is.before))
+    bytes_framed (names_of is.before (streams is.parts))
     (is.chunks ++ (movis is.sections ++ riff_movis riffs))
 
 -- from this place this text begins with these frames, one after the other, and after them it is

@@ -1,34 +1,55 @@
 -- Reading a file: its head up to the first movi, and the frames, one after the other.
-use Rattle.std.specs.Prelude.{ℕ, suc, zero, ◌+◌, ◌-◌, ◌/◌, ◌%◌, ◌==◌, ◌&&◌, Bool}
-use Rattle.std.specs.Prelude.{if◌then◌else◌, nat_lt, nat_le, List, [], ◌∷◌, take, drop, codes}
+use Rattle.std.specs.Prelude.{ℕ, suc, zero, ◌+◌, ◌-◌, ◌%◌, ◌==◌, ◌&&◌, Bool}
+use Rattle.std.specs.Prelude.{min, if◌then◌else◌, nat_lt, nat_le, List, [], ◌∷◌, take, drop, codes}
 use Rattle.std.specs.Prelude.{Option, Some, None, Ok}
 use Rattle.byteorder.specs.Endian.{little_number}
 use Rattle.ffv1_reads.specs.declared.fault.FileFault.TheVariants as fault
 use Rattle.ffv1_avi.specs.declared.place.Extent.{Extent}
 use Rattle.ffv1_avi.specs.declared.place.Extent.TheVariants.{FirstMovi, EveryRiff}
+use Rattle.ffv1_avi.specs.declared.place.Names.{Names}
+use Rattle.ffv1_avi.specs.declared.place.Names.TheVariants.{Closed}
 use Rattle.ffv1_avi.specs.declared.place.Place.{Place}
 use Rattle.ffv1_reads.specs.Head.{Head, limit}
 use Rattle.ffv1_avi.specs.Places.{amount, extent_of, first_place, frame_at, movi_at, riff_at}
 use Rattle.ffv1_reads.specs.Reads.{Kept, Reading, given, refused, taken, passed}
+use Rattle.ffv1_avi.specs.Names.{is_barred, is_frame}
 use Rattle.ffv1_avi.specs.Padding.{padded, content}
 use Rattle.ffv1_reads.specs.Reads.{◌>>=◌}
 use Rattle.ffv1_avi.specs.Walk.{is_name, Visit, walk}
 use Rattle.ffv1_avi.specs.Streams.{skipped, stream_read}
 
 -- what is known before the first movi: how many streams came that do not count, the head of the one
--- that does, and how many frames the file has
+-- that does, how many frames the file has, and how many streams came in all, up to 100
 pub record Headers : Type 0 where
   pub passed : ℕ
   pub head : Option Head
   pub frames : Option ℕ
+  pub streams : ℕ
 
 abbrev pub no_headers : Headers
-no_headers = record { passed = 0; head = None; frames = None }
+no_headers = record { passed = 0; head = None; frames = None; streams = 0 }
 
 -- a stream that was read, which counts where it is FFV1 video
 abbrev pub stream_known : Headers → Option Head → Headers
-stream_known k None = record { passed = k.passed + 1; head = None; frames = k.frames }
-stream_known k (Some head) = record { passed = k.passed; head = Some head; frames = k.frames }
+stream_known k None =
+    record { passed = k.passed + 1; head = None; frames = k.frames; streams = k.streams }
+stream_known k (Some head) =
+    record { passed = k.passed; head = Some head; frames = k.frames; streams = k.streams }
+
+-- how many streams there are with one more, where two digits name it
+abbrev pub one_more : Extent → ℕ → ℕ
+one_more FirstMovi streams = streams
+one_more EveryRiff streams = min (streams + 1) 100
+
+-- the same, and a stream came; the streams are counted where every RIFF is read
+abbrev pub stream_came : Extent → Headers → Headers
+stream_came extent k =
+    record {
+      passed = k.passed;
+      head = k.head;
+      frames = k.frames;
+      streams = one_more extent k.streams;
+    }
 
 -- what is left of a list of which its own name has been read, where it says nothing here
 abbrev pub list_skipped : {S Y : Type 0} → S → ℕ → Reading (S × Option Y)
@@ -66,12 +87,12 @@ abbrev pub extended_visited : Extent → Headers → ℕ → Reading (Headers ×
 extended_visited FirstMovi k size = list_skipped k size
 extended_visited EveryRiff k size =
     extended_read k.frames size >>= λ frames.
-    given (record { passed = k.passed; head = k.head; frames = frames }, None)
+    given (record { passed = k.passed; head = k.head; frames = frames; streams = k.streams }, None)
 
 -- a list of hdrl, by its own name
 abbrev pub header_named : Extent → Headers → ℕ → List ℕ → Reading (Headers × Option ⊥)
 header_named extent k size own =
-    if is_name own (codes "strl") then stream_visited extent k size k.head
+    if is_name own (codes "strl") then stream_visited extent (stream_came extent k) size k.head
     else if is_name own (codes "odml") then extended_visited extent k size
     else list_skipped k size
 
@@ -99,7 +120,13 @@ abbrev pub movi_reached : Extent → Headers → ℕ → ℕ → Option Head →
     Reading (Headers × Option (Head × Place))
 movi_reached extent k left size None = refused fault.NoFfv1
 movi_reached extent k left size (Some head) =
-    given (k, Some (head, first_place extent left (size - 4) k.passed (owed k.frames)))
+    given (
+      k,
+      Some (
+        head,
+        first_place extent left (size - 4) (Closed k.passed k.streams) (owed k.frames),
+      ),
+    )
 
 -- a list of RIFF, by its own name
 abbrev pub list_visited : Extent → Headers → ℕ → ℕ → List ℕ →
@@ -143,37 +170,34 @@ frame_judged size left =
     else if size == 0 then refused fault.EmptyFrame
     else given (tt, Some (size, left))
 
--- the name of a stream's frames: its number, in two digits, and dc
-abbrev pub frame_name : ℕ → List ℕ
-frame_name stream = (48 + stream / 10) ∷ (48 + stream % 10) ∷ codes "dc"
-
--- a chunk of movi
-unfoldable pub visit_movi : ℕ → Visit (Unit {0}) (ℕ × ℕ)
-visit_movi stream s e =
-    if is_name e.name (codes "LIST") then refused fault.NotAvi
-    else if is_name e.name (frame_name stream) then frame_judged e.size e.left
+-- a chunk of movi: one that may not stand there is refused
+unfoldable pub visit_movi : Names → Visit (Unit {0}) (ℕ × ℕ)
+visit_movi names s e =
+    if is_barred names e.name then refused fault.NotAvi
+    else if is_frame names e.name then frame_judged e.size e.left
     else skipped s e.size
 
--- the size of the next frame of a stream, and what movi has left after it, where it has so many
--- bytes left; none at its end
-unfoldable pub movi_found : ℕ → ℕ → Reading (Option (ℕ × ℕ))
-movi_found stream left = walk (visit_movi stream) left tt >>= λ p. given p.1
+-- the size of the next frame, and what movi has left after it, where it has so many bytes left;
+-- none at its end
+unfoldable pub movi_found : Names → ℕ → Reading (Option (ℕ × ℕ))
+movi_found names left = walk (visit_movi names) left tt >>= λ p. given p.1
 
 -- a list of RIFF after a movi, by its own name
 abbrev pub riff_list : ℕ → ℕ → List ℕ → Reading (Unit {0} × Option (ℕ × ℕ))
 riff_list left size own =
     if is_name own (codes "movi") then given (tt, Some (size - 4, left)) else list_skipped tt size
 
--- a chunk of RIFF after a movi
-unfoldable pub visit_riff : Visit (Unit {0}) (ℕ × ℕ)
-visit_riff s e =
+-- a chunk of RIFF after a movi, where no frame may stand
+unfoldable pub visit_riff : Names → Visit (Unit {0}) (ℕ × ℕ)
+visit_riff names s e =
     if is_name e.name (codes "LIST") then (taken 4 >>= riff_list e.left e.size)
+    else if is_frame names e.name then refused fault.NotAvi
     else skipped s e.size
 
 -- the bytes of the next movi, and what RIFF has left after it, where it has so many bytes left;
 -- none at its end
-unfoldable pub movi_sought : ℕ → Reading (Option (ℕ × ℕ))
-movi_sought left = walk visit_riff left tt >>= λ p. given p.1
+unfoldable pub movi_sought : Names → ℕ → Reading (Option (ℕ × ℕ))
+movi_sought names left = walk (visit_riff names) left tt >>= λ p. given p.1
 
 -- four bytes; or, where no frame is owed, the end of the input
 unfoldable pub name_or_end : ℕ → Reading (Option (List ℕ))
@@ -208,7 +232,7 @@ movi_or_riff place (Some p) = given (Some (movi_at place p))
 -- where frames are sought next after the end of a movi; nowhere at the end
 abbrev pub moved_by : Extent → Place → Reading (Option Place)
 moved_by FirstMovi place = given None
-moved_by EveryRiff place = movi_sought place.riff >>= movi_or_riff place
+moved_by EveryRiff place = movi_sought place.names place.riff >>= movi_or_riff place
 
 unfoldable pub moved : Place → Reading (Option Place)
 moved place = moved_by (extent_of place) place
@@ -228,7 +252,7 @@ found_or_on on place (Some p) = given (Some (p.0, frame_at place p.1))
 unfoldable pub frame_found_up_to : ℕ → Place → Reading (Option (ℕ × Place))
 frame_found_up_to zero place = given None
 frame_found_up_to (suc most) place =
-    movi_found place.stream place.movi >>= found_or_on (frame_found_up_to most) place
+    movi_found place.names place.movi >>= found_or_on (frame_found_up_to most) place
 
 -- the next frame's size, and the place after its header; none at the end
 unfoldable pub frame_found : Place → Reading (Option (ℕ × Place))

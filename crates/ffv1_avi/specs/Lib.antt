@@ -1,5 +1,6 @@
 pub mod Padding
 pub mod Walk
+pub mod Names
 pub mod Places
 pub mod Extents
 pub mod Streams

@@ -28,7 +28,7 @@ movi_left place left =
       input = place.input;
       riff = place.riff;
       movi = left;
-      stream = place.stream;
+      names = place.names;
       owed = place.owed;
     }
 
@@ -39,7 +39,7 @@ riff_left place left =
       input = place.input;
       riff = left;
       movi = 0;
-      stream = place.stream;
+      names = place.names;
       owed = place.owed;
     }
 
@@ -59,11 +59,11 @@ riff_next place (Some next) = given next
 
 -- after movi a chunk of RIFF, of which a list movi is entered; or the beginning of the next RIFF
 abbrev pub riff_taken : Place → Option Entry → Reading Place
-riff_taken place (Some e) = visit_riff tt e >>= λ p. movi_entered place e.left p.1
+riff_taken place (Some e) = visit_riff place.names tt e >>= λ p. movi_entered place e.left p.1
 riff_taken place None = riff_begun place >>= riff_next place
 
 abbrev pub movi_taken : Place → Option Entry → Reading Place
-movi_taken place (Some e) = visit_movi place.stream tt e >>= λ p. frame_taken place e.left p.1
+movi_taken place (Some e) = visit_movi place.names tt e >>= λ p. frame_taken place e.left p.1
 movi_taken place None =
     if place.input == 0 then given place else (entry_read place.riff >>= riff_taken place)
 

@@ -2,6 +2,8 @@
 use Rattle.std.specs.Prelude.{ℕ, ◌+◌, ◌-◌, ◌==◌, if◌then◌else◌}
 use Rattle.ffv1_avi.specs.declared.place.Extent.{Extent}
 use Rattle.ffv1_avi.specs.declared.place.Extent.TheVariants.{FirstMovi, EveryRiff}
+use Rattle.ffv1_avi.specs.declared.place.Names.{Names}
+use Rattle.ffv1_avi.specs.declared.place.Names.TheVariants.{Any}
 use Rattle.ffv1_avi.specs.declared.place.Place.{Place}
 
 -- how far is read: bytes after this RIFF are looked at only where every RIFF is read
@@ -10,7 +12,7 @@ extent_of place = if place.input == 0 then FirstMovi else EveryRiff
 
 -- where a reader stands after the end
 abbrev pub ended : Place
-ended = record { input = 0; riff = 0; movi = 0; stream = 0; owed = 0 }
+ended = record { input = 0; riff = 0; movi = 0; names = Any; owed = 0 }
 
 -- a number of bytes that no reading from here passes
 abbrev pub amount : Place → ℕ
@@ -20,12 +22,13 @@ amount place = place.movi + place.riff + place.input
 abbrev pub most_input : ℕ
 most_input = 18446744073709551615
 
--- the first movi, in an RIFF that has so many bytes after it
-abbrev pub first_place : Extent → ℕ → ℕ → ℕ → ℕ → Place
-first_place FirstMovi riff movi stream owed =
-    record { input = 0; riff = 0; movi = movi; stream = 0; owed = 0 }
-first_place EveryRiff riff movi stream owed =
-    record { input = most_input; riff = riff; movi = movi; stream = stream; owed = owed }
+-- the first movi, in an RIFF that has so many bytes after it; which chunks stand in it is judged
+-- where every RIFF is read
+abbrev pub first_place : Extent → ℕ → ℕ → Names → ℕ → Place
+first_place FirstMovi riff movi names owed =
+    record { input = 0; riff = 0; movi = movi; names = Any; owed = 0 }
+first_place EveryRiff riff movi names owed =
+    record { input = most_input; riff = riff; movi = movi; names = names; owed = owed }
 
 -- a movi in the same RIFF
 abbrev pub movi_at : Place → ℕ × ℕ → Place
@@ -34,7 +37,7 @@ movi_at place p =
       input = place.input;
       riff = p.1;
       movi = p.0;
-      stream = place.stream;
+      names = place.names;
       owed = place.owed;
     }
 
@@ -45,7 +48,7 @@ riff_at place size =
       input = place.input - (8 + size);
       riff = size - 4;
       movi = 0;
-      stream = place.stream;
+      names = place.names;
       owed = place.owed;
     }
 
@@ -56,6 +59,6 @@ frame_at place left =
       input = place.input;
       riff = place.riff;
       movi = left;
-      stream = place.stream;
+      names = place.names;
       owed = place.owed - 1;
     }

@@ -2,17 +2,20 @@
 //! is read back.
 
 ghost use Rattle.std.specs.Prelude.{◌≡◌, ◌<◌, ◌≤◌, ◌+◌, ◌++◌, ◌&&◌, ℕ, List, codes, length, []};
-ghost use Rattle.std.specs.Prelude.{false, flat_map, nat_le, take, Option, Some, None, Ok, Err};
+ghost use Rattle.std.specs.Prelude.{false, flat_map, nat_le, take, true, Option, Some, None};
+ghost use Rattle.std.specs.Prelude.{Ok, Err};
 ghost use Rattle.byteorder.specs.Endian.{little_number};
 ghost use Rattle.ffv1_avi.specs.Chunks.{AreChunks, AreOthers, AviFile, Chunk, IsWritable};
 ghost use Rattle.ffv1_avi.specs.Chunks.{MoviBegins, Part, header_chunks, is_list};
-ghost use Rattle.ffv1_avi.specs.Chunks.{Passes, chunks_text, is_named, streams, those};
+ghost use Rattle.ffv1_avi.specs.Chunks.{Passes, barred_in, chunks_text, frame_in, is_named};
+ghost use Rattle.ffv1_avi.specs.Chunks.{streams, those};
 ghost use Rattle.ffv1_avi.specs.Begun.{AreReadable, HasShortFormat, HeaderBegins, RiffBegins};
 ghost use Rattle.ffv1_avi.specs.Begun.{StreamBegins, streams_of};
 ghost use Rattle.ffv1_avi.specs.Files.{file_read, open_read, frame_read, frames_read, more_frames};
-ghost use Rattle.ffv1_avi.specs.Files.{frame_name};
 ghost use Rattle.ffv1_reads.specs.Ends.{Ends, Stops};
 ghost use Rattle.ffv1_reads.specs.Head.{Head};
+ghost use Rattle.ffv1_avi.specs.Names.{IsFrameName, IsListed, is_barred, is_frame};
+ghost use Rattle.ffv1_avi.specs.Padding.{padded};
 ghost use Rattle.ffv1_avi.specs.Places.{ended, extent_of, first_place};
 ghost use Rattle.ffv1_reads.specs.Reads.{EndsEarly, Faults, Lacks, Met, Read, Reading, Short, Want};
 ghost use Rattle.ffv1_reads.specs.Reads.{Looked, Stop, read_on};
@@ -24,6 +27,7 @@ ghost use Rattle.ffv1_avi.specs.Written.{file_of};
 ghost use Rattle.ffv1_reads.specs.declared.fault.FileFault.TheVariants as fault;
 ghost use Rattle.ffv1_reads.specs.declared.fault.FileFault.{FileFault};
 ghost use Rattle.ffv1_avi.specs.declared.place.Extent.TheVariants.{FirstMovi, EveryRiff};
+ghost use Rattle.ffv1_avi.specs.declared.place.Names.TheVariants.{Any, Closed};
 ghost use Rattle.ffv1_avi.specs.declared.place.Place.{Place};
 
 /// The frames are the next one and those after it; at the end there is none, and nothing is read.
@@ -113,7 +117,7 @@ pub fn long_chunk_is_truncated()
     ensures movi { (chunks : List Chunk) (left : ℕ) (name size rest : List ℕ) → AreChunks chunks →
         those (is_named (codes "LIST")) chunks ≡ [] → those (is_named (codes "00dc")) chunks ≡ [] →
         Passes left name size →
-        frame_read (first_place FirstMovi 0 (length (chunks_text chunks) + left) 0 0)
+        frame_read (first_place FirstMovi 0 (length (chunks_text chunks) + left) Any 0)
         (chunks_text chunks ++ ((name ++ size) ++ rest))
         ≡ Err (Met fault.Truncated rest) }
     ensures riff { (file : List ℕ) (parts : List Part) (left : ℕ) (name size rest : List ℕ) →
@@ -143,8 +147,8 @@ pub fn movi_after_other_streams_is_refused()
 /// Where every RIFF is read, a chunk that passes its list is truncated, and nothing after its
 /// header is read: in RIFF, in `hdrl` and in `odml` after chunks whose streams can be read, up to
 /// the one that counts; in a stream's list where none before it counts, after chunks of which no
-/// format is too long; in any `movi` after chunks that are no frames; and in RIFF after a `movi`,
-/// or in the next RIFF, after chunks that are no `movi`.
+/// format is too long; in any `movi` after chunks that may stand there and are no frames;
+/// and in RIFF after a `movi`, or in the next RIFF, after chunks that are no `movi` and no frames.
 pub fn long_chunk_in_riffs_is_truncated()
     ensures riff { (file : List ℕ) (parts : List Part) (left : ℕ) (name size rest : List ℕ) →
         RiffBegins file parts left ((name ++ size) ++ rest) → AreCounted 100 (streams parts) →
@@ -171,14 +175,15 @@ pub fn long_chunk_in_riffs_is_truncated()
         open_read EveryRiff file ≡ Err (Met fault.Truncated rest) }
     ensures movi { (place : Place) (chunks : List Chunk) (left : ℕ) (name size rest : List ℕ) →
         place.movi ≡ length (chunks_text chunks) + left → AreChunks chunks →
-        those (is_named (codes "LIST")) chunks ≡ [] →
-        those (is_named (frame_name place.stream)) chunks ≡ [] → Passes left name size →
+        those (barred_in place.names) chunks ≡ [] →
+        those (frame_in place.names) chunks ≡ [] → Passes left name size →
         frame_read place (chunks_text chunks ++ ((name ++ size) ++ rest))
         ≡ Err (Met fault.Truncated rest) }
     ensures after { (place : Place) (chunks : List Chunk) (left : ℕ) (name size rest : List ℕ) →
         extent_of place ≡ EveryRiff → place.movi ≡ 0 →
         place.riff ≡ length (chunks_text chunks) + left → AreChunks chunks →
-        those (is_list (codes "movi")) chunks ≡ [] → Passes left name size →
+        those (is_list (codes "movi")) chunks ≡ [] →
+        those (frame_in place.names) chunks ≡ [] → Passes left name size →
         frame_read place (chunks_text chunks ++ ((name ++ size) ++ rest))
         ≡ Err (Met fault.Truncated rest) }
     ensures next { (place : Place) (riff_size : List ℕ) (chunks : List Chunk) (left : ℕ)
@@ -186,7 +191,8 @@ pub fn long_chunk_in_riffs_is_truncated()
         place.riff ≡ 0 → length riff_size ≡ 4 →
         little_number 4 riff_size ≡ 4 + length (chunks_text chunks) + left →
         8 + little_number 4 riff_size < place.input → AreChunks chunks →
-        those (is_list (codes "movi")) chunks ≡ [] → Passes left name size →
+        those (is_list (codes "movi")) chunks ≡ [] →
+        those (frame_in place.names) chunks ≡ [] → Passes left name size →
         frame_read place ((codes "RIFF" ++ riff_size ++ codes "AVIX")
         ++ (chunks_text chunks ++ ((name ++ size) ++ rest)))
         ≡ Err (Met fault.Truncated rest) }
@@ -204,6 +210,24 @@ pub fn file_is_read_as_its_frames()
     ensures every_only { (file : List ℕ) (head other : Head) (frames others : List (List ℕ)) →
         RiffFile file head frames → RiffFile file other others →
         (head ≡ other) × (frames ≡ others) }
+{}
+
+/// Where every RIFF is read, a movi holds only what a name lists: a name of four bytes may stand
+/// there exactly where it is that of a frame of the stream, compressed or not, of its palette, of
+/// another one of the streams, of an index, or JUNK. Any other is refused behind its header, and
+/// nothing after that is read.
+pub fn movi_holds_listed_chunks()
+    ensures frames { (stream streams : ℕ) (name : List ℕ) → stream < 100 →
+        is_frame (Closed stream streams) name ≡ true → IsFrameName stream name }
+    ensures listed { (stream streams : ℕ) (name : List ℕ) → stream < 100 → length name ≡ 4 →
+        is_barred (Closed stream streams) name ≡ false → IsListed stream streams name }
+    ensures barred { (stream streams : ℕ) (name : List ℕ) → stream < 100 →
+        IsListed stream streams name → is_barred (Closed stream streams) name ≡ false }
+    ensures refused { (place : Place) (name size rest : List ℕ) → length name ≡ 4 →
+        length size ≡ 4 → 8 + padded (little_number 4 size) ≤ place.movi →
+        (is_name name (codes "LIST") ≡ true → 4 ≤ little_number 4 size) →
+        is_barred place.names name ≡ true →
+        frame_read place ((name ++ size) ++ rest) ≡ Err (Met fault.NotAvi rest) }
 {}
 
 /// What is written is a file of its head and frames, by its chunks, of one RIFF, and is read back,

@@ -19,6 +19,7 @@
 mod chunk;
 mod field;
 pub mod laws;
+mod names;
 mod open;
 mod place;
 mod reader;

@@ -5,7 +5,8 @@ ghost use Rattle.std.specs.Prelude.{OnOk};
 ghost use Rattle.std.specs.Vec.{vec_capacity};
 ghost use Rattle.ffv1_avi.specs.Files.{extended_read, extended_visited, header_list, header_read};
 ghost use Rattle.ffv1_avi.specs.Files.{movi_reached, open_read, owed};
-ghost use Rattle.ffv1_avi.specs.Files.{stream_known, stream_visited, top_read, total_read};
+ghost use Rattle.ffv1_avi.specs.Files.{stream_came, stream_known, stream_visited, top_read};
+ghost use Rattle.ffv1_avi.specs.Files.{total_read};
 ghost use Rattle.ffv1_avi.specs.Files.{visit_extended, visit_header, visit_top};
 ghost use Rattle.ffv1_reads.specs.First.{bytes_with, passage_with};
 ghost use Rattle.ffv1_reads.specs.Head.{Head};
@@ -17,10 +18,11 @@ ghost use Rattle.ffv1_reads.specs.Room.{RoomRead};
 ghost use Rattle.ffv1_avi.specs.Walk.{is_name};
 ghost use Rattle.ffv1_avi.specs.Internal.Views.{found_with, head_with, headers_next, headers_with};
 ghost use Rattle.ffv1_avi.specs.Internal.Views.{top_with};
+ghost use Rattle.ffv1_avi.specs.declared.place.Names.TheVariants.{Closed};
 ghost use Rattle.ffv1_avi.specs.declared.place.Place.{Place};
 
 use crate::chunk::{Entry, is_name, next_entry, padded};
-use crate::place::{Extent, Place};
+use crate::place::{Extent, Names, Place};
 use crate::stream::{Sizes, read_stream};
 use byteorder::{ByteOrder, LittleEndian};
 use ffv1_reads::{FileFault, pass, take, take_after};
@@ -28,12 +30,13 @@ use ffv1_wire::ByteIn;
 use std::alloc::Allocator;
 
 /// What is known before the first movi: how many streams came that do not count, what the one that
-/// does says, and how many frames the file has.
+/// does says, how many frames the file has, and how many streams came in all, up to 100.
 #[derive(Clone, Copy)]
 pub(crate) struct Found {
     pub(crate) passed: u8,
     pub(crate) sizes: Option<Sizes>,
     pub(crate) frames: Option<u32>,
+    pub(crate) streams: u8,
 }
 
 /// A list's own name.
@@ -59,6 +62,18 @@ fn stream_found(found: Found, sizes: Option<Sizes>) -> Found
         found.passed += 1;
     }
     found.sizes = sizes;
+    found
+}
+
+/// What is known where a stream came. The streams are counted where every RIFF is read.
+fn stream_came(extent: Extent, found: Found) -> Found
+    ensures { (bytes : List ℕ) →
+        headers_with result bytes ≡ stream_came extent (headers_with found bytes) }
+{
+    let mut found = found;
+    if extent == Extent::EveryRiff {
+        found.streams = found.streams.saturating_add(1).min(100);
+    }
     found
 }
 
@@ -189,7 +204,7 @@ fn visit_header_list<R: ByteIn, A: Allocator>(
 {
     let own = own_name(input)?;
     if is_name(&own, b"strl") {
-        return visit_stream(input, extent, found, size, config);
+        return visit_stream(input, extent, stream_came(extent, found), size, config);
     }
     if is_name(&own, b"odml") {
         return extend(input, extent, found, size);
@@ -256,21 +271,22 @@ pub(crate) enum Top {
 
 /// The first movi, of so many bytes, where RIFF has so many after it.
 fn first_place(extent: Extent, riff: u32, movi: u32, found: Found) -> Place
-    ensures { result ≡ first_place extent riff movi found.passed (owed found.frames) }
+    ensures { result ≡ first_place extent riff movi (Closed found.passed found.streams)
+        (owed found.frames) }
 {
     match extent {
         Extent::FirstMovi => Place {
             input: 0,
             riff: 0,
             movi,
-            stream: 0,
+            names: Names::Any,
             owed: 0,
         },
         Extent::EveryRiff => Place {
             input: u64::MAX,
             riff,
             movi,
-            stream: found.passed,
+            names: Names::Closed(found.passed, found.streams),
             owed: found.frames.unwrap_or(0),
         },
     }
@@ -344,6 +360,7 @@ fn read_top<R: ByteIn, A: Allocator>(
         passed: 0,
         sizes: None,
         frames: None,
+        streams: 0,
     };
     let mut left = room;
     while let Some(entry) = next_entry(input, left)? {

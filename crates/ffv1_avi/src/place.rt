@@ -13,6 +13,17 @@ pub enum Extent {
     EveryRiff,
 }
 
+/// Which chunks a movi has, by their names.
+#[derive(Clone, Copy)]
+pub(crate) enum Names {
+    /// Where the first movi is read alone: the frames are `00dc`, and all but lists may stand
+    /// beside them.
+    Any,
+    /// Where every RIFF is read: those of the stream of this number, of so many that two digits can
+    /// name, and what may stand beside its frames.
+    Closed(u8, u8),
+}
+
 /// Where a reader stands: in a movi.
 #[derive(Clone, Copy)]
 pub(crate) struct Place {
@@ -22,8 +33,8 @@ pub(crate) struct Place {
     pub(crate) riff: u32,
     /// Bytes that movi has left.
     pub(crate) movi: u32,
-    /// Number of the stream among all `strl`; its frames are the chunks `NNdc`.
-    pub(crate) stream: u8,
+    /// Which chunks movi has.
+    pub(crate) names: Names,
     /// Frames that `dmlh` says are still to come; 0 where there is none.
     pub(crate) owed: u32,
 }
@@ -36,7 +47,7 @@ pub(crate) fn ended() -> Place
         input: 0,
         riff: 0,
         movi: 0,
-        stream: 0,
+        names: Names::Any,
         owed: 0,
     }
 }

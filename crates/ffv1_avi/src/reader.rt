@@ -5,7 +5,7 @@ ghost use Rattle.std.specs.Prelude.{List, [], false, Option, None, Some, IfErr, 
 ghost use Rattle.std.specs.Prelude.{Err};
 ghost use Rattle.std.specs.Vec.{vec_capacity};
 ghost use Rattle.ffv1_avi.specs.Extents.{AnswersFrom};
-ghost use Rattle.ffv1_avi.specs.Files.{frame_found, frame_name, frame_read, movi_found};
+ghost use Rattle.ffv1_avi.specs.Files.{frame_found, frame_read, movi_found};
 ghost use Rattle.ffv1_avi.specs.Files.{open_read, visit_movi};
 ghost use Rattle.ffv1_reads.specs.First.{bytes_with, passage_with};
 ghost use Rattle.ffv1_reads.specs.Head.{Head, head_of};
@@ -25,32 +25,30 @@ ghost use Rattle.ffv1_avi.specs.declared.place.Extent.TheVariants.{FirstMovi, Ev
 ghost use Rattle.ffv1_avi.specs.declared.place.Place.{Place};
 
 use crate::chunk::{Entry, is_name, next_entry, padded};
+use crate::names::{is_barred, is_frame};
 use crate::open::read_opening;
-use crate::place::{Extent, Place, ended};
+use crate::place::{Extent, Names, Place, ended};
 use crate::riff::move_on;
 use ffv1_reads::{FileFault, FileHead, LIMIT, fill, pass};
 use ffv1_wire::ByteIn;
 use std::alloc::{Allocator, Global};
 use std::marker::Model;
 
-/// The name of a stream's frames.
-fn frame_name(stream: u8) -> [u8; 4]
-    ensures { result ≡ frame_name stream }
-{
-    [48 + stream / 10, 48 + stream % 10, b'd', b'c']
-}
-
 /// A chunk of movi: the size of a frame, or None where it was passed.
 #[tactic(auto, unfolding(crate::specs::Files::visit_movi))]
-fn visit_movi<R: ByteIn>(input: &mut R, stream: u8, entry: Entry) -> Result<Option<u32>, FileFault>
+fn visit_movi<R: ByteIn>(
+    input: &mut R,
+    names: Names,
+    entry: Entry,
+) -> Result<Option<u32>, FileFault>
     ensures sized { IfOk result (λ o. IfSome o (λ n. (0 < n) × (n ≤ 67108864))) }
     ensures answer { Answers (λ (size : Option ℕ). (tt, frame_with size entry.left))
-        (visit_movi stream tt entry) (passage R.remaining R.failures input.old input.new) result }
+        (visit_movi names tt entry) (passage R.remaining R.failures input.old input.new) result }
 {
-    if is_name(&entry.name, b"LIST") {
+    if is_barred(names, entry.name) {
         return Err(FileFault::NotAvi);
     }
-    if !is_name(&entry.name, &frame_name(stream)) {
+    if !is_frame(names, entry.name) {
         pass(input, padded(entry.size))?;
         return Ok(None);
     }
@@ -72,14 +70,14 @@ fn find_in_movi<R: ByteIn>(
     offset: &mut u64,
 ) -> Result<Option<(u32, u32)>, FileFault>
     ensures sized { IfOk result (λ o. IfSome o (λ p. (0 < p.0) × (p.0 ≤ 67108864))) }
-    ensures answer { Answers (λ (p : Option (ℕ × ℕ)). p) (movi_found place.stream place.movi)
+    ensures answer { Answers (λ (p : Option (ℕ × ℕ)). p) (movi_found place.names place.movi)
         (passage R.remaining R.failures input.old input.new) result }
     ensures from { FindsInMovi place (passage R.remaining R.failures input.old input.new) result
         offset.old offset.new }
 {
     let mut left = place.movi;
     while let Some(entry) = next_entry(input, left)? {
-        if let Some(size) = visit_movi(input, place.stream, entry)? {
+        if let Some(size) = visit_movi(input, place.names, entry)? {
             return Ok(Some((size, entry.left)));
         }
         *offset = offset.saturating_add(8 + padded(entry.size));
@@ -96,7 +94,7 @@ fn frame_at(place: Place, left: u32) -> Place
         input: place.input,
         riff: place.riff,
         movi: left,
-        stream: place.stream,
+        names: place.names,
         owed: place.owed.saturating_sub(1),
     }
 }
@@ -305,7 +303,10 @@ impl<A: Allocator> AviReader<A> {
     /// The input has to be the one that the reader was opened on. `Truncated` where a chunk does
     /// not fit in its list or the input ends inside it, or before as many frames as `dmlh` says;
     /// `NotAvi` where a list stands in `movi`, a list has no room for its own name, or no RIFF
-    /// `AVIX` stands after a RIFF; `ChunkTooLong` for a frame above 67108864 bytes, of which no
+    /// `AVIX` stands after a RIFF; of a reader that `open_all` made, after its header, also where a
+    /// chunk stands in `movi` that is no frame `NNdc` or `NNdb` of the stream, its `NNpc`, a chunk
+    /// of another of the streams, `ixNN` or `JUNK`, or where a frame's chunk stands in RIFF after
+    /// a `movi`; `ChunkTooLong` for a frame above 67108864 bytes, of which no
     /// byte is read, `EmptyFrame` for one of none, `Read` where a read failed, `OutOfMemory`. After
     /// a fault the vector holds a beginning of the frame, and each further call answers the fault
     /// again, empties the vector and reads nothing. The vector has room as `ffv1_reads::fill` says.

@@ -14,20 +14,29 @@ ghost use Rattle.ffv1_avi.specs.declared.place.Place.{Place};
 ghost use Rattle.ffv1_wire.specs.Passage.{passage};
 
 use crate::chunk::{Entry, is_name, next_entry, padded};
+use crate::names::is_frame;
 use crate::open::own_name;
-use crate::place::Place;
+use crate::place::{Names, Place};
 use byteorder::{ByteOrder, LittleEndian};
 use ffv1_reads::{FileFault, pass, take};
 use ffv1_wire::{ByteIn, read_byte};
 
-/// A chunk of RIFF after a movi: the bytes of the next movi, or None where it was passed.
+/// A chunk of RIFF after a movi: the bytes of the next movi, or None where it was passed. None is a
+/// frame.
 #[tactic(auto, unfolding(crate::specs::Files::visit_riff))]
-fn visit_riff<R: ByteIn>(input: &mut R, entry: Entry) -> Result<Option<(u32, u32)>, FileFault>
+fn visit_riff<R: ByteIn>(
+    input: &mut R,
+    names: Names,
+    entry: Entry,
+) -> Result<Option<(u32, u32)>, FileFault>
     requires { is_name entry.name (codes "LIST") ≡ true → 4 ≤ entry.size }
-    ensures { Answers (λ (p : Option (ℕ × ℕ)). (tt, p)) (visit_riff tt entry)
+    ensures { Answers (λ (p : Option (ℕ × ℕ)). (tt, p)) (visit_riff names tt entry)
         (passage R.remaining R.failures input.old input.new) result }
 {
     if !is_name(&entry.name, b"LIST") {
+        if is_frame(names, entry.name) {
+            return Err(FileFault::NotAvi);
+        }
         pass(input, padded(entry.size))?;
         return Ok(None);
     }
@@ -47,14 +56,14 @@ fn seek_movi<R: ByteIn>(
     place: Place,
     offset: &mut u64,
 ) -> Result<Option<(u32, u32)>, FileFault>
-    ensures answer { Answers (λ (p : Option (ℕ × ℕ)). p) (movi_sought place.riff)
+    ensures answer { Answers (λ (p : Option (ℕ × ℕ)). p) (movi_sought place.names place.riff)
         (passage R.remaining R.failures input.old input.new) result }
     ensures from { 0 < place.input → SeeksMovi place
         (passage R.remaining R.failures input.old input.new) result offset.old offset.new }
 {
     let mut left = place.riff;
     while let Some(entry) = next_entry(input, left)? {
-        if let Some(movi) = visit_riff(input, entry)? {
+        if let Some(movi) = visit_riff(input, place.names, entry)? {
             *offset = offset.saturating_add(12);
             return Ok(Some(movi));
         }
@@ -110,7 +119,7 @@ fn enter_riff<R: ByteIn>(input: &mut R, place: Place) -> Result<Place, FileFault
         input: place.input - whole,
         riff: size - 4,
         movi: 0,
-        stream: place.stream,
+        names: place.names,
         owed: place.owed,
     })
 }
@@ -172,7 +181,7 @@ pub(crate) fn move_on<R: ByteIn>(
         input: place.input,
         riff,
         movi,
-        stream: place.stream,
+        names: place.names,
         owed: place.owed,
     }))
 }

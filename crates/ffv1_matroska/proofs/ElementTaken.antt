@@ -23,6 +23,7 @@ use Rattle.ffv1_matroska.specs.Segments.{block, block_group, child_by, cluster, 
 use Rattle.ffv1_matroska.specs.declared.place.Place.{Place}
 use Rattle.ffv1_matroska.specs.declared.place.Step.{Step}
 use Rattle.ffv1_reads.specs.Head.{limit}
+use Rattle.ffv1_matroska.specs.Segments.{is_beside}
 
 -- a variable-size integer
 vint_takes : (most left : ℕ) → Takes (λ (i : List ℕ). length i ≤ left) left (λ i. left - length i) (vint_read most left)
@@ -127,7 +128,7 @@ child_takes place track ident size now none =
     takes_if (ident == simple_block) _ _ (λ _. block_takes place track size now)
     (λ _. takes_if (ident == block_group) _ _
     (λ _. takes_same _ _ (closed (Some (step_to (group_at now size now.sum))) (group_at now size now.sum)) (omega (arith, none)) (closed_takes place (group_at now size now.sum)))
-    (λ _. on_takes place size now))
+    (λ _. takes_if (is_beside ident size) _ _ (λ _. on_takes place size now) (λ _. takes_refused fault.BadElement)))
 
 cluster_takes : (track : ℕ) (place : Place) → place.group ≡ 0 → Takes Any (amount place) (left_after place) (cluster_read track place)
 unfolding cluster_read known_child first_child

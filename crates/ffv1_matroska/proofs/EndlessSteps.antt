@@ -17,6 +17,7 @@ use Rattle.ffv1_matroska.specs.declared.place.Step.{Step}
 use Rattle.ffv1_matroska.proofs.StepBounds.{Gives, Lessens, gives_any, gives_given, gives_if, gives_refused, gives_then, step_less}
 use Rattle.ffv1_matroska.proofs.FrameTurns.{Turn, kept_by, step_kept, turn_read}
 use Rattle.ffv1_reads.specs.Head.{limit}
+use Rattle.ffv1_matroska.specs.Segments.{is_beside}
 
 -- the size of the Segment is known, or it is not
 abbrev Stays : Bool → Option Step → Type 0
@@ -64,7 +65,8 @@ child_stays : (track ident size : ℕ) (place : Place) → Gives (Stays place.en
 unfolding cluster_child
 child_stays track ident size place =
     gives_if (Stays place.endless) (ident == simple_block) (block_read track size place) _ (block_stays track size place)
-    (gives_if (Stays place.endless) (ident == block_group) _ (passed_on size place) (closed_stays place.endless (Some (step_to (group_at place size place.sum))) (group_at place size place.sum) refl) (passed_stays size place))
+    (gives_if (Stays place.endless) (ident == block_group) _ _ (closed_stays place.endless (Some (step_to (group_at place size place.sum))) (group_at place size place.sum) refl)
+    (gives_if (Stays place.endless) (is_beside ident size) (passed_on size place) _ (passed_stays size place) (gives_refused (Stays place.endless) fault.BadElement)))
 
 cluster_stays : (track : ℕ) (place : Place) → Gives (Stays place.endless) (cluster_read track place)
 unfolding cluster_read known_child first_child

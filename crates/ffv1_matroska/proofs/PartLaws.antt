@@ -17,11 +17,12 @@ use Rattle.ffv1_matroska.specs.Elements.{ArePieces, AreSummed, Content, IsConten
 use Rattle.ffv1_matroska.specs.Files.{frames_read}
 use Rattle.ffv1_matroska.specs.Internal.{bytes_of}
 use Rattle.ffv1_matroska.specs.Places.{closed, cluster_at, cluster_entered, is_sound, segment_at, step_to, summed_at}
-use Rattle.ffv1_matroska.specs.Segments.{block_group, cluster, first_child, header_read, is_filler, is_of_cluster, is_section, other_read, segment_child, segment_read, segment_rest, simple_block, step_read}
+use Rattle.ffv1_matroska.specs.Segments.{block_group, cluster, first_child, header_read, is_beside, is_filler, is_of_cluster, is_section, other_read, segment_child, segment_read, segment_rest, simple_block, step_read}
 use Rattle.ffv1_matroska.specs.declared.place.Place.{Place}
 use Rattle.ffv1_matroska.proofs.FrameTurns.{added, added_none, added_twice, frames_turn, run, run_on, run_turn, step_kept, turn_added, turn_read}
 use Rattle.ffv1_matroska.proofs.HeaderLaws.{IsHeader, header_complete}
 use Rattle.ffv1_matroska.proofs.PieceLaws.{IsPast, child_complete, cluster_header, differs, header_some, piece_content, piece_parts, pieces_part, pieces_some, sound_cluster, sound_met, summed_none}
+use Rattle.ffv1_matroska.specs.Elements.{stands_single}
 
 -- where a Cluster has nothing left, the Segment is read on
 pub cluster_end : (track : ℕ) (base : Place) (s : Sum) (text : List ℕ) → frames_read track (cluster_at base 0 s) text ≡ frames_read track (segment_at base base.loose base.segment) text
@@ -54,16 +55,16 @@ crc_frames track l is crc =
     no_frames track l.content (rw (← none) is.holds)
 
 -- the first element of a Cluster, its CRC-32
-crc_complete : (track : ℕ) (base : Place) (l : Leaf) (m : ℕ) (rest : List ℕ) → IsLeaf simple_block track l → is_crc (number_of l.ident) (length (content_text l.content)) ≡ true → (number_of l.ident == block_group) ≡ false →
+crc_complete : (track : ℕ) (base : Place) (l : Leaf) (m : ℕ) (rest : List ℕ) → IsLeaf simple_block track l → is_crc (number_of l.ident) (length (content_text l.content)) ≡ true → (number_of l.ident == block_group) ≡ false → stands_single (number_of l.ident) (length (content_text l.content)) ≡ true →
     is_sound (cluster_at base m (Awaits (low_number (content_text l.content)) turned)) ≡ true →
     run track (cluster_at base (length (leaf_text l) + m) Begins) (leaf_text l ++ rest) ≡ run track (cluster_at base m (Awaits (low_number (content_text l.content)) turned)) rest
 unfolding first_child
-crc_complete track base l m rest is crc apart sound =
+crc_complete track base l m rest is crc apart stands sound =
     let p = Single l in
     let body = content_text l.content in
     let four = crc_number (number_of l.ident) (length body) crc in
     run_turn track (cluster_at base (length (leaf_text l) + m) Begins) (leaf_text l ++ rest)
-    ∙ ap (run_on track) (cluster_header track base p (piece_parts track p (is, apart)) m Begins rest)
+    ∙ ap (run_on track) (cluster_header track base p (piece_parts track p (is, apart, stands)) m Begins rest)
     ∙ rw (crc, taken_complete 4 body rest four.1, sound) (added_none _)
 
 -- or another one, without one
@@ -106,7 +107,7 @@ summed_first : (track : ℕ) (base : Place) (l : Leaf) (ps : List Piece) (m : �
     ≡ added (pieces_frames (Single l ∷ ps)) (run track (cluster_at base m (summed (Awaits (low_number (content_text l.content)) turned) (pieces_text ps))) rest)
 summed_first track base l ps m rest is are crc sound =
     let s = Awaits (low_number (content_text l.content)) turned in
-    after_first track base (Single l) ps m s [] rest are tt sound (crc_complete track base l (length (pieces_text ps) + m) (pieces_text ps ++ rest) is.0 crc is.1 (rest_sound track base ps m s are sound) ∙ sym (added_none _))
+    after_first track base (Single l) ps m s [] rest are tt sound (crc_complete track base l (length (pieces_text ps) + m) (pieces_text ps ++ rest) is.0 crc is.1 is.2 (rest_sound track base ps m s are sound) ∙ sym (added_none _))
     ∙ ap (λ fs. added (fs ++ pieces_frames ps) (run track (cluster_at base m (summed s (pieces_text ps))) rest)) (sym (crc_frames track l is.0 crc))
 
 -- elements of a Cluster that has so many bytes more
@@ -199,12 +200,13 @@ pub record IsFillerOnly (n : ℕ) : Type 0 where
   pub no_block : (n == simple_block) ≡ false
   pub no_group : (n == block_group) ≡ false
   pub no_other : (n == cluster) ≡ false
+  pub beside : (size : ℕ) → is_beside n size ≡ true
 
 pub filler_only : (n : ℕ) → is_filler n ≡ true → IsFillerOnly n
-unfolding is_section is_of_cluster
+unfolding is_section is_of_cluster is_beside is_filler
 filler_only n h = elim (filler_is n h) [
-  | inl same ↦ record { no_section = ap is_section same; no_cluster = ap is_of_cluster same; no_block = ap (λ k. k == simple_block) same; no_group = ap (λ k. k == block_group) same; no_other = ap (λ k. k == cluster) same }
-  | inr same ↦ record { no_section = ap is_section same; no_cluster = ap is_of_cluster same; no_block = ap (λ k. k == simple_block) same; no_group = ap (λ k. k == block_group) same; no_other = ap (λ k. k == cluster) same }
+  | inl same ↦ record { no_section = ap is_section same; no_cluster = ap is_of_cluster same; no_block = ap (λ k. k == simple_block) same; no_group = ap (λ k. k == block_group) same; no_other = ap (λ k. k == cluster) same; beside = λ size. ap (λ k. is_beside k size) same }
+  | inr same ↦ record { no_section = ap is_section same; no_cluster = ap is_of_cluster same; no_block = ap (λ k. k == simple_block) same; no_group = ap (λ k. k == block_group) same; no_other = ap (λ k. k == cluster) same; beside = λ size. ap (λ k. is_beside k size) same }
 ]
 
 section_is_none : (n m : ℕ) → is_section n ≡ true → is_section m ≡ false → n ≡ m → ⊥

@@ -9,9 +9,9 @@ use Rattle.ffv1_ebml.specs.Vints.{IsVint, number_of}
 use Rattle.ffv1_ebml.specs.declared.sum.Sum.{Sum}
 use Rattle.ffv1_ebml.specs.declared.sum.Sum.TheVariants.{Absent, Begins, Awaits}
 use Rattle.ffv1_ebml.proofs.ElementLaws.{summed_twice}
-use Rattle.ffv1_matroska.specs.Elements.{AreLeaves, ArePieces, IsContent, IsLeaf, IsPiece, Leaf, Piece, Single, Group, content_text, leaf_frames, leaf_text, leaves_frames, leaves_text, piece_frames, piece_ident, piece_text, pieces_frames, pieces_text}
+use Rattle.ffv1_matroska.specs.Elements.{AreLeaves, ArePieces, IsContent, IsLeaf, IsPiece, Leaf, Piece, Single, Group, content_text, leaf_frames, leaf_text, leaves_frames, leaves_text, piece_frames, piece_ident, piece_text, pieces_frames, pieces_text, stands_single}
 use Rattle.ffv1_matroska.specs.Places.{cluster_at, group_at, is_sound}
-use Rattle.ffv1_matroska.specs.Segments.{block, block_group, child_by, cluster_child, cluster_read, cluster_rest, group_child, group_read, group_rest, known_child, simple_block, step_read}
+use Rattle.ffv1_matroska.specs.Segments.{block, block_group, child_by, cluster_child, cluster_read, cluster_rest, group_child, group_read, group_rest, is_beside, known_child, simple_block, step_read}
 use Rattle.ffv1_matroska.specs.declared.place.Place.{Place}
 use Rattle.ffv1_matroska.proofs.BlockLaws.{after_bytes, content_complete, content_read}
 use Rattle.ffv1_matroska.proofs.FrameTurns.{added, added_none, added_twice, run, run_on, run_turn, step_kept, turn_added, turn_read}
@@ -111,10 +111,10 @@ pub differs : (n a b : ℕ) → n ≡ a → (a == b) ≡ false → (n == b) ≡ 
 differs n a b is apart = ap (λ z. z == b) is ∙ apart
 
 -- an element of a Cluster after its header: one that is not divided
-single_complete : (track : ℕ) (base : Place) (s : Sum) (l : Leaf) (rest : List ℕ) → IsLeaf simple_block track l → (number_of l.ident == block_group) ≡ false → is_sound (group_at base 0 (summed s (content_text l.content))) ≡ true →
+single_complete : (track : ℕ) (base : Place) (s : Sum) (l : Leaf) (rest : List ℕ) → IsLeaf simple_block track l → (number_of l.ident == block_group) ≡ false → stands_single (number_of l.ident) (length (content_text l.content)) ≡ true → is_sound (group_at base 0 (summed s (content_text l.content))) ≡ true →
     (cluster_child track (number_of l.ident) (length (content_text l.content)) (group_at base 0 s) >>= step_kept) (content_text l.content ++ rest) ≡ Ok (Some (leaf_frames l, group_at base 0 (summed s (content_text l.content))), rest)
 unfolding cluster_child
-single_complete track base s l rest is apart sound = on_test (number_of l.ident == simple_block) refl
+single_complete track base s l rest is apart stands sound = on_test (number_of l.ident == simple_block) refl
   where
     size : ℕ
     size = length (content_text l.content)
@@ -125,14 +125,14 @@ single_complete track base s l rest is apart sound = on_test (number_of l.ident 
     on_test : (b : Bool) → (number_of l.ident == simple_block) ≡ b →
         (cluster_child track (number_of l.ident) size now >>= step_kept) (content_text l.content ++ rest) ≡ Ok (Some (leaf_frames l, group_at base 0 (summed s (content_text l.content))), rest)
     on_test true t = let holds : IsContent track true l.content = rw (← t) is.holds in rw t (content_complete track true l.content now rest holds sound)
-    on_test false t = let holds : IsContent track false l.content = rw (← t) is.holds in rw (t, apart) (content_complete track false l.content now rest holds sound)
+    on_test false t = let holds : IsContent track false l.content = rw (← t) is.holds in let beside : is_beside (number_of l.ident) size ≡ true = rw t at stands in rw (t, apart, beside) (content_complete track false l.content now rest holds sound)
 
 -- or any
 pub child_complete : (track : ℕ) (base : Place) (s : Sum) (p : Piece) (rest : List ℕ) → IsPiece track p → is_sound (group_at base 0 (summed s (piece_content p))) ≡ true →
     run_on track ((cluster_child track (piece_ident p) (length (piece_content p)) (group_at base 0 s) >>= step_kept) (piece_content p ++ rest))
     ≡ added (piece_frames p) (run track (group_at base 0 (summed s (piece_content p))) rest)
 unfolding cluster_child
-child_complete track base s (Single l) rest is sound = ap (run_on track) (single_complete track base s l rest is.0 is.1 sound)
+child_complete track base s (Single l) rest is sound = ap (run_on track) (single_complete track base s l rest is.0 is.1 is.2 sound)
 child_complete track base s (Group ident size ls) rest is sound =
     let no_block : (number_of ident == simple_block) ≡ false = differs (number_of ident) block_group simple_block is.0.2 refl in
     let group : (number_of ident == block_group) ≡ true = eq-eqb _ _ is.0.2 in

@@ -14,10 +14,10 @@ use Rattle.ffv1_ebml.specs.declared.element.Element.{Element}
 use Rattle.ffv1_ebml.specs.declared.sum.Sum.{Sum}
 use Rattle.ffv1_ebml.specs.declared.sum.Sum.TheVariants.{Absent, Begins, Awaits}
 use Rattle.ffv1_ebml.proofs.ElementLaws.{summed_twice}
-use Rattle.ffv1_matroska.specs.Elements.{ArePieces, AreSummed, IsContent, IsLeaf, IsPiece, Leaf, Piece, Single, Group, Plain, content_text, leaf_frames, leaves_text, piece_frames, piece_ident, piece_text, pieces_frames, pieces_text}
+use Rattle.ffv1_matroska.specs.Elements.{ArePieces, AreSummed, IsContent, IsLeaf, IsPiece, Leaf, Piece, Single, Group, Plain, content_text, leaf_frames, leaves_text, piece_frames, piece_ident, piece_text, pieces_frames, pieces_text, stands_single}
 use Rattle.ffv1_matroska.specs.Files.{frames_read}
 use Rattle.ffv1_matroska.specs.Places.{closed, cluster_at, cluster_entered, group_at, is_sound, segment_at, step_to}
-use Rattle.ffv1_matroska.specs.Segments.{block_group, child_by, cluster_child, cluster_read, cluster_rest, crc_read, first_child, known_child, simple_block, step_read}
+use Rattle.ffv1_matroska.specs.Segments.{block_group, child_by, cluster_child, cluster_read, cluster_rest, crc_read, first_child, is_beside, is_filler, known_child, simple_block, step_read}
 use Rattle.ffv1_matroska.specs.declared.place.Place.{Place}
 use Rattle.ffv1_matroska.specs.declared.place.Step.{Step}
 use Rattle.ffv1_matroska.proofs.BlockLaws.{content_read}
@@ -49,20 +49,21 @@ pub record HasChild (track : ℕ) (base : Place) (s : Sum) (ident size : List �
   pub after : GoesOn track (group_at base 0 (summed s (piece_content piece))) more (piece_frames piece) w
 
 -- one that is not divided
-single_sound : (track : ℕ) (base : Place) (s : Sum) (ident size : List ℕ) (number n : ℕ) (text : List ℕ) (w : List (List ℕ) × List ℕ) (b : Bool) → IsNamed ident size number n → (number == simple_block) ≡ b → (number == block_group) ≡ false →
+single_sound : (track : ℕ) (base : Place) (s : Sum) (ident size : List ℕ) (number n : ℕ) (text : List ℕ) (w : List (List ℕ) × List ℕ) (b : Bool) → IsNamed ident size number n → (number == simple_block) ≡ b → (number == block_group) ≡ false → stands_single number n ≡ true →
     read_on (content_read track b n (group_at base 0 s) text) (turns_on track) ≡ Ok w → HasChild track base s ident size n text w
-single_sound track base s ident size number n text w b is test apart h =
+single_sound track base s ident size number n text w b is test apart stands h =
     let first = read_on_ok (content_read track b n (group_at base 0 s) text) (turns_on track) w h in
     let c = content_sound track b n (group_at base 0 s) text first.0.0 first.0.1 first.1 in
     let body = content_text c.content in
     let l : Leaf = record { ident = ident; size = size; content = c.content } in
     let kind : (number_of ident == simple_block) ≡ b = ap (λ k. k == simple_block) is.is ∙ test in
     let other : (number_of ident == block_group) ≡ false = ap (λ k. k == block_group) is.is ∙ apart in
+    let beside : stands_single (number_of ident) (length body) ≡ true = ap (λ k. stands_single k (length body)) is.is ∙ ap (stands_single number) c.long ∙ stands in
     let holds : IsContent track (number_of ident == simple_block) c.content = rw kind c.is in
     let sized : SaysSize size (Some (length body)) = rw c.long is.sized in
     record {
       piece = Single l;
-      is = (record { named = is.named; few = is.few; sized = sized; holds = holds }, other);
+      is = (record { named = is.named; few = is.few; sized = sized; holds = holds }, other, beside);
       ident_is = refl;
       whole = refl;
       more = first.0.1;
@@ -105,11 +106,15 @@ unfolding cluster_child
 child_sound track base s ident size number n text w is h = on_tests (number == simple_block) (number == block_group) refl refl h
   where
     on_tests : (a b : Bool) → (number == simple_block) ≡ a → (number == block_group) ≡ b → read_on ((cluster_child track number n (group_at base 0 s) >>= step_kept) text) (turns_on track) ≡ Ok w → HasChild track base s ident size n text w
-    on_tests true b p q h = single_sound track base s ident size number n text w true is p (differs number simple_block block_group (eqb-true _ _ p) refl) (rw p at h)
+    on_tests true b p q h = single_sound track base s ident size number n text w true is p (differs number simple_block block_group (eqb-true _ _ p) refl) (rw p refl) (rw p at h)
     on_tests false true p q h =
         let group : IsNamed ident size block_group n = record { named = is.named; few = is.few; is = is.is ∙ eqb-true _ _ q; sized = is.sized } in
         group_sound track base s ident size n text w group (rw (p, q) at h)
-    on_tests false false p q h = single_sound track base s ident size number n text w false is p q (rw (p, q) at h)
+    on_tests false false p q h = on_beside (is_beside number n) refl
+      where
+        on_beside : (d : Bool) → is_beside number n ≡ d → HasChild track base s ident size n text w
+        on_beside true r = single_sound track base s ident size number n text w false is p q (rw (p, r) refl) (rw (p, q, r) at h)
+        on_beside false r = absurd (cc (rw (p, q, r) at h))
 
 -- an element of a Cluster with its header
 pub record HasPiece (track : ℕ) (base : Place) (c : ℕ) (s : Sum) (text : List ℕ) (w : List (List ℕ) × List ℕ) : Type 0 where
@@ -266,6 +271,11 @@ no_sum : (p : Piece) (ps : List Piece) → is_crc (piece_ident p) (length (piece
 no_sum (Single l) ps none = λ crc. absurd (cc (sym none ∙ crc))
 no_sum (Group ident size ls) ps none = tt
 
+-- a CRC-32 may stand in a Cluster
+crc_stands : (ident size : ℕ) → ident ≡ crc_ident → stands_single ident size ≡ true
+unfolding is_beside is_filler
+crc_stands ident size is = ap (λ k. stands_single k size) is
+
 is_crc_at : (track : ℕ) (base : Place) (c : ℕ) (text : List ℕ) (w : List (List ℕ) × List ℕ) → 0 < c → frames_read track (cluster_at base c Begins) text ≡ Ok w → HasCluster track base c text w
 unfolding first_child
 is_crc_at track base c text w some h = on_test known (is_crc known.number known.n) refl known.read
@@ -321,7 +331,7 @@ is_crc_at track base c text w some h = on_test known (is_crc known.number known.
         let sized : SaysSize k.size (Some (length bytes)) = rw (parts.1 ∙ sym crc.1) k.is.sized in
         let leaf : IsLeaf simple_block track l = record { named = k.is.named; few = k.is.few; sized = sized; holds = ap (λ n. n == simple_block) number } in
         let head = k.ident ++ k.size in
-        with_sum k (Single l) s third.0.1 on.later (leaf, ap (λ n. n == block_group) number) [] refl
+        with_sum k (Single l) s third.0.1 on.later (leaf, ap (λ n. n == block_group) number, crc_stands (number_of k.ident) (length bytes) number) [] refl
         (k.text_is ∙ ap (λ z. head ++ z) parts.0 ∙ sym (append_assoc head bytes third.0.1))
         (omega (arith, k.fits, parts.1, crc.1, length-append head bytes)) on.all (λ ps crc. eqb-true (low_number bytes) (crc_of (pieces_text ps.pieces)) ps.met) next
 

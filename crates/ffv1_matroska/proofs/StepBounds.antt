@@ -21,6 +21,7 @@ use Rattle.ffv1_matroska.specs.Segments.{block, block_group, child_by, cluster, 
 use Rattle.ffv1_matroska.specs.declared.place.Place.{Place}
 use Rattle.ffv1_matroska.specs.declared.place.Step.{Step}
 use Rattle.ffv1_reads.specs.Head.{limit}
+use Rattle.ffv1_matroska.specs.Segments.{is_beside}
 
 -- whatever a reading gives has this property
 pub record Gives {X : Type 0} (P : X → Type 0) (reading : Reading X) : Type 0 where
@@ -132,7 +133,8 @@ child_within : (track ident size n : ℕ) (place : Place) → place.group ≡ 0 
 unfolding cluster_child
 child_within track ident size n place none fits =
     gives_if P (ident == simple_block) (block_read track size place) _ (wider (block_read track size place) (block_within track size place))
-    (gives_if P (ident == block_group) _ (passed_on size place) (closed_within n (Some (step_to (group_at place size place.sum))) (group_at place size place.sum) (omega (arith, none, fits))) (wider (passed_on size place) (passed_within size place)))
+    (gives_if P (ident == block_group) _ _ (closed_within n (Some (step_to (group_at place size place.sum))) (group_at place size place.sum) (omega (arith, none, fits)))
+    (gives_if P (is_beside ident size) (passed_on size place) _ (wider (passed_on size place) (passed_within size place)) (gives_refused P fault.BadElement)))
   where
     P : Option Step → Type 0
     P = Within n

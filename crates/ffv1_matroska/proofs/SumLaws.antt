@@ -30,6 +30,7 @@ use Rattle.ffv1_matroska.proofs.ReadBlocks.{closed_sound, content_sound}
 use Rattle.ffv1_matroska.proofs.ReadClusters.{head_turn}
 use Rattle.ffv1_matroska.proofs.ReadPieces.{leaf_sound}
 use Rattle.ffv1_matroska.proofs.StepBounds.{err_is_no_ok}
+use Rattle.ffv1_matroska.specs.Segments.{is_beside}
 
 -- a turn in a Cluster takes some of its bytes, which are summed
 pub record Takes (place : Place) (text : List ℕ) (o : Turn) (rest : List ℕ) : Type 0 where
@@ -95,7 +96,11 @@ child_takes track number n base x text o rest h = on_tests (number == simple_blo
     on_tests : (a b : Bool) → (number == simple_block) ≡ a → (number == block_group) ≡ b → (cluster_child track number n (group_at base 0 x) >>= step_kept) text ≡ Ok (o, rest) → TakesAfter base x n text o rest
     on_tests true b p q h = single true (rw p at h)
     on_tests false true p q h = group (rw (p, q) at h)
-    on_tests false false p q h = single false (rw (p, q) at h)
+    on_tests false false p q h = on_beside (is_beside number n) refl
+      where
+        on_beside : (d : Bool) → is_beside number n ≡ d → TakesAfter base x n text o rest
+        on_beside true r = single false (rw (p, q, r) at h)
+        on_beside false r = absurd (cc (rw (p, q, r) at h))
 
 takes_cluster : (track : ℕ) (place : Place) (text : List ℕ) (o : Turn) (rest : List ℕ) → place.group ≡ 0 → 0 < place.cluster → IsPast place.sum → turn_read track place text ≡ Ok (o, rest) → Takes place text o rest
 takes_cluster track place text o rest none some past h =

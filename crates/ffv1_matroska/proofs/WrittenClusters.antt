@@ -1,5 +1,5 @@
 -- Clusters that are written are parts of a Segment, with their frames.
-use Rattle.std.proofs.Common.{◌≡◌, ◌≤◌, ◌<◌, ◌-◌, ◌^◌, ◌==◌, ◌∙◌, ◌++◌, ℕ, suc, List, [], ◌∷◌, false, Some, length, refl, sym, ap, arith, inl, inr, append-nil, length-append}
+use Rattle.std.proofs.Common.{◌≡◌, ◌≤◌, ◌<◌, ◌-◌, ◌^◌, ◌==◌, ◌∙◌, ◌++◌, ℕ, suc, List, [], ◌∷◌, false, Some, length, refl, sym, ap, arith, inl, inr, append-nil, length-append, true}
 use Rattle.std.proofs.lemmas.Bool.{ne_eqb}
 use Rattle.std.specs.Int.{bytes_high_first, bytes_low_first}
 use Rattle.ffv1_sum.specs.Sum.{crc_of}
@@ -18,6 +18,10 @@ use Rattle.ffv1_matroska.proofs.SpelledLengths.{ident_most, long_header_long}
 use Rattle.ffv1_matroska.proofs.WrittenBytes.{AreBytes, cluster_are}
 use Rattle.ffv1_matroska.proofs.WrittenChecks.{crc_is_ident, crc_says}
 use Rattle.ffv1_matroska.proofs.WrittenLengths.{checked_long}
+use Rattle.ffv1_matroska.specs.Segments.{is_beside}
+use Rattle.ffv1_matroska.specs.Segments.{is_filler}
+use Rattle.ffv1_matroska.specs.Elements.{stands_single}
+use Rattle.ffv1_matroska.specs.Elements.{content_text}
 
 -- an ID that is spelled
 pub says_ident : (ident : ℕ) → IsIdent ident → SaysIdent (ident_bytes ident) ident
@@ -32,6 +36,21 @@ plain_leaf ident kind size content is other says track =
 
 not_group : (ident : ℕ) → IsIdent ident → (ident ≡ block_group → ⊥) → (number_of (ident_bytes ident) == block_group) ≡ false
 not_group ident is other = rw (ident_spelled ident is).number (ne_eqb ident block_group other)
+
+-- what is no BlockGroup and may stand in a Cluster
+stands : (ident size : ℕ) → IsIdent ident → stands_single ident size ≡ true → stands_single (number_of (ident_bytes ident)) size ≡ true
+stands ident size is may = ap (λ k. stands_single k size) (ident_spelled ident is).number ∙ may
+
+crc_may : (size : ℕ) → stands_single crc_ident size ≡ true
+unfolding is_beside is_filler
+crc_may size = refl
+
+time_may : (size : ℕ) → size ≡ 8 → stands_single timestamp size ≡ true
+unfolding is_beside
+time_may size is = ap (stands_single timestamp) is
+
+block_may : (size : ℕ) → stands_single simple_block size ≡ true
+block_may size = refl
 
 abbrev crc_leaf : List ℕ → Leaf
 crc_leaf content = record { ident = ident_bytes crc_ident; size = short 4; content = Content.Plain (bytes_low_first 0 4 (crc_of content)) }
@@ -80,8 +99,13 @@ pieces_are : (number : ℕ) (frame : List ℕ) → 0 < length frame → length f
 pieces_are number frame some few =
     let low = bytes_low_first 0 4 (crc_of (cluster_content number frame)) in
     let crc = plain_leaf crc_ident simple_block (short 4) low crc_is_ident (λ same. omega (arith, same)) (short_spelled 4 (omega arith)) 1 in
-    let time = plain_leaf timestamp simple_block (short 8) (bytes_high_first 8 number) time_is (λ same. omega (arith, same)) (rw (length_high 8 number) (short_spelled 8 (omega arith))) 1 in
-    ((crc, not_group crc_ident crc_is_ident (λ same. omega (arith, same))), ((time, not_group timestamp time_is (λ same. omega (arith, same))), ((own_leaf frame some few, not_group simple_block block_is (λ same. omega (arith, same))), tt)))
+    let time = plain_leaf timestamp simple_block (short 8) (bytes_high_first 8 number) time_is (λ same. omega (arith, same)) (rw (length_high 8 number) (short_spelled 8 (omega arith))) 1 in (
+      (crc, not_group crc_ident crc_is_ident (λ same. omega (arith, same)), stands crc_ident (length low) crc_is_ident (crc_may (length low))),
+      (
+        (time, not_group timestamp time_is (λ same. omega (arith, same)), stands timestamp (length (bytes_high_first 8 number)) time_is (time_may (length (bytes_high_first 8 number)) (length_high 8 number))),
+        ((own_leaf frame some few, not_group simple_block block_is (λ same. omega (arith, same)), stands simple_block (length (content_text (block_leaf frame).content)) block_is (block_may (length (content_text (block_leaf frame).content)))), tt),
+      ),
+    )
 
 pieces_summed : (number : ℕ) (frame : List ℕ) → AreBytes frame → AreSummed (pieces_of number frame)
 pieces_summed number frame bytes = λ _. crc_says (cluster_content number frame) (cluster_are number frame bytes) ∙ ap crc_of (sym (inner_text number frame))

@@ -1,15 +1,16 @@
 -- Elements of a Segment as they stand in a file, apart from how they are walked (RFC 8794, 3 to
 -- 6; RFC 9559, 5.1). An ID and a size are bytes that say so, of any length that they may have.
-use Rattle.std.specs.Prelude.{◌≡◌, ℕ, ◌≤◌, ◌<◌, ◌==◌, ◌||◌, Bool, true, false, List, [], ◌∷◌, ◌++◌}
+use Rattle.std.specs.Prelude.{◌≡◌, ◌⊎◌, ℕ, ◌≤◌, ◌<◌, ◌==◌, ◌||◌, Bool, true, false, List, []}
+use Rattle.std.specs.Prelude.{◌∷◌, ◌++◌}
 use Rattle.std.specs.Prelude.{length, flat_map, Some, None, Ok}
 use Rattle.ffv1_sum.specs.Sum.{crc_of, number_of as low_number}
 use Rattle.ffv1_ebml.specs.Contents.{content_told}
-use Rattle.ffv1_ebml.specs.Elements.{is_crc}
+use Rattle.ffv1_ebml.specs.Elements.{crc_ident, is_crc}
 use Rattle.ffv1_ebml.specs.Spelled.{SaysSize}
 use Rattle.ffv1_ebml.specs.Vints.{IsVint, data_of, number_of}
 use Rattle.ffv1_matroska.specs.Blocks.{lacing_of}
-use Rattle.ffv1_matroska.specs.Segments.{block, block_group, cluster, is_filler, is_of_cluster}
-use Rattle.ffv1_matroska.specs.Segments.{is_section, simple_block}
+use Rattle.ffv1_matroska.specs.Segments.{block, block_group, cluster, is_beside, is_filler}
+use Rattle.ffv1_matroska.specs.Segments.{is_of_cluster, is_section, simple_block}
 use Rattle.ffv1_reads.specs.Head.{limit}
 
 -- these bytes are an ID (RFC 8794, 5), which is compared with all its bits
@@ -101,10 +102,15 @@ abbrev pub piece_frames : Piece → List (List ℕ)
 piece_frames (Single l) = leaf_frames l
 piece_frames (Group ident size ls) = leaves_frames ls
 
+-- an element that is not divided and may stand in a Cluster: a SimpleBlock, or one beside blocks
+abbrev pub stands_single : ℕ → ℕ → Bool
+stands_single ident size = ident == simple_block || is_beside ident size
+
 -- a SimpleBlock holds a block, and so does a Block of a BlockGroup
 abbrev pub IsPiece : ℕ → Piece → Type 0
 IsPiece track (Single l) =
     IsLeaf simple_block track l × ((number_of l.ident == block_group) ≡ false)
+    × (stands_single (number_of l.ident) (length (content_text l.content)) ≡ true)
 IsPiece track (Group ident size ls) =
     SaysIdent ident block_group × SaysSize size (Some (length (leaves_text ls)))
     × AreLeaves block track ls
@@ -194,3 +200,15 @@ parts_frames ps = flat_map part_frames ps
 abbrev pub AreParts : ℕ → List Part → Type 0
 AreParts track [] = Unit {0}
 AreParts track (p ∷ ps) = IsPart track p × AreParts track ps
+
+-- the same in words, of its ID and its size: a SimpleBlock; Timestamp, Position or PrevSize of at
+-- most 8 bytes; or SilentTracks, EncryptedBlock, Void or CRC-32
+abbrev pub IsNumberIdent : ℕ → Type 0
+IsNumberIdent ident = (ident ≡ 231) ⊎ ((ident ≡ 167) ⊎ (ident ≡ 171))
+
+abbrev pub IsPassedIdent : ℕ → Type 0
+IsPassedIdent ident = (ident ≡ 22612) ⊎ ((ident ≡ 175) ⊎ ((ident ≡ 236) ⊎ (ident ≡ crc_ident)))
+
+abbrev pub IsListed : ℕ → ℕ → Type 0
+IsListed ident size =
+    (ident ≡ simple_block) ⊎ ((IsNumberIdent ident × (size ≤ 8)) ⊎ IsPassedIdent ident)

@@ -1,6 +1,6 @@
 -- Elements of a Segment (RFC 9559, 5.1), of a Cluster (5.1.3) and of a BlockGroup (5.1.3.5): each
 -- is a step, up to the next element, or up to a frame.
-use Rattle.std.specs.Prelude.{ℕ, ◌==◌, ◌||◌, ◌&&◌, Bool, true, false, if◌then◌else◌, nat_lt}
+use Rattle.std.specs.Prelude.{ℕ, ◌==◌, ◌||◌, ◌&&◌, Bool, true, false, if◌then◌else◌, nat_le, nat_lt}
 use Rattle.std.specs.Prelude.{Option, Some, None}
 use Rattle.ffv1_reads.specs.Reads.{Reading, given, refused, taken, ◌>>=◌}
 use Rattle.ffv1_reads.specs.declared.fault.FileFault.TheVariants as fault
@@ -58,13 +58,21 @@ group_rest track place p = group_child track p.0.ident (group_at place p.0.left 
 unfoldable pub group_read : ℕ → Place → Reading (Option Step)
 group_read track place = element_read place.group place.sum >>= group_rest track place
 
--- an element of a Cluster, of so many bytes, after its header
+-- what a Cluster has beside blocks: Timestamp, Position or PrevSize, which is a number and has at
+-- most 8 bytes; SilentTracks, EncryptedBlock, Void or CRC-32
+unfoldable pub is_beside : ℕ → ℕ → Bool
+is_beside ident size =
+    if ident == 231 || ident == 167 || ident == 171 then nat_le size 8
+    else ident == 22612 || ident == 175 || is_filler ident
+
+-- an element of a Cluster, of so many bytes, after its header: any other may not stand there
 unfoldable pub cluster_child : ℕ → ℕ → ℕ → Place → Reading (Option Step)
 cluster_child track ident size place =
     if ident == simple_block then block_read track size place
     else if ident == block_group
     then closed (Some (step_to (group_at place size place.sum))) (group_at place size place.sum)
-    else passed_on size place
+    else if is_beside ident size then passed_on size place
+    else refused fault.BadElement
 
 -- the CRC-32 of a Cluster: the sum of all that stands after it, low end first (RFC 8794, 11.3.1)
 abbrev pub crc_read : Place → Reading (Option Step)

@@ -1,6 +1,8 @@
 //! Laws of files: what is read is a file by its elements, and such a file is read.
 
-ghost use Rattle.std.specs.Prelude.{◌≡◌, ◌⊎◌, ◌<◌, ◌+◌, ◌*◌, ◌^◌, ◌++◌, ℕ, List, Option, Some, Ok};
+ghost use Rattle.std.specs.Prelude.{◌≡◌, ◌==◌, ◌⊎◌, ◌<◌, ◌+◌, ◌*◌, ◌^◌, ◌++◌, ℕ, List, Option};
+ghost use Rattle.std.specs.Prelude.{Some, Ok};
+ghost use Rattle.std.specs.Prelude.{true, false};
 ghost use Rattle.std.specs.Prelude.{Err, All, [], bit_xor, length};
 ghost use Rattle.ffv1_reads.specs.Head.{Head};
 ghost use Rattle.ffv1_reads.specs.Reads.{EndsEarly, Met, Stop};
@@ -12,6 +14,9 @@ ghost use Rattle.ffv1_matroska.specs.Begun.{ClusterBegins, EntryPasses, FieldPas
 ghost use Rattle.ffv1_matroska.specs.Begun.{GroupBegins, HeaderBegins, IsNotWrong, LooseBegins};
 ghost use Rattle.ffv1_matroska.specs.Begun.{Passes, SegmentBegins, TracksBegin, room};
 ghost use Rattle.ffv1_matroska.specs.Elements.{AreTopLevel, SaysIdent, TopLevel, leaves_frames};
+ghost use Rattle.ffv1_ebml.specs.Vints.{number_of};
+ghost use Rattle.ffv1_matroska.specs.Elements.{IsListed, IsPiece, Leaf, Single, content_text};
+ghost use Rattle.ffv1_matroska.specs.Elements.{stands_single};
 ghost use Rattle.ffv1_matroska.specs.Elements.{parts_frames, pieces_frames, tops_text};
 ghost use Rattle.ffv1_matroska.specs.Given.{GivesThen, GivesTo, ReadsToEnd, StopsEarly};
 ghost use Rattle.ffv1_matroska.specs.MatroskaFiles.{AreBefore, FileBegins, MatroskaFile};
@@ -24,9 +29,22 @@ ghost use Rattle.std.specs.Prelude.{None};
 ghost use Rattle.ffv1_reads.specs.Reads.{read_on};
 ghost use Rattle.ffv1_matroska.specs.Files.{frame_read, frames_read, more_frames};
 ghost use Rattle.ffv1_matroska.specs.Places.{ended};
-ghost use Rattle.ffv1_matroska.specs.Segments.{cluster};
+ghost use Rattle.ffv1_matroska.specs.Segments.{block_group, cluster, cluster_child};
 ghost use Rattle.ffv1_matroska.specs.Tracks.{Track, entry};
 ghost use Rattle.ffv1_matroska.specs.declared.place.Place.{Place};
+
+/// A Cluster has only elements that may stand there: what is read in it, and is no BlockGroup, is a
+/// SimpleBlock; Timestamp, Position or PrevSize of at most 8 bytes; SilentTracks, EncryptedBlock,
+/// Void or CRC-32; and each of these may stand there. Any other is refused behind its header, and
+/// nothing after that is read.
+pub fn clusters_hold_listed_elements()
+    ensures pieces { (track : ℕ) (leaf : Leaf) → IsPiece track (Single leaf) →
+        IsListed (number_of leaf.ident) (length (content_text leaf.content)) }
+    ensures listed { (ident size : ℕ) → IsListed ident size → stands_single ident size ≡ true }
+    ensures refused { (track ident size : ℕ) (place : Place) (rest : List ℕ) →
+        (ident == block_group) ≡ false → stands_single ident size ≡ false →
+        cluster_child track ident size place rest ≡ Err (Met fault.BadElement rest) }
+{}
 
 /// Frame rates that are read back as they were written: 24, 25, 30, 50 and 60 a second, and those
 /// times 1000/1001 of 24, 30 and 60.

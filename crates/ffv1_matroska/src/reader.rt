@@ -175,8 +175,9 @@ impl<A: Allocator> MatroskaReader<A> {
     /// The input has to be the one that the reader was opened on. `Truncated` where an element or
     /// what stands before a frame does not fit in what it stands in, or the input ends inside it;
     /// `BadElement` where an ID has more than 4 bytes, a size or a track number more than 8, a size
-    /// is unknown other than that of a Cluster, or an element may not stand in a Segment; `Laced`
-    /// for a block with lacing; `ChunkTooLong` for a frame above 67108864 bytes, of which no byte
+    /// is unknown other than that of a Cluster, or an element may not stand in a Segment or in a
+    /// Cluster, where Timestamp, Position and PrevSize have at most 8 bytes; `Laced` for a block
+    /// with lacing; `ChunkTooLong` for a frame above 67108864 bytes, of which no byte
     /// is read, `EmptyFrame` for one of none; `Checksum` where a CRC-32 is not the sum, which is
     /// known at the end of the element: of a Cluster, before the frame is given that ends it;
     /// `Read` where a read failed, `OutOfMemory`. After a fault the vector holds a beginning of the

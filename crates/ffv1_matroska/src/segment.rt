@@ -11,7 +11,8 @@ ghost use Rattle.ffv1_reads.specs.Ends.{AnswersOrNone};
 ghost use Rattle.ffv1_matroska.specs.Places.{amount};
 ghost use Rattle.ffv1_matroska.specs.Segments.{child_by, cluster_child, cluster_read, crc_read};
 ghost use Rattle.ffv1_matroska.specs.Segments.{first_child, group_child, group_read, header_read};
-ghost use Rattle.ffv1_matroska.specs.Segments.{is_filler, is_of_cluster, is_section, known_child};
+ghost use Rattle.ffv1_matroska.specs.Segments.{is_beside, is_filler, is_of_cluster, is_section};
+ghost use Rattle.ffv1_matroska.specs.Segments.{known_child};
 ghost use Rattle.ffv1_matroska.specs.Segments.{other_read, segment_child, segment_read, step_read};
 ghost use Rattle.ffv1_matroska.specs.declared.place.Step.{Step};
 
@@ -71,6 +72,18 @@ fn is_of_cluster(ident: u32) -> bool
         || ident == 0xAF
 }
 
+/// Whether it is one that a Cluster has beside blocks, of so many bytes: Timestamp, Position or
+/// PrevSize, of at most 8 bytes; SilentTracks, EncryptedBlock, Void or CRC-32.
+#[tactic(auto, unfolding(crate::specs::Segments::is_beside))]
+fn is_beside(ident: u32, size: u64) -> bool
+    ensures { result ≡ is_beside ident size }
+{
+    if ident == 0xE7 || ident == 0xA7 || ident == 0xAB {
+        return size <= 8;
+    }
+    ident == 0x5854 || ident == 0xAF || is_filler(ident)
+}
+
 /// Whether it is one of a Cluster of unknown size, in which the place is.
 fn is_loose(place: Place, ident: u32) -> bool
     ensures { result ≡ (place.loose && is_of_cluster ident) }
@@ -117,7 +130,8 @@ fn read_group<R: ByteIn>(input: &mut R, track: u64, place: Place) -> Result<Opti
     group_child(input, track, element, group_at(place, element.left, sum))
 }
 
-/// An element of a Cluster, of so many bytes, after its header.
+/// An element of a Cluster, of so many bytes, after its header. `BadElement` where it may not stand
+/// there.
 #[tactic(auto, unfolding(crate::specs::Segments::cluster_child))]
 fn cluster_child<R: ByteIn>(
     input: &mut R,
@@ -140,6 +154,9 @@ fn cluster_child<R: ByteIn>(
     }
     if ident == BLOCK_GROUP {
         return closed(group_at(place, size, place.sum));
+    }
+    if !is_beside(ident, size) {
+        return Err(FileFault::BadElement);
     }
     pass_on(input, size, place)
 }

@@ -5,7 +5,6 @@ use Rattle.std.specs.Prelude.{List, Option, Some, None, Result, Ok, Err, ⊤}
 use Rattle.ffv1_wire.specs.Passage.{Passage}
 use Rattle.ffv1_reads.specs.Reads.{Read}
 use Rattle.ffv1_reads.specs.declared.fault.FileFault.{FileFault}
-use Rattle.ffv1_reads.specs.declared.fault.FileFault.TheVariants as fault
 use Rattle.ffv1_avi.specs.declared.chunk.Entry.{Entry}
 use Rattle.ffv1_avi.specs.declared.place.Extent.{Extent}
 use Rattle.ffv1_avi.specs.declared.place.Place.{Place}
@@ -23,7 +22,7 @@ pub record FrameBegins (to : Place) (old new : Option (List ℕ)) (found : ℕ �
   pub between : Option (List ℕ)
   pub entry : Entry
   pub header : Read (entry_read to.movi) old between (Some entry)
-  pub visit : Read (visit_movi to.stream tt entry) between new (tt, Some found)
+  pub visit : Read (visit_movi to.names tt entry) between new (tt, Some found)
 
 -- up to the chunk of the frame that was found in movi; or to the end of that
 abbrev pub FindsInMovi : Place → Passage → Result (Option (ℕ × ℕ)) FileFault → ℕ → ℕ → Type 0

@@ -46,7 +46,12 @@ known_next fields bytes = (known_with fields bytes, None)
 -- what is known before the first movi
 abbrev pub headers_with : Found → List ℕ → Headers
 headers_with found bytes =
-    record { passed = found.passed; head = found_with found.sizes bytes; frames = found.frames }
+    record {
+      passed = found.passed;
+      head = found_with found.sizes bytes;
+      frames = found.frames;
+      streams = found.streams;
+    }
 
 abbrev pub headers_next : Found → List ℕ → Headers × Option ⊥
 headers_next found bytes = (headers_with found bytes, None)

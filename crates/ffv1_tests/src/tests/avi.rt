@@ -1,5 +1,6 @@
 //! Files of AVI, read and written.
 
+mod closed;
 mod example;
 mod failing;
 mod files;

@@ -1,5 +1,6 @@
 //! Matroska: what Tracks say, and files that are read and written.
 
+mod closed;
 mod commands;
 mod packing;
 mod rates;

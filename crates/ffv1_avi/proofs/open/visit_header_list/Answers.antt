@@ -1,7 +1,7 @@
 -- A list of hdrl of such a size, by its own name.
-use Rattle.std.proofs.Common.{◌≡◌, ℕ, List, [], true, false, codes, refl, sym}
+use Rattle.std.proofs.Common.{◌≡◌, ℕ, List, [], true, false, codes, refl, sym, ap}
 use Rattle.ffv1_avi.specs.Files.{Headers, extended_visited, header_list, header_named, list_skipped}
-use Rattle.ffv1_avi.specs.Files.{stream_visited}
+use Rattle.ffv1_avi.specs.Files.{stream_came, stream_visited}
 use Rattle.ffv1_avi.specs.Internal.Views.{headers_next, headers_with}
 use Rattle.ffv1_avi.specs.Walk.{is_name}
 use Rattle.ffv1_avi.specs.declared.open.Found.{Found}
@@ -11,10 +11,11 @@ use Rattle.ffv1_reads.proofs.Answered.{answers_err, answers_first, answers_given
 use Rattle.ffv1_reads.proofs.Answered.{answers_of, answers_ok, answers_same, answers_tail}
 use Rattle.ffv1_avi.proofs.open.visit_header_list.Goals as goal
 
-stream_named : (extent : Extent) (s : Headers) (size : ℕ) (own : List ℕ) → is_name own
-    (codes "strl") ≡ true → (text : List ℕ) → header_named extent s size own text ≡ stream_visited
-    extent s size s.head text
-stream_named extent s size own is text = rw is refl
+stream_named : (extent : Extent) (s t : Headers) (size : ℕ) (own : List ℕ) → is_name own
+    (codes "strl") ≡ true → t ≡ stream_came extent s → (text : List ℕ) → header_named extent s size
+    own text ≡ stream_visited extent t size t.head text
+stream_named extent s t size own is came text =
+    rw is (ap (λ (z : Headers). stream_visited extent z size z.head text) (sym came))
 
 extended_named : (extent : Extent) (s : Headers) (size : ℕ) (own : List ℕ) → is_name own
     (codes "strl") ≡ false → is_name own (codes "odml") ≡ true → (text : List ℕ) → header_named
@@ -30,8 +31,9 @@ pub returns-then-is_name-clause-answer : goal.returns-then-is_name-clause-answer
 returns-then-is_name-clause-answer g c = answers_of _ (header_list c.args.extent
     (headers_with c.args.found c.args.config.now.items) c.args.size) _ _
     (answers_next _ c.in_ok-own.ensures (answers_same (stream_named c.args.extent
-    (headers_with c.args.found c.args.config.now.items) c.args.size c.in_ok-own.own
-    (sym c.if-is_name.ensures)) (answers_tail _ _ _ _ c.visit_stream.ensures.answer)))
+    (headers_with c.args.found c.args.config.now.items)
+    (headers_with c.stream_came.result c.args.config.now.items) c.args.size c.in_ok-own.own
+    (sym c.if-is_name.ensures) (c.stream_came.ensures c.args.config.now.items)) (answers_tail _ _ _ _ c.visit_stream.ensures.answer)))
 
 pub returns-then-is_name-2-clause-answer : goal.returns-then-is_name-2-clause-answer
 returns-then-is_name-2-clause-answer g c = answers_of _ (header_list c.args.extent

@@ -60,9 +60,9 @@ loop-size-preserved g c =
     let next = c.in-Some-2.next in
     let answer = rw c.in-Some-2.is at c.in_ok-next.ensures.answer in
     let read = some_read (extent_of place) (moved place) _ _ next answer.1 in
-    let start = goes_same _ (movi_found place.stream place.movi >>= found_or_on frame_found place)
+    let start = goes_same _ (movi_found place.names place.movi >>= found_or_on frame_found place)
     (frame_step place) c.loop-size.invariant.0 in
-    let here = goes_read (movi_found place.stream place.movi) (found_or_on frame_found place) _ _
+    let here = goes_read (movi_found place.names place.movi) (found_or_on frame_found place) _ _
     None start (rw c.in_default.is at c.in_ok-size.ensures.answer) in (
       none_read (extent_of place) (moved place) (sought_on frame_found) _ _ next here answer,
       (moved_less place next (read.bytes ++ []) [] (read.is [])).1 ∙ c.loop-size.invariant.1,

@@ -55,7 +55,7 @@ returns-clause-answer g c = answers_ok (answers_end _ _ _ _ c.loop-entry.invaria
 pub loop-entry-init : goal.loop-entry-init
 unfolding movi_found
 loop-entry-init g c = (
-  goes_none (movi_found c.args.place.stream c.args.place.movi)
+  goes_none (movi_found c.args.place.names c.args.place.movi)
       (g.R.ByteIn.remaining c.args.input.now) (g.R.ByteIn.failures c.args.input.now),
   (0, reads_none chunk_taken c.args.place _, λ n is. is ∙ counts_none n (2 ^ 64 - 1)),
 )

@@ -7,9 +7,9 @@ use Rattle.ffv1_avi.proofs.reader.find_in_movi.Given as goal
 
 abbrev pub invariant-loop-entry : goal.invariant-loop-entry
 invariant-loop-entry g l =
-    (Goes (movi_found l.fn.place.stream l.fn.place.movi) (g.R.ByteIn.remaining l.initial.input)
+    (Goes (movi_found l.fn.place.names l.fn.place.movi) (g.R.ByteIn.remaining l.initial.input)
     (g.R.ByteIn.failures l.initial.input)
-    (walk (visit_movi l.fn.place.stream) l.left tt >>= λ p. given p.1)
+    (walk (visit_movi l.fn.place.names) l.left tt >>= λ p. given p.1)
     (g.R.ByteIn.remaining l.input) (g.R.ByteIn.failures l.input))
     × ReadsUpTo l.fn.place (g.R.ByteIn.remaining l.initial.input) (g.R.ByteIn.remaining l.input)
     (movi_left l.fn.place l.left) l.initial.offset l.offset

@@ -33,11 +33,11 @@ returns-in_err-movi-clause-answer g c = none_err _ _ _ _ _ _ c.from_residual.ens
 pub returns-in_default-clause-answer : goal.returns-in_default-clause-answer
 returns-in_default-clause-answer g c =
     let place = c.args.place in
-    let start = goes_same _ (movi_sought place.riff >>= movi_or_riff place)
+    let start = goes_same _ (movi_sought place.names place.riff >>= movi_or_riff place)
     (moved_every place c.if-place-eq0.false)
     (goes_none (moved place) (g.R.ByteIn.remaining c.args.input.now)
     (g.R.ByteIn.failures c.args.input.now)) in
-    let here = goes_read (movi_sought place.riff) (movi_or_riff place) _ _ None start
+    let here = goes_read (movi_sought place.names place.riff) (movi_or_riff place) _ _ None start
     (rw c.in_default.is at c.in_ok-movi.ensures.answer) in
     rw (extent_every place c.if-place-eq0.false)
     (none_last EveryRiff (riff_begun place) (λ (q : Option Place). q) _ _ c.count_riff.result

@@ -14,7 +14,7 @@ use Rattle.ffv1_avi.proofs.riff.seek_movi.Goals as goal
 pub loop-entry-init : goal.loop-entry-init
 unfolding movi_sought
 loop-entry-init g c = (
-  goes_none (movi_sought c.args.place.riff)
+  goes_none (movi_sought c.args.place.names c.args.place.riff)
       (g.R.ByteIn.remaining c.args.input.now) (g.R.ByteIn.failures c.args.input.now),
   λ more.
       reads_still,

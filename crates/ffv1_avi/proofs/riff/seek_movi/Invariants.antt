@@ -8,9 +8,9 @@ use Rattle.ffv1_avi.proofs.riff.seek_movi.Given as goal
 
 abbrev pub invariant-loop-entry : goal.invariant-loop-entry
 invariant-loop-entry g l =
-    (Goes (movi_sought l.fn.place.riff) (g.R.ByteIn.remaining l.initial.input)
+    (Goes (movi_sought l.fn.place.names l.fn.place.riff) (g.R.ByteIn.remaining l.initial.input)
     (g.R.ByteIn.failures l.initial.input)
-    (walk visit_riff l.left tt >>= λ p. given p.1) (g.R.ByteIn.remaining l.input)
+    (walk (visit_riff l.fn.place.names) l.left tt >>= λ p. given p.1) (g.R.ByteIn.remaining l.input)
     (g.R.ByteIn.failures l.input))
     × (0 < l.fn.place.input → ReadsUpTo (riff_left l.fn.place l.fn.place.riff)
     (g.R.ByteIn.remaining l.initial.input) (g.R.ByteIn.remaining l.input)

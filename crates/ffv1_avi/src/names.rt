@@ -1,0 +1,92 @@
+//! Which chunks a movi has, by their names.
+
+ghost use Rattle.std.specs.Prelude.{◌≡◌, ◌+◌, ◌/◌, ◌%◌, ◌∷◌, []};
+ghost use Rattle.ffv1_avi.specs.Names.{are_digits, bitmap_name, frame_name, is_barred, is_digit};
+ghost use Rattle.ffv1_avi.specs.Names.{is_frame, is_index, is_of_other, is_stream_frame};
+ghost use Rattle.ffv1_avi.specs.Names.{palette_name, stands_beside};
+
+use crate::chunk::is_name;
+use crate::place::Names;
+
+/// Whether a byte is a digit.
+fn is_digit(byte: u8) -> bool
+    ensures { result ≡ is_digit byte }
+{
+    byte >= 48 && byte < 58
+}
+
+/// Whether two bytes are digits.
+fn are_digits(first: u8, second: u8) -> bool
+    ensures { result ≡ are_digits first second }
+{
+    is_digit(first) && is_digit(second)
+}
+
+/// The name of what a stream has, by two letters.
+fn stream_name(stream: u8, first: u8, second: u8) -> [u8; 4]
+    ensures { result ≡ (48 + stream / 10) ∷ (48 + stream % 10) ∷ first ∷ second ∷ [] }
+{
+    [48 + stream / 10, 48 + stream % 10, first, second]
+}
+
+/// Whether a chunk is of another one of so many streams.
+#[tactic(auto, unfolding(crate::specs::Names::is_of_other))]
+fn is_of_other(stream: u8, streams: u8, name: [u8; 4]) -> bool
+    ensures { result ≡ is_of_other stream streams name }
+{
+    if !are_digits(name[0], name[1]) {
+        return false;
+    }
+    let number = 10 * (name[0] - 48) + (name[1] - 48);
+    number != stream && number < streams
+}
+
+/// Whether a chunk is an index of a stream.
+#[tactic(auto, unfolding(crate::specs::Names::is_index))]
+fn is_index(name: [u8; 4]) -> bool
+    ensures { result ≡ is_index name }
+{
+    is_name(&name[..2], b"ix") && are_digits(name[2], name[3])
+}
+
+/// Whether a chunk is a frame of a stream.
+#[tactic(auto, unfolding(crate::specs::Names::is_stream_frame))]
+fn is_stream_frame(stream: u8, name: [u8; 4]) -> bool
+    ensures { result ≡ is_stream_frame stream name }
+{
+    is_name(&name, &stream_name(stream, b'd', b'c'))
+        || is_name(&name, &stream_name(stream, b'd', b'b'))
+}
+
+/// Whether a chunk may stand beside the frames of a stream.
+#[tactic(auto, unfolding(crate::specs::Names::stands_beside))]
+fn stands_beside(stream: u8, streams: u8, name: [u8; 4]) -> bool
+    ensures { result ≡ stands_beside stream streams name }
+{
+    is_name(&name, &stream_name(stream, b'p', b'c'))
+        || is_of_other(stream, streams, name)
+        || is_index(name)
+        || is_name(&name, b"JUNK")
+}
+
+/// Whether a chunk of this name is a frame.
+pub(crate) fn is_frame(names: Names, name: [u8; 4]) -> bool
+    ensures { result ≡ is_frame names name }
+{
+    match names {
+        Names::Any => is_name(&name, b"00dc"),
+        Names::Closed(stream, _) => is_stream_frame(stream, name),
+    }
+}
+
+/// Whether a chunk of this name may not stand in movi.
+pub(crate) fn is_barred(names: Names, name: [u8; 4]) -> bool
+    ensures { result ≡ is_barred names name }
+{
+    match names {
+        Names::Any => is_name(&name, b"LIST"),
+        Names::Closed(stream, streams) => {
+            !is_stream_frame(stream, name) && !stands_beside(stream, streams, name)
+        }
+    }
+}
