@@ -22,7 +22,7 @@ Look L = L → List ℕ → Outcome → L → Type 0
 abbrev pub Naming : Type 0 → Type 1
 Naming L = L → List ℕ → Bool → L → Type 0
 
--- the refusal where a line cannot be printed
+-- the refusal if a line cannot be printed
 abbrev pub unprinted : Refusal
 unprinted = refusal.Fault fault.Write
 
@@ -60,7 +60,7 @@ LooksAtEach looks s paths outcomes t =
     ⊎ ((earlier : List Outcome) × (outcomes ≡ earlier ++ Err unprinted ∷ [])
     × StopsAt looks s paths earlier unprinted t)
 
--- the exit status of several files: 1 where any is refused, and else 0
+-- the exit status of several files: 1 if any is refused, and else 0
 abbrev pub status_of_each : List Outcome → ℕ
 status_of_each [] = 0
 status_of_each (Ok done ∷ outcomes) = status_of_each outcomes

@@ -6,7 +6,7 @@ use Rattle.ffv1_words.specs.declared.order.Order.TheVariants as order
 use Rattle.ffv1.specs.declared.refusal.Refusal.{Refusal}
 use Rattle.ffv1.specs.declared.refusal.Refusal.TheVariants as refusal
 
--- 0 where it was done, 1 for a fault, 2 where its files are refused
+-- 0 if it was done, 1 for a fault, 2 if its files are refused
 abbrev pub status_of : Result (Unit {0}) Refusal → ℕ
 status_of (Ok done) = 0
 status_of (Err (refusal.Fault f)) = 1

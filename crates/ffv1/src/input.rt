@@ -18,8 +18,8 @@ use std::time::Clock;
 /// A reader of a file, or of standard input.
 pub type Source<H> = FromRead<Either<<H as Files>::File, <H as Input>::Reader>>;
 
-/// Opens IN, and tells what it is where that is known: of `-`, standard input is opened. `Read`
-/// where it cannot be opened.
+/// Opens IN, and tells what it is if that is known: of `-`, standard input is opened. `Read`
+/// if it cannot be opened.
 pub fn open_input<H: Files + Input>(
     rt: &H,
     path: &str,
@@ -37,7 +37,7 @@ pub fn open_input<H: Files + Input>(
     Ok((FromRead::new(Left(file)), metadata))
 }
 
-/// Wraps a reader of IN so that it tells how much was read, where that is asked for.
+/// Wraps a reader of IN so that it tells how much was read, if that is asked for.
 pub fn watched<'a, H: Files + Input + Eprint + Clock>(
     rt: &'a H,
     source: Source<H>,

@@ -41,7 +41,7 @@ use std::rt::Files;
 use std::time::Clock;
 use std::{env, io};
 
-/// Prints a count: on standard output, or on standard error where the output itself goes there.
+/// Prints a count: on standard output, or on standard error if the output itself goes there.
 fn print_count(rt: &(impl Print + Eprint), output: &str, count: &str) -> Result<(), Refusal>
     ensures { IfErr result (λ r. r ≡ refusal.Fault fault.Write) }
 {
@@ -252,7 +252,7 @@ fn run_trial(rt: &(impl Files + Input + Print), alloc: Global, input: &str) -> R
     Ok(())
 }
 
-/// The exit status of an order: 0 where it was done, 1 for a fault, 2 where its files are refused.
+/// The exit status of an order: 0 if it was done, 1 for a fault, 2 if its files are refused.
 fn status_of(done: Result<(), Refusal>) -> u8
     ensures ok { IsOk done → result ≡ 0 }
     ensures fault { (f : Fault) → done ≡ Err (refusal.Fault f) → result ≡ 1 }
@@ -384,7 +384,7 @@ fn run(
     }
 }
 
-/// The exit status of a line that is refused: 0 where it asks for help or for the version.
+/// The exit status of a line that is refused: 0 if it asks for help or for the version.
 fn line_status(error: &Error) -> u8
     ensures asked { (kind_of error.now ≡ kind.DisplayHelp)
         ⊎ (kind_of error.now ≡ kind.DisplayVersion) → result ≡ 0 }

@@ -76,11 +76,11 @@ fn is_one_file(input: &Metadata, output: &Metadata) -> bool {
     is_kept && input.dev() == output.dev() && input.ino() == output.ino()
 }
 
-/// Opens OUT where it is not the file of IN, and `-` is standard output. A file that is there is
+/// Opens OUT if it is not the file of IN, and `-` is standard output. A file that is there is
 /// left as it is until a byte is written.
 ///
-/// `OneFile` where IN and OUT are one file, `Exists` where a file is there and `no_clobber` asks to
-/// refuse that, and then nothing is opened; the fault `Write` where OUT cannot be opened.
+/// `OneFile` if IN and OUT are one file, `Exists` if a file is there and `no_clobber` asks to
+/// refuse that, and then nothing is opened; the fault `Write` if OUT cannot be opened.
 pub fn open_output<'a, H: Files + Print>(
     rt: &'a H,
     path: &str,

@@ -11,21 +11,21 @@ const PAUSE: u64 = 1;
 const MEBIBYTE: u64 = 1048576;
 
 /// A reader that gives the bytes and the failures of another one, and tells at most once a second
-/// how much was read. Where the clock fails it prints nothing, and a line that cannot be printed is
+/// how much was read. If the clock fails it prints nothing, and a line that cannot be printed is
 /// left out.
 #[derive(Drop)]
 pub struct Watched<'a, R, P> {
     inner: R,
     rt: &'a P,
-    // When it printed last, or was made; none where it prints nothing.
+    // When it printed last, or was made; none if it prints nothing.
     told: Option<Instant>,
-    // How many bytes there are, where that is known.
+    // How many bytes there are, if that is known.
     size: Option<u64>,
     read: u64,
 }
 
 impl<'a, R, P: Eprint + Clock> Watched<'a, R, P> {
-    /// Wraps a reader. It prints only where `progress` asks for that.
+    /// Wraps a reader. It prints only if `progress` asks for that.
     pub fn new(rt: &'a P, inner: R, size: Option<u64>, progress: bool) -> Watched<'a, R, P>
         ensures { result.inner ≡ inner }
     {
@@ -43,7 +43,7 @@ impl<'a, R, P: Eprint + Clock> Watched<'a, R, P> {
         }
     }
 
-    /// Counts bytes that were read, and tells of them where a second has passed.
+    /// Counts bytes that were read, and tells of them when a second has passed.
     fn count(&mut self, bytes: u64)
         ensures { self.new.inner ≡ self.old.inner }
     {
@@ -61,7 +61,7 @@ impl<'a, R, P: Eprint + Clock> Watched<'a, R, P> {
     }
 }
 
-/// Prints how many bytes were read, of how many where that is known.
+/// Prints how many bytes were read, of how many if that is known.
 fn tell(rt: &impl Eprint, read: u64, size: Option<u64>) {
     let done = read / MEBIBYTE;
     let _ = match size {

@@ -33,7 +33,7 @@ pub trait Looks {
         ensures fault { IfErr result IsAnyFault };
 }
 
-/// Looks at a file after a line of its path. The fault `Write` where that line cannot be printed,
+/// Looks at a file after a line of its path. The fault `Write` if that line cannot be printed,
 /// and then the file is not looked at.
 fn look_named<L: Looks>(looker: &mut L, path: &str) -> Result<(), Refusal>
     ensures look { LooksNamed L.names L.looks looker.old path.now result looker.new }
@@ -45,7 +45,7 @@ fn look_named<L: Looks>(looker: &mut L, path: &str) -> Result<(), Refusal>
     Err(Refusal::Fault(Fault::Write))
 }
 
-/// The exit status of several files after one more: 1 where any was refused.
+/// The exit status of several files after one more: 1 if any was refused.
 fn status_after(status: u8, done: Result<(), Refusal>) -> u8
     ensures ok { IsOk done → result ≡ status }
     ensures refused { (r : Refusal) → done ≡ Err r → result ≡ 1 }
@@ -75,7 +75,7 @@ fn tell_named(rt: &impl Eprint, path: &str, done: Result<(), Refusal>) -> io::Re
 
 /// Looks at each of several files, in order and after a line of its path, until a line cannot be
 /// printed; a refusal is one line on standard error, with the path. Answers the exit status: 1
-/// where any was refused, and else 0. Where standard error cannot be written, no further file is
+/// if any was refused, and else 0. If standard error cannot be written, no further file is
 /// looked at.
 fn look_each<L: Looks>(rt: &impl Eprint, looker: &mut L, paths: &[&str]) -> io::Result<u8>
     ensures small { IfOk result (λ status. status ≤ 1) }

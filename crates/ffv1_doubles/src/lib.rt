@@ -1,6 +1,6 @@
 // SPDX-License-Identifier: MIT OR Apache-2.0
 //! What stands in tests for memory, readers and writers that refuse: an allocator, two readers and
-//! two writers, each of which refuses where a test wants it. Only tests use them.
+//! two writers, each of which refuses when a test wants it. Only tests use them.
 //!
 //! ```text
 //! let input = FailingReader::new(text, 3, 1, ErrorKind::Other);  // the fourth read fails

@@ -16,7 +16,7 @@ pub struct FailingReader<'a> {
 }
 
 impl<'a> FailingReader<'a> {
-    /// Gives `rest`, at most `most` bytes a call (one where that is 0), and fails by `kind` once,
+    /// Gives `rest`, at most `most` bytes a call (one if that is 0), and fails by `kind` once,
     /// after `before` calls.
     pub fn new(rest: &'a [u8], before: usize, most: usize, kind: ErrorKind) -> FailingReader<'a> {
         FailingReader {

@@ -7,7 +7,7 @@ use std::io;
 use std::io::{Error, ErrorKind, Write};
 
 /// A writer that takes one byte at a time, and once, after so many calls, fails, or takes none
-/// where it has no kind of failure.
+/// if it has no kind of failure.
 #[derive(Drop)]
 pub struct FailingWriter<A: Allocator = Global> {
     held: Vec<u8, A>,

@@ -58,7 +58,7 @@ unfoldable pub offset_line : ℕ → ℕ → List ℕ
 offset_line i offset =
     (codes "fault frame " ++ decimal i) ++ (codes " byte " ++ decimal offset) ++ codes "\n"
 
--- it is written where the place is asked for
+-- it is written if the place is asked for
 abbrev pub place_text : Bool → ℕ → FrameFault → Tally → List ℕ
 place_text false i f tally = []
 place_text true i f tally = place_line i f (decided_by tally)

@@ -78,7 +78,7 @@ unfoldable pub refused_line : ℕ → CodecFault → List ℕ
 refused_line i f =
     codes "frame " ++ decimal i ++ codes ": fault " ++ fault_word f ++ codes "\n"
 
--- the lines of one, by its number; where it is refused, also that of the place, if it is asked for
+-- the lines of one, by its number; if it is refused, also that of the place, if it is asked for
 abbrev pub judged_line : Bool → Configuration → ℕ → Judged → List ℕ
 judged_line place c i (Decoded f) = frame_line line.Sizes c i f.payload f.tally
 judged_line place c i (Refused payload f tally) =

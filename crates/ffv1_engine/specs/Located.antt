@@ -14,17 +14,17 @@ use Rattle.ffv1_engine.specs.declared.fault.Fault.{Fault}
 use Rattle.ffv1_engine.specs.Faults.{is_file_fault, of_avi}
 use Rattle.ffv1_engine.specs.FrameLines.{offset_line}
 
--- the line of that offset: it is written where it is asked for, and where the fault is the file's
+-- the line of that offset: it is written if it is asked for, and if the fault is the file's
 -- own; with the number of the frame that would come next
 abbrev pub located_text : Bool → ℕ → Fault → ℕ → List ℕ
 located_text byte i f offset = if byte && is_file_fault f then offset_line i offset else []
 
--- it is asked for with the place of a payload's fault, where all of a file is read
+-- it is asked for with the place of a payload's fault, if all of a file is read
 abbrev pub byte_told : Profile → Bool → Bool
 byte_told Strict place = false
 byte_told Wide place = place
 
--- where the fault is the file's own, elements and chunks of so many bytes were read whole, and the
+-- if the fault is the file's own, elements and chunks of so many bytes were read whole, and the
 -- one that comes next was refused with it
 abbrev pub LocatedFault : Scope → Passage → Fault → ℕ → Type 0
 LocatedFault scope p f offset =
@@ -39,7 +39,7 @@ WritesLine lines last p =
     × Appends p.old p.new (lines ++ take k last))
 
 -- after these lines the file is refused, where so many frames come before: the line of that was
--- written, where it is asked for, with the offset at which it stops
+-- written, if it is asked for, with the offset at which it stops
 pub record WritesLocated (Stops : Fault → ℕ → Type 0) (byte : Bool) (number : ℕ) (lines : List ℕ)
     (f : Fault) (output : Passage) : Type 0 where
   pub offset : ℕ

@@ -34,13 +34,13 @@ line_of i size hash =
 abbrev pub md5_line : ℕ → List ℕ → List ℕ
 md5_line i bytes = line_of (saturated i) (saturated (length bytes)) (md5 bytes)
 
--- a picture's time in seconds, in lowest terms; 1/25 where no rate is known
+-- a picture's time in seconds, in lowest terms; 1/25 if no rate is known
 abbrev pub time_base : ℕ → ℕ → ℕ × ℕ
 time_base rate scale =
     if (rate == 0) || (scale == 0) then (1, 25)
     else (scale / common_up_to rate scale scale, rate / common_up_to rate scale scale)
 
--- the aspect of a sample as it stands; 0/1 where none is known
+-- the aspect of a sample as it stands; 0/1 if none is known
 abbrev pub aspect_of : ℕ → ℕ → ℕ × ℕ
 aspect_of num den = if num == 0 then (0, 1) else (num, den)
 
@@ -62,7 +62,7 @@ md5_lines rct depth i [] = []
 md5_lines rct depth i (p ∷ ps) =
     md5_line i (raw_bytes rct depth p) ++ md5_lines rct depth (suc i) ps
 
--- the text of pictures with this head; nothing where there is none
+-- the text of pictures with this head; nothing if there is none
 abbrev pub md5_text : Bool → ℕ → VideoHead → List Planes → List ℕ
 md5_text rct depth h [] = []
 md5_text rct depth h (p ∷ ps) = md5_head h ++ md5_lines rct depth 0 (p ∷ ps)

@@ -19,12 +19,12 @@ use Rattle.ffv1_engine.specs.Faults.Cause.{Reading, Writing, Memory, Content}
 use Rattle.ffv1_engine.specs.Stream.{IsStream, Stream}
 use Rattle.ffv1_engine.specs.Play.{LacksStream}
 
--- where the text is known, it begins with this head, and its frames come from this place
+-- if the text is known, it begins with this head, and its frames come from this place
 abbrev pub OpensKnown : Profile → Option (List ℕ) → Option (List ℕ) → Head → Place → Type 0
 OpensKnown profile old new head place = Known old new (λ file rest.
     open_read (scope_in profile) file ≡ Ok ((head, place), rest))
 
--- where the text is known, it begins with a head whose record has no fault before its first set:
+-- if the text is known, it begins with a head whose record has no fault before its first set:
 -- from there on memory is taken
 pub record OpensRecord (profile : Profile) (old new : Option (List ℕ)) : Type 0 where
   pub head : Head
@@ -46,7 +46,7 @@ OpeningLacks profile old new =
     Known old new (WantsMore (open_read (scope_in profile)) Kept)
     ⊎ OpensRecord profile old new ⊎ OpensAccepted profile old new
 
--- where a read failed
+-- if a read failed
 abbrev pub OpeningWants : Profile → Option (List ℕ) → Option (List ℕ) → Type 0
 OpeningWants profile old new = Known old new (ReadFails (opening_may_end (scope_in profile))
     (open_read (scope_in profile)))

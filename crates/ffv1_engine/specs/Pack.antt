@@ -96,13 +96,13 @@ pub record Ends (most : ℕ) (choice : Choice) (text rest : List ℕ) (f : Fault
   pub short : AllShort accepted video.head video.pictures
   pub ends : EndsBehind most choice video accepted left rest f
 
--- the first fault of a text that is packed, where that is known, with this left
+-- the first fault of a text that is packed, if that is known, with this left
 abbrev pub FaultsPacked : ℕ → Choice → Option (List ℕ) → Option (List ℕ) → Fault → Type 0
 FaultsPacked most choice old new f = Known old new (λ text rest.
     LacksHead most text rest f ⊎ IsRejected most choice text rest f
     ⊎ Ends most choice text rest f)
 
--- a text, where it is known, has a head
+-- a text, if it is known, has a head
 abbrev pub HasHead : ℕ → Option (List ℕ) → Type 0
 HasHead most None = ⊤
 HasHead most (Some text) =

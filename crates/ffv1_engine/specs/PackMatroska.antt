@@ -47,7 +47,7 @@ shown_for h = record {
   sar_den = h.head.sar_den;
 }
 
--- the file of a video: while pictures may still come; with all of them, where it cannot be written
+-- the file of a video: while pictures may still come; with all of them, if it cannot be written
 -- over; and finished
 abbrev pub begun_file : Choice → Video → Accepted → List ℕ
 begun_file choice v a = begun_of (packed_head choice v a) (shown_for v.head) (packed_frames v a)
@@ -119,7 +119,7 @@ pub record IsUntimed (most : ℕ) (choice : Choice) (text rest : List ℕ) (f : 
   pub untimed : IsTimed (rate_in (head_for choice (is_ppm text) head accepted.configuration)) → ⊥
   pub is : f ≡ fault.Rate
 
--- the first fault of a text before its pictures, where it is known
+-- the first fault of a text before its pictures, if it is known
 abbrev pub FaultsBefore : ℕ → Choice → Option (List ℕ) → Option (List ℕ) → Fault → Type 0
 FaultsBefore most choice old new f = Known old new (λ text rest.
     LacksHead most text rest f ⊎ HasRejected most choice text rest f
@@ -151,7 +151,7 @@ EndsClusters most choice v a left rest f =
     ⊎ ((picture_next v.ppm most v.head (at_first v.pictures) left ≡ Ok (None, rest))
     × (v.pictures ≡ []) × (f ≡ fault.NoFrames))
 
--- the Clusters of a video were written, and of the text, where it is known, this video was read,
+-- the Clusters of a video were written, and of the text, if it is known, this video was read,
 -- and then so much as this says
 pub record PacksSome (most : ℕ) (Next : Video → Accepted → List ℕ → List ℕ → Type 0)
     (choice : Choice) (input output : Passage) : Type 0 where
@@ -167,7 +167,7 @@ abbrev pub EndsMatroska : ℕ → Choice → Passage → Passage → Fault → T
 EndsMatroska most choice input output f =
     PacksSome most (λ v a left rest. EndsClusters most choice v a left rest f) choice input output
 
--- and then a read failed, where the next picture wants one more byte
+-- and then a read failed, if the next picture wants one more byte
 abbrev pub PackReadFails : ℕ → Choice → Passage → Passage → Type 0
 PackReadFails most choice input output =
     PacksSome most (λ v a. PictureWants v.ppm most v.head v.pictures) choice input output
@@ -182,7 +182,7 @@ abbrev pub with_picture : Video → Planes → Video
 with_picture v p = record { ppm = v.ppm; head = v.head; pictures = v.pictures ++ p ∷ [] }
 
 -- a write of the Cluster of the next picture failed: of that a beginning was written, and of the
--- text, where it is known, nothing after that picture was read
+-- text, if it is known, nothing after that picture was read
 pub record ClusterFails (most : ℕ) (choice : Choice) (input output : Passage) : Type 0 where
   pub video : Video
   pub accepted : Accepted
@@ -212,16 +212,16 @@ pub record FinishFails (most : ℕ) (choice : Choice) (input output : Passage) :
       × PatchesBeginning mid output.new (length (open_file choice video accepted))
       (finished_opening_of choice video accepted))
 
--- where the text is known, its head was read, and nothing after it
+-- if the text is known, its head was read, and nothing after it
 abbrev pub StandsAfterHead : ℕ → Option (List ℕ) → Option (List ℕ) → Type 0
 StandsAfterHead most old new = Known old new (λ text rest.
     (h : SaidHead) × (video_head most text ≡ Ok (h, rest)))
 
 -- why packing is refused, by what the fault comes from: a write that failed, which was counted; a
--- read that failed, which was counted, where the head wants one more byte, with nothing written, or
+-- read that failed, which was counted, if the head wants one more byte, with nothing written, or
 -- the picture after those whose Clusters are written; memory after a head, with nothing written, or
 -- for the picture after those whose Clusters are; and else the first fault of the text, before its
--- pictures, where nothing is written, or after those that it begins with, whose Clusters are
+-- pictures, if nothing is written, or after those that it begins with, whose Clusters are
 abbrev pub RefusesMatroskaBy : ℕ → Cause → Choice → Passage → Passage → Fault → Type 0
 RefusesMatroskaBy most Writing choice input output f =
     (output.after ≡ one_more output.before) × (input.after ≡ input.before)

@@ -1,4 +1,4 @@
--- The first picture of a text, where it is mono.
+-- The first picture of a text, if it is mono.
 use Rattle.std.specs.Prelude.{◌≡◌, ℕ, ◌*◌, ◌≤◌, if◌then◌else◌, List, [], ◌∷◌, length, Option}
 use Rattle.std.specs.Prelude.{Some, None, Result, Ok, Err, Bool, true, false}
 use Rattle.ffv1_y4m.specs.Header.{header_of}
@@ -50,11 +50,11 @@ unfoldable pub mono_of : List ℕ → Result (Mono × List ℕ) (Fault × List �
 mono_of text =
     and_then (header_of 8 text) (λ said. picture_behind said.0.depth said.0.head said.1)
 
--- where the text is known, it reads as this picture, with this left
+-- if the text is known, it reads as this picture, with this left
 abbrev pub ReadsMono : Option (List ℕ) → Option (List ℕ) → Mono → Type 0
 ReadsMono old new m = Known old new (λ text rest. mono_of text ≡ Ok (m, rest))
 
--- where the text is known, it reads as this fault, with this left
+-- if the text is known, it reads as this fault, with this left
 abbrev pub FaultsMono : Option (List ℕ) → Option (List ℕ) → Fault → Type 0
 FaultsMono old new f = Known old new (λ text rest. mono_of text ≡ Err (f, rest))
 

@@ -40,7 +40,7 @@ pub record LacksRecord (profile : Profile) (file rest : List ℕ) (f : Fault) : 
       refusal
   pub is : f ≡ of_record refusal
 
--- the first fault of a file that has no stream, where it is known
+-- the first fault of a file that has no stream, if it is known
 abbrev pub LacksStream : Profile → Option (List ℕ) → Option (List ℕ) → Fault → Type 0
 LacksStream profile old new f = Known old new (λ file rest.
     FaultsRead (open_read (scope_in profile)) file rest f ⊎ LacksRecord profile file rest f)

@@ -108,7 +108,7 @@ module _ {X : Type 0} (Is : X → Type 0) (payload : X → List ℕ)
   RefusedAfter Stops byte xs f =
       WritesLocated Stops byte (saturated (length xs)) (text xs) f output
 
-  -- why it goes no further, where that line is written, by the cause: a write failed, which was
+  -- why it goes no further, if that line is written, by the cause: a write failed, which was
   -- counted; a read of the next one failed, which was counted; memory was refused; or the file has
   -- this fault
   abbrev pub GoesBy : (Fault → ℕ → Type 0) → Bool → Fault → Cause → Type 0
@@ -122,7 +122,7 @@ module _ {X : Type 0} (Is : X → Type 0) (payload : X → List ℕ)
       (xs : List X) × RefusedAfter Stops byte xs f × (input.after ≡ input.before)
       × GoesThen xs (NextHasFault f)
 
--- frames, where no such line is written
+-- frames, if no such line is written
 module _ (Has : List (List ℕ) → (Place → List ℕ → List ℕ → Type 0) → List ℕ → List ℕ → Type 0)
     (a : Accepted) (text : List Frame → List ℕ) (input output : Passage) where
   abbrev pub FramesThen : List Frame → (Place → List ℕ → List ℕ → Type 0) → Type 0

@@ -28,7 +28,7 @@ abbrev pub cost_text : Container → Stream → List Frame → List ℕ
 cost_text container s frames =
     show_text container s ++ frame_lines line.Cost s.accepted.configuration frames
 
--- where the file is known, its frames come from this place, in its container
+-- if the file is known, its frames come from this place, in its container
 pub record ComesFrom (profile : Profile) (old : Option (List ℕ)) (head : Head) : Type 0 where
   pub place : Place
   pub rest : Option (List ℕ)

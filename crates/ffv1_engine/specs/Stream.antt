@@ -79,6 +79,6 @@ HoldsPayloads Wide file rest head held = IsWhole file head held rest
 abbrev pub IsRead : Profile → List ℕ → List ℕ → Stream → List Frame → Type 0
 IsRead profile file rest s frames = HoldsPayloads profile file rest s.head (payloads frames)
 
--- where the file is known, it was read so
+-- if the file is known, it was read so
 abbrev pub ReadsFile : Profile → Option (List ℕ) → Option (List ℕ) → Stream → List Frame → Type 0
 ReadsFile profile old new s frames = Known old new (λ file rest. IsRead profile file rest s frames)

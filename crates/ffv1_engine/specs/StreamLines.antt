@@ -37,12 +37,12 @@ abbrev pub chroma_line : Bool → ℕ → ℕ → List ℕ
 chroma_line false log2_h log2_v = codes "chroma mono\n"
 chroma_line true log2_h log2_v = pair_line (codes "chroma ") log2_h (codes ",") log2_v
 
--- RFC 9043, 4.2.10: a line where there is an extra plane
+-- RFC 9043, 4.2.10: a line if there is an extra plane
 abbrev pub extra_line : Bool → List ℕ
 extra_line false = []
 extra_line true = codes "extra 1\n"
 
--- RFC 9043, 4.2.7: a line where a sample has more than 8 bits
+-- RFC 9043, 4.2.7: a line if a sample has more than 8 bits
 abbrev pub depth_line : ℕ → List ℕ
 depth_line depth = if nat_lt 8 depth then number_line (codes "depth ") depth else []
 
@@ -56,7 +56,7 @@ contexts_line sets =
 abbrev pub is_wide : Set → Bool
 is_wide set = nat_lt 16384 (contexts_of set)
 
--- a line where there is one
+-- a line if there is one
 abbrev pub note_line : List Set → List ℕ
 note_line sets =
     if list_any is_wide sets
@@ -70,7 +70,7 @@ held_line held =
     ++ codes " output " ++ decimal held.output ++ codes " columns " ++ decimal held.columns
     ++ codes " offsets " ++ decimal held.offsets ++ codes "\n"
 
--- of Matroska how many bytes its Segment has, where that is known; nothing of AVI
+-- of Matroska how many bytes its Segment has, if that is known; nothing of AVI
 abbrev pub segment_line : Container → List ℕ
 segment_line container.Avi = []
 segment_line (container.Matroska (Some size)) = number_line (codes "segment ") size

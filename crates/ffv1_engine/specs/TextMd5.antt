@@ -53,7 +53,7 @@ module _ (most : ℕ) (input output : Passage) where
     pub written : output.after ≡ output.before
     pub writes : Appends output.old output.new (video_md5 video)
 
-  -- the text of the pictures of a video was written, and of the text, where it is known, this video
+  -- the text of the pictures of a video was written, and of the text, if it is known, this video
   -- was read, and then so much as this says
   pub record TextSome (Next : Video → List ℕ → List ℕ → Type 0) : Type 0 where
     pub video : Video
@@ -63,7 +63,7 @@ module _ (most : ℕ) (input output : Passage) where
     pub writes : Appends output.old output.new (video_md5 video)
 
   -- a write of the line of the next picture failed: of that a beginning was written, and of the
-  -- text, where it is known, nothing after that picture was read
+  -- text, if it is known, nothing after that picture was read
   pub record TextFails : Type 0 where
     pub video : Video
     pub next : Planes
@@ -75,7 +75,7 @@ module _ (most : ℕ) (input output : Passage) where
         (video_md5 (with_picture video next))
 
   -- why it is refused, by the cause: a write that failed, which was counted; a read that failed,
-  -- which was counted, where the head wants one more byte, with nothing written, or the picture
+  -- which was counted, if the head wants one more byte, with nothing written, or the picture
   -- after those whose lines are written; memory for that picture or its line; or the first fault of
   -- the text
   abbrev pub TextStopsBy : Fault → Cause → Type 0

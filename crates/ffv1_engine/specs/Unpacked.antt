@@ -1,4 +1,4 @@
--- The text of a stream: YUV4MPEG2 where its pictures are YCbCr, and images of PPM where they are
+-- The text of a stream: YUV4MPEG2 if its pictures are YCbCr, and images of PPM if they are
 -- RCT.
 use Rattle.std.specs.Prelude.{◌≡◌, ℕ, Bool, true, false, List, [], ◌∷◌, map, flat_map}
 use Rattle.ffv1_wire.specs.Runs.{Line}
@@ -62,7 +62,7 @@ abbrev pub AllSay : Said → List Frame → Type 0
 AllSay said [] = Unit {0}
 AllSay said (f ∷ fs) = (f.said ≡ said) × AllSay said fs
 
--- each says what the first says, where a header says it once for all
+-- each says what the first says, if a header says it once for all
 abbrev pub AlikeBy : Bool → List Frame → Type 0
 AlikeBy true frames = Unit {0}
 AlikeBy false [] = Unit {0}

@@ -1,4 +1,4 @@
--- What is packed: a video, as YUV4MPEG2 or, where the text begins with `P`, as binary PPM.
+-- What is packed: a video, as YUV4MPEG2 or, if the text begins with `P`, as binary PPM.
 use Rattle.std.specs.Prelude.{◌≡◌, ℕ, ◌==◌, Bool, true, false, if◌then◌else◌, List, [], ◌∷◌, Option}
 use Rattle.std.specs.Prelude.{Some, Ok, Err}
 use Rattle.ffv1_y4m.specs.Header.{header_of}
@@ -38,7 +38,7 @@ IsVideoBy false text h pictures = IsText text h.depth h.head pictures
 abbrev pub IsVideo : List ℕ → Video → Type 0
 IsVideo text v = IsVideoBy v.ppm text v.head v.pictures
 
--- the same, as it is read where depths up to `most` are: above 8 with headers of PPM as Netpbm
+-- the same, as it is read if depths up to `most` are: above 8 with headers of PPM as Netpbm
 -- writes them
 abbrev pub IsReadVideoBy : ℕ → Bool → List ℕ → SaidHead → List Planes → Type 0
 IsReadVideoBy most true text h pictures =
@@ -54,7 +54,7 @@ abbrev pub seen_as : {X Y : Type 0} → Outcome X → (X → Y) → Outcome Y
 seen_as (Ok p) view = Ok (view p.0, p.1)
 seen_as (Err e) view = Err e
 
--- the head of a text, where depths up to `most` are read
+-- the head of a text, if depths up to `most` are read
 abbrev pub video_head : ℕ → Reading SaidHead
 video_head most text =
     if is_ppm text
@@ -79,7 +79,7 @@ ReadsPictures ppm most h first text (p ∷ ps) left =
     (rest : List ℕ) × (picture_next ppm most h first text ≡ Ok (Some p, rest))
     × ReadsPictures ppm most h false rest ps left
 
--- a text begins with the head and the pictures of this video, where depths up to `most` are read,
+-- a text begins with the head and the pictures of this video, if depths up to `most` are read,
 -- and then this is left
 pub record Begins (most : ℕ) (text : List ℕ) (v : Video) (left : List ℕ) : Type 0 where
   pub kind : v.ppm ≡ is_ppm text
@@ -87,6 +87,6 @@ pub record Begins (most : ℕ) (text : List ℕ) (v : Video) (left : List ℕ) :
   pub head : video_head most text ≡ Ok (v.head, behind)
   pub pictures : ReadsPictures v.ppm most v.head true behind v.pictures left
 
--- where the text is known, all of it was read, with depths up to `most`, and it is this video
+-- if the text is known, all of it was read, with depths up to `most`, and it is this video
 abbrev pub ReadsVideo : ℕ → Option (List ℕ) → Option (List ℕ) → Video → Type 0
 ReadsVideo most old new v = Known old new (λ text rest. IsReadVideo most text v × (rest ≡ []))

@@ -19,7 +19,7 @@ abbrev pub IsHeadBy : Bool → VideoHead → Type 0
 IsHeadBy true h = IsSized h × (h ≡ colour_head h.width h.height)
 IsHeadBy false h = IsHead h
 
--- where the text is known, it has no head, by this fault
+-- if the text is known, it has no head, by this fault
 abbrev pub LacksKnown : ℕ → Option (List ℕ) → Option (List ℕ) → Fault → Type 0
 LacksKnown most old new f = Known old new (λ text rest.
     (g : Y4mFault) × (video_head most text ≡ Err (g, rest)) × (f ≡ of_y4m g))
@@ -28,7 +28,7 @@ LacksKnown most old new f = Known old new (λ text rest.
 abbrev pub Taken : (List ℕ → Type 0) → List ℕ → List ℕ → Type 0
 Taken are text rest = (bytes : List ℕ) × (text ≡ bytes ++ rest) × are bytes
 
--- where memory may be refused for the next picture
+-- when memory may be refused for the next picture
 abbrev pub GrowsInNext : Bool → ℕ → SaidHead → Bool → List ℕ → Type 0
 GrowsInNext true most h first =
     GrowsInImage most (record { head = h.head; depth = h.depth }) first
@@ -39,7 +39,7 @@ abbrev pub PictureWants : Bool → ℕ → SaidHead → List Planes → List ℕ
 PictureWants ppm most h pictures left rest =
     Taken (Wants (picture_next ppm most h (at_first pictures))) left rest
 
--- after pictures memory was refused: for the next one, where it grows; or for what is made of it,
+-- after pictures memory was refused: for the next one, if it grows; or for what is made of it,
 -- once it was read
 abbrev pub PictureLacks : Bool → ℕ → SaidHead → List Planes → List ℕ → List ℕ → Type 0
 PictureLacks ppm most h pictures left rest =

@@ -47,13 +47,13 @@ fn write_count<W: ByteOut, A: Allocator + Copy>(
 ///
 /// The first fault ends it, after the lines of the frames before: those of the file up to its first
 /// frame (`NotAvi`, `NoFfv1`, `Truncated`, `ChunkTooLong`), of its record, of the chunks of its
-/// frames (`EmptyFrame`, too), of a payload; `NoFrames` at the end where there was none; `Read`,
+/// frames (`EmptyFrame`, too), of a payload; `NoFrames` at the end if there was none; `Read`,
 /// `OutOfMemory` and `Write` as they come. At `Wide`, `Truncated` is also a file that ends inside a
-/// `RIFF`, or that has fewer frames than its `dmlh` says, and `NotAvi` one where something that is
-/// no `RIFF` comes after the last one; and a file that begins with the byte 1A is Matroska, with
+/// `RIFF`, or that has fewer frames than its `dmlh` says, and `NotAvi` one in which something that
+/// is no `RIFF` comes after the last one; and a file that begins with the byte 1A is Matroska, with
 /// the faults that `MatroskaReader::open` and `MatroskaReader::next_frame` name in place of those
-/// of AVI. With `place` one line more is written where a payload is refused, and at `Wide` where
-/// the file itself is; where that line cannot be written, the fault stays what it is:
+/// of AVI. With `place` one line more is written if a payload is refused, and at `Wide` if
+/// the file itself is; if that line cannot be written, the fault stays what it is:
 ///
 /// ```text
 /// fault frame {i} slice {s} plane {p} line {l} x {x} decisions {d}
@@ -136,14 +136,14 @@ fn write_counts<W: ByteOut, A: Allocator + Copy>(
 /// fault frame {i} slice {s} plane {p} line {l} x {x} decisions {d}
 /// ```
 ///
-/// Answers the fault of the first payload that is refused, and None where none is. Frames are
+/// Answers the fault of the first payload that is refused, and None if none is. Frames are
 /// counted from 0; a count of 64 bits stays at its greatest value. Beside what the decoder holds,
 /// one payload and its lines are held.
 ///
 /// All other faults end it as they end `check`, after the lines of the frames before: those of the
 /// file up to its first frame, of its record, and of the chunks of its frames (`EmptyFrame`, too);
-/// `NoFrames` at the end where there was none; `Read`, `OutOfMemory` and `Write` as they come,
-/// `Write` also where the line of a frame's place is not written. With `place`, at `Wide`, a fault
+/// `NoFrames` at the end if there was none; `Read`, `OutOfMemory` and `Write` as they come,
+/// `Write` also if the line of a frame's place is not written. With `place`, at `Wide`, a fault
 /// of the file itself has the line of its byte, as `check` writes it.
 pub fn check_all<R: ByteIn, W: ByteOut, A: Allocator + Copy>(
     alloc: A,

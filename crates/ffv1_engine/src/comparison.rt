@@ -56,7 +56,7 @@ impl<'a> RowSink for Comparison<'a> {
     }
 }
 
-/// Whether the bytes decode to these samples, row by row. They do where they code them.
+/// Whether the bytes decode to these samples, row by row. They do if they code them.
 fn decode_rows<A: Allocator + Copy>(
     alloc: A,
     decoder: &mut RangeDecoder<'_>,
@@ -89,7 +89,7 @@ fn decode_rows<A: Allocator + Copy>(
     Ok(decoded.is_ok() & comparison.same)
 }
 
-/// Whether the code of a mono plane decodes to the plane's samples. It does where memory is not
+/// Whether the code of a mono plane decodes to the plane's samples. It does if memory is not
 /// refused.
 pub(crate) fn decodes_to<A: Allocator + Copy>(
     alloc: A,

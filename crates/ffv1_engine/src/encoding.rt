@@ -118,7 +118,7 @@ fn checked_for<A: Allocator + Copy>(
 }
 
 /// What encodes the pictures of a video, in a profile that reads its depth, and decodes each frame
-/// again where the choice asks for that.
+/// again if the choice asks for that.
 pub(crate) fn encoder_for<A: Allocator + Copy>(
     alloc: A,
     profile: Profile,

@@ -178,7 +178,7 @@ pub enum Fault {
     #[error("70 NoFrames")]
     NoFrames,
     /// A later image has another size or depth than the first, or a later frame another structure
-    /// or aspect where YUV4MPEG2 is written.
+    /// or aspect if YUV4MPEG2 is written.
     #[error("71 FormatChanged")]
     FormatChanged,
     /// YUV4MPEG2 has no name for the chroma at its depth.
@@ -190,8 +190,8 @@ pub enum Fault {
     /// The file is no Matroska of a version that is read.
     #[error("80 NotMatroska")]
     NotMatroska,
-    /// An identifier or a number of an element is longer than it may be, its size is unknown where
-    /// none may be, or it may not stand there.
+    /// An identifier or a number of an element is longer than it may be, its size is unknown though
+    /// that may not be, or it may not stand there.
     #[error("81 BadElement")]
     BadElement,
     /// A Cluster, or the end of the Segment, comes before any Tracks.

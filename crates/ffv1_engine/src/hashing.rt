@@ -80,7 +80,7 @@ fn write_picture<W: ByteOut, A: Allocator>(
     Ok(())
 }
 
-/// Reads the next frame, decodes it, and writes the line of its picture. Answers false where there
+/// Reads the next frame, decodes it, and writes the line of its picture. Answers false if there
 /// is none.
 fn write_next<R: ByteIn, W: ByteOut, A: Allocator>(
     player: &mut Player<A>,
@@ -180,8 +180,8 @@ fn write_frames<R: ByteIn, W: ByteOut, A: Allocator + Copy>(
 /// 0,          0,          0,        1,   {bytes}, {MD5}
 /// ```
 ///
-/// The rate is in lowest terms, 1/25 where none is known. The aspect of a sample is the first
-/// frame's as it stands, 0/1 where none is known; FFmpeg has that of the container where it is
+/// The rate is in lowest terms, 1/25 if none is known. The aspect of a sample is the first
+/// frame's as it stands, 0/1 if none is known; FFmpeg has that of the container if it is
 /// Matroska, and leaves out one by which a picture would have less than a row or a column. Frames
 /// are counted from 0; a count of 64 bits stays at its greatest value.
 ///
@@ -193,12 +193,12 @@ fn write_frames<R: ByteIn, W: ByteOut, A: Allocator + Copy>(
 ///
 /// The first fault ends it, after the lines of the frames before: those of the file up to its
 /// first frame (`NotAvi`, `NoFfv1`, `Truncated`, `ChunkTooLong`), of its record, of the chunks of
-/// its frames (`EmptyFrame`, too), of a payload; `NoFrames` at the end where there was none;
+/// its frames (`EmptyFrame`, too), of a payload; `NoFrames` at the end if there was none;
 /// `Read`, `OutOfMemory` and `Write` as they come. At `Wide`, `Truncated` is also a file that ends
-/// inside a `RIFF`, or that has fewer frames than its `dmlh` says, and `NotAvi` one where something
-/// that is no `RIFF` comes after the last one; and a file that begins with the byte 1A is Matroska,
-/// with the faults that `MatroskaReader::open` and `MatroskaReader::next_frame` name in place of
-/// those of AVI.
+/// inside a `RIFF`, or that has fewer frames than its `dmlh` says, and `NotAvi` one in which
+/// something that is no `RIFF` comes after the last one; and a file that begins with the byte 1A
+/// is Matroska, with the faults that `MatroskaReader::open` and `MatroskaReader::next_frame` name
+/// in place of those of AVI.
 pub fn framemd5<R: ByteIn, W: ByteOut, A: Allocator + Copy>(
     alloc: A,
     profile: Profile,

@@ -22,7 +22,7 @@ use ffv1_wire::{ByteIn, ByteOut};
 use ffv1_y4m::{PpmWriter, laws as y4m_laws};
 use std::alloc::Allocator;
 
-/// Reads the next frame, and decodes it into an image. Answers false where there is none.
+/// Reads the next frame, and decodes it into an image. Answers false if there is none.
 fn write_next<R: ByteIn, W: ByteOut, A: Allocator>(
     player: &mut Player<A>,
     input: &mut R,

@@ -36,7 +36,7 @@ pub struct JudgedCounts {
 }
 
 impl JudgedCounts {
-    /// Counts one frame more, with its fault where it is refused.
+    /// Counts one frame more, with its fault if it is refused.
     fn count(&mut self, fault: Option<Fault>)
         ensures { self.new ≡ one_counted self.old fault }
     {
@@ -88,7 +88,7 @@ fn write_refusal<W: ByteOut, A: Allocator>(
 }
 
 /// Reads the next frame and decodes it, writes its lines and counts it, whether it is decoded or
-/// refused. Answers false where there is none.
+/// refused. Answers false if there is none.
 fn judge_frame<R: ByteIn, W: ByteOut, A: Allocator>(
     player: &mut Player<A>,
     input: &mut R,

@@ -42,7 +42,7 @@ pub struct PackedMatroska {
     pub frames: u64,
     /// How many bytes the frames have, without what the file adds to them.
     pub bytes: u64,
-    /// Whether the file was finished: false where the output cannot be written over, so that the
+    /// Whether the file was finished: false if the output cannot be written over, so that the
     /// size of its Segment stays unknown.
     pub finished: bool,
 }
@@ -166,42 +166,42 @@ fn put_pictures<R: ByteIn, W: ByteOut, A: Allocator + Copy>(
     Ok(packed)
 }
 
-/// Packs a video into Matroska, picture by picture: YUV4MPEG2 or, where the first byte is `P`,
+/// Packs a video into Matroska, picture by picture: YUV4MPEG2 or, if the first byte is `P`,
 /// binary PPM is read, and the Cluster of a picture is written as soon as it is encoded (RFC 9559,
 /// 5.1.3, with FFV1 as RFC 9043, 4.3.3, has it).
 ///
 /// The configuration and the frames are those of `pack`, and so are the depths that are read, rate
-/// and scale; but where the choice asks for `default_grid`, and not for columns and rows, a picture
+/// and scale; but if the choice asks for `default_grid`, and not for columns and rows, a picture
 /// of more than 101376 pixels has at least 4 slices, as RFC 9043, section 5, wants it: the fewest,
 /// and of these those of fewest columns, that its sizes have, with fewer bytes of samples than 12
-/// MiB in the greatest; and one slice where it can have none such. Before the first Cluster comes
+/// MiB in the greatest; and one slice if it can have none such. Before the first Cluster comes
 /// all that stands before the Clusters, of a Segment of unknown size; after the last one come Cues,
-/// and then what stands before Tracks is written over, so that the file is finished. Where the
+/// and then what stands before Tracks is written over, so that the file is finished. If the
 /// output cannot be written over, the Segment's size stays unknown, and all else is there. One
 /// picture, its frame and the places of at most 8192 Clusters are held, however many pictures there
 /// are.
 ///
-/// Where the choice says `verify`, each frame is decoded as soon as it is coded, and compared with
+/// If the choice says `verify`, each frame is decoded as soon as it is coded, and compared with
 /// its picture before its Cluster is written, in memory that is taken once, before the first byte
 /// is written. What is written and answered is the same, but that `OutOfMemory` may come for that
 /// memory.
 ///
-/// The first fault is answered in this order. `Header`, `Tag` and `Unsupported` where the text has
-/// no head of a depth that is read; `Grid` and `ChromaEdge` where the grid that is chosen does not
-/// suit its sizes; `Rate` where no whole nanoseconds a frame say its rate, as
+/// The first fault is answered in this order. `Header`, `Tag` and `Unsupported` if the text has
+/// no head of a depth that is read; `Grid` and `ChromaEdge` if the grid that is chosen does not
+/// suit its sizes; `Rate` if no whole nanoseconds a frame say its rate, as
 /// `ffv1_matroska::rate_of` reads them; nothing is written then. For each picture `FrameLine`,
 /// `FrameTruncated`, `SampleTooLarge`, for a later image `Header` and `FormatChanged`,
-/// `SliceTooLong` where a slice takes more than 16777215 bytes, `ChunkTooLong` where its frame
-/// takes more than 67108864 bytes, which no reader here takes, and `TooLarge` where its Cluster
+/// `SliceTooLong` if a slice takes more than 16777215 bytes, `ChunkTooLong` if its frame
+/// takes more than 67108864 bytes, which no reader here takes, and `TooLarge` if its Cluster
 /// would end more than 2^56 - 2^20 bytes after the first byte of the Segment's content; `NoFrames`
-/// where there is no picture. Then the Clusters of the pictures before are written, which can be
-/// read, and nothing where there is none.
+/// if there is no picture. Then the Clusters of the pictures before are written, which can be
+/// read, and nothing if there is none.
 ///
-/// No picture is read before the Clusters of those before it are written. `Read` where a read
-/// failed: nothing is written where the head wants one more byte; else the Clusters of exactly the
+/// No picture is read before the Clusters of those before it are written. `Read` if a read
+/// failed: nothing is written if the head wants one more byte; else the Clusters of exactly the
 /// pictures that were read whole are, and the next picture wants one more byte. `OutOfMemory`,
 /// which comes after the head alone: so, too, or the next picture was read whole, and memory for
-/// its frame was refused. `Write` where a write failed: a beginning of the file is then written,
+/// its frame was refused. `Write` if a write failed: a beginning of the file is then written,
 /// which ends in the Cluster of the last picture that was read, or in Cues; or the file whose
 /// Segment has no size, with a beginning of what it is written over by.
 pub fn pack_matroska<R: ByteIn, W: PatchOut, A: Allocator + Copy>(

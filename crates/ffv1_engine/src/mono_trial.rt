@@ -30,8 +30,8 @@ use std::alloc::Allocator;
 ///
 /// The picture has to be mono: `Unsupported` otherwise, once its header was judged. After the
 /// picture nothing is read. The faults are those of the text, the first one from the left
-/// (`Header`, `Tag`, `Unsupported`, `FrameLine`, `FrameTruncated`), `NoFrames` where there is no
-/// picture, `Read` where a read failed, `OutOfMemory`, each with nothing written; and `Write` where
+/// (`Header`, `Tag`, `Unsupported`, `FrameLine`, `FrameTruncated`), `NoFrames` if there is no
+/// picture, `Read` if a read failed, `OutOfMemory`, each with nothing written; and `Write` if
 /// a write failed, a beginning of the lines then written.
 pub fn trial<R: ByteIn, W: ByteOut, A: Allocator + Copy>(
     alloc: A,

@@ -76,7 +76,7 @@ fn bytes_in<A: Allocator>(frames: &[Vec<u8, A>]) -> u64
     bytes
 }
 
-/// Packs a video: YUV4MPEG2 or, where the first byte is `P`, binary PPM is read, each picture is
+/// Packs a video: YUV4MPEG2 or, if the first byte is `P`, binary PPM is read, each picture is
 /// encoded, and an AVI of the frames is written (RFC 9043, 4.3.3).
 ///
 /// The file's configuration record has one quantisation table set, and says that all frames are key
@@ -86,17 +86,17 @@ fn bytes_in<A: Allocator>(frames: &[Vec<u8, A>]) -> u64
 /// depths are read: `Strict` those of 8 bits a sample, `Wide` also 9, 10, 12, 14 and 16, of one
 /// depth in a text; of what both read, the same is written.
 ///
-/// Where the choice says `verify`, each frame is decoded as soon as it is coded, and compared with
+/// If the choice says `verify`, each frame is decoded as soon as it is coded, and compared with
 /// its picture, in memory that is taken once. What is written and answered is the same, but that
 /// `OutOfMemory` may come for that memory.
 ///
-/// The first fault is answered in this order. `Header`, `Tag` and `Unsupported` where the text has
-/// no head of a depth that is read; `Grid` and `ChromaEdge` where the choice does not suit its
-/// sizes; for each picture `FrameLine`, `FrameTruncated`, `SampleTooLarge` where a sample is
-/// 2^depth or more, for a later image `Header` and `FormatChanged`, and `SliceTooLong` where a
-/// slice takes more than 16777215 bytes; `NoFrames` where there is no picture; `TooLarge` where the
-/// size of RIFF would pass 2147483647. `Read` where a read failed, and `OutOfMemory`, which comes
-/// after the head alone. Nothing is written then. `Write` where a write failed: a beginning of the
+/// The first fault is answered in this order. `Header`, `Tag` and `Unsupported` if the text has
+/// no head of a depth that is read; `Grid` and `ChromaEdge` if the choice does not suit its
+/// sizes; for each picture `FrameLine`, `FrameTruncated`, `SampleTooLarge` if a sample is
+/// 2^depth or more, for a later image `Header` and `FormatChanged`, and `SliceTooLong` if a
+/// slice takes more than 16777215 bytes; `NoFrames` if there is no picture; `TooLarge` if the
+/// size of RIFF would pass 2147483647. `Read` if a read failed, and `OutOfMemory`, which comes
+/// after the head alone. Nothing is written then. `Write` if a write failed: a beginning of the
 /// file is then written, and not all of it.
 pub fn pack<R: ByteIn, W: ByteOut, A: Allocator + Copy>(
     alloc: A,

@@ -1,4 +1,4 @@
-//! The first picture of an input, where it is mono.
+//! The first picture of an input, if it is mono.
 
 ghost use Rattle.std.specs.Prelude.{◌≡◌, ◌*◌, IfOk, IfErr, OnOk, true};
 ghost use Rattle.ffv1_wire.specs.Passage.{passage};

@@ -61,7 +61,7 @@ pub(crate) fn text_head<A: Allocator>(head: &FileHead<A>, checked: &Checked<A>) 
 }
 
 /// Writes the picture of these planes, of samples of so many bits, which says this, and before the
-/// first one the header. Refuses with `FormatChanged`, and writes nothing, where it says something
+/// first one the header. Refuses with `FormatChanged`, and writes nothing, if it says something
 /// else than the first.
 fn write_picture<W: ByteOut, A: Allocator>(
     depth: u32,
@@ -96,7 +96,7 @@ fn write_picture<W: ByteOut, A: Allocator>(
     Ok(())
 }
 
-/// Reads the next frame, decodes it, and writes its picture. Answers false where there is none.
+/// Reads the next frame, decodes it, and writes its picture. Answers false if there is none.
 fn write_next<R: ByteIn, W: ByteOut, A: Allocator>(
     player: &mut Player<A>,
     input: &mut R,

@@ -137,7 +137,7 @@ fn code_rows<A: Allocator + Copy>(
 /// fresh states, without keyframe and head, ended by the sentinel (RFC 9043, 3.8.1 and 4.7). Both
 /// sizes are from 1 to 8192.
 ///
-/// `OutOfMemory` where memory was refused.
+/// `OutOfMemory` if memory was refused.
 pub fn code_plane<A: Allocator + Copy>(
     alloc: A,
     width: u32,

@@ -63,7 +63,7 @@ fn read_head<A: Allocator + Copy>(
     }
 }
 
-/// Opens a file as `open_stream` does. Where the file is refused, the offset is how many bytes of
+/// Opens a file as `open_stream` does. If the file is refused, the offset is how many bytes of
 /// it come before the element or chunk that is.
 fn open_stream_located<R: ByteIn, A: Allocator + Copy>(
     alloc: A,
@@ -127,7 +127,7 @@ impl<A: Allocator> Drop for Player<A> {
     }
 }
 
-/// A player of a file that was opened. Refuses with `OutOfMemory` where the decoder is refused its
+/// A player of a file that was opened. Refuses with `OutOfMemory` if the decoder is refused its
 /// memory.
 pub(crate) fn player_of<A: Allocator + Copy>(
     alloc: A,
@@ -146,7 +146,7 @@ pub(crate) fn player_of<A: Allocator + Copy>(
     })
 }
 
-/// Opens a file as `open_player` does. Where the file is refused, the offset is how many bytes of
+/// Opens a file as `open_player` does. If the file is refused, the offset is how many bytes of
 /// it come before the element or chunk that is.
 pub(crate) fn open_player_located<R: ByteIn, A: Allocator + Copy>(
     alloc: A,
@@ -171,7 +171,7 @@ pub(crate) fn open_player_located<R: ByteIn, A: Allocator + Copy>(
 }
 
 /// Opens a file, and makes the decoder of its frames. The faults are those of `open_stream`, and
-/// `OutOfMemory` where the decoder is refused its memory.
+/// `OutOfMemory` if the decoder is refused its memory.
 pub(crate) fn open_player<R: ByteIn, A: Allocator + Copy>(
     alloc: A,
     profile: Profile,

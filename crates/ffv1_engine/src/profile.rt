@@ -32,7 +32,7 @@ impl Profile {
         }
     }
 
-    /// Whether the byte where a file is at fault is written with the places, where these are asked
+    /// Whether the byte where a file is at fault is written with the places, if these are asked
     /// for.
     pub(crate) fn tells_byte(self, place: bool) -> bool
         ensures { result ≡ byte_told self place }

@@ -42,10 +42,10 @@ pub fn named_rate_fits_a_file()
 {}
 
 /// A text that `pack` has packed, no frame of it longer than 67108864 bytes, is unpacked again. Its
-/// file holds a stream of frames that code its pictures. Where `unpack` is Ok on that file, at
+/// file holds a stream of frames that code its pictures. If `unpack` is Ok on that file, at
 /// either profile that reads samples of its depth, it has read all of it and written the canonical
 /// text of the video: a text of the same video, and for PPM whose headers are three lines each, as
-/// they are at `Strict`, the very text that was packed. Where `unpack`, `check` or `show` is
+/// they are at `Strict`, the very text that was packed. If `unpack`, `check` or `show` is
 /// refused on it, at such a profile, that is for `OutOfMemory` (2), `Read` (56) or `Write` (57),
 /// and for no fault of the file.
 ///

@@ -101,7 +101,7 @@ fn tell_costs<R: ByteIn, W: ByteOut, A: Allocator + Copy>(
 /// held states {n} samples {n} output {n} columns {n} offsets {n}
 /// ```
 ///
-/// The line `extra 1` is there where there is a plane of transparency, the line `depth` where a
+/// The line `extra 1` is there if there is a plane of transparency, the line `depth` if a
 /// sample has more than 8 bits, and the line `segment` of Matroska: it has the bytes of the
 /// Segment, or says that their number is not known, so that the file may be cut where a Cluster
 /// ends. The decoder holds what `Checked::held` says. Which stream of the file counts, and
@@ -121,10 +121,11 @@ fn tell_costs<R: ByteIn, W: ByteOut, A: Allocator + Copy>(
 /// `ChunkTooLong`) and of its record, with nothing written; with `cost` then those of the chunks of
 /// its frames (`EmptyFrame`, too) and of a payload, after the lines of the stream and of the frames
 /// before. With `cost`, at `Wide`, `Truncated` is also a file that ends inside a `RIFF`, or that
-/// has fewer frames than its `dmlh` says, and `NotAvi` one where something that is no `RIFF` comes
-/// after the last one. At `Wide` a file that begins with the byte 1A is Matroska, with the faults
-/// that `MatroskaReader::open` and `MatroskaReader::next_frame` name in place of those of AVI.
-/// `Read`, `OutOfMemory` and `Write` come as they come; where a write failed, a beginning of what
+/// has fewer frames than its `dmlh` says, and `NotAvi` one in which something that is no `RIFF`
+/// comes after the last one. At `Wide` a file that begins with the byte 1A is Matroska, with the
+/// faults that `MatroskaReader::open` and `MatroskaReader::next_frame` name in place of those of
+/// AVI.
+/// `Read`, `OutOfMemory` and `Write` come as they come; if a write failed, a beginning of what
 /// was to be written is.
 pub fn show<R: ByteIn, W: ByteOut, A: Allocator + Copy>(
     alloc: A,

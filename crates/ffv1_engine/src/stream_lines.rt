@@ -87,14 +87,14 @@ fn push_chroma<A: Allocator>(
     Ok(())
 }
 
-/// The line of an extra plane, nothing where there is none.
+/// The line of an extra plane, nothing if there is none.
 fn extra_line(extra_plane: bool) -> &'static [u8]
     ensures { result.now ≡ extra_line extra_plane }
 {
     if extra_plane { b"extra 1\n" } else { b"" }
 }
 
-/// Appends the line of the depth, where a sample has more than 8 bits.
+/// Appends the line of the depth, if a sample has more than 8 bits.
 fn push_depth<A: Allocator>(text: &mut Vec<u8, A>, depth: u32) -> Result<(), AllocError>
     ensures { OnOk result (text.new.items ≡ text.old.items ++ depth_line depth) }
 {
@@ -143,7 +143,7 @@ fn has_wide_set<A: Allocator>(sets: &[QuantSet<A>]) -> bool
     wide
 }
 
-/// The line that says that other programs refuse the sets, nothing where they do not.
+/// The line that says that other programs refuse the sets, nothing if they do not.
 fn note_line<A: Allocator>(sets: &[QuantSet<A>]) -> &'static [u8]
     ensures { result.now ≡ note_line sets.now }
 {

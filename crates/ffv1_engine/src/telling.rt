@@ -90,7 +90,7 @@ pub(crate) fn write_line<W: ByteOut, A: Allocator>(
     Ok(())
 }
 
-/// Writes the line of the place where a frame is refused, where it is asked for. A write that fails
+/// Writes the line of the place where a frame is refused, if it is asked for. A write that fails
 /// is counted, and no fault.
 fn tell_place<W: ByteOut, A: Allocator>(
     output: &mut W,
@@ -108,7 +108,7 @@ fn tell_place<W: ByteOut, A: Allocator>(
     let _told = write_place(output, number, fault, decoder.decisions());
 }
 
-/// Writes the line of the byte where a file is refused, where it is asked for and the fault is the
+/// Writes the line of the byte where a file is refused, if it is asked for and the fault is the
 /// file's own. A write that fails is counted, and no fault.
 pub(crate) fn tell_byte<W: ByteOut>(
     output: &mut W,
@@ -130,7 +130,7 @@ pub(crate) fn tell_byte<W: ByteOut>(
 }
 
 /// Reads the next frame, decodes it, and writes its line, or that of the place where it is refused,
-/// or of the byte where the file is. Answers false where there is none.
+/// or of the byte where the file is. Answers false if there is none.
 fn tell_frame<R: ByteIn, W: ByteOut, A: Allocator>(
     player: &mut Player<A>,
     input: &mut R,

@@ -17,7 +17,7 @@ use ffv1_wire::{ByteIn, ByteOut, write_all};
 use ffv1_y4m::laws as y4m_laws;
 use std::alloc::Allocator;
 
-/// Reads the next picture, and writes its line. Answers false where there is none.
+/// Reads the next picture, and writes its line. Answers false if there is none.
 fn write_next<R: ByteIn, W: ByteOut, A: Allocator + Copy>(
     reader: &mut VideoReader<A>,
     input: &mut R,
@@ -73,9 +73,9 @@ fn write_lines<R: ByteIn, W: ByteOut, A: Allocator + Copy>(
     Ok(count)
 }
 
-/// Reads all pictures of a text that the profile reads, YUV4MPEG2 or, where its first byte is `P`,
+/// Reads all pictures of a text that the profile reads, YUV4MPEG2 or, if its first byte is `P`,
 /// binary PPM, and writes of them the lines that `framemd5` writes of a file that they are packed
-/// into, so that the two compare by `diff`; of PPM where that is packed at 25 frames a second.
+/// into, so that the two compare by `diff`; of PPM if that is packed at 25 frames a second.
 ///
 /// The head says the rate, the sizes and the aspect of the text; PPM has no rate and no aspect. The
 /// bytes of a picture are those of its planes, as `framemd5` has them: PPM is red, green and blue.
@@ -84,10 +84,10 @@ fn write_lines<R: ByteIn, W: ByteOut, A: Allocator + Copy>(
 /// One picture and one line are held.
 ///
 /// The first fault ends it, after the lines of the pictures before: `Header`, `Tag` and
-/// `Unsupported` where the text has no head of a depth that is read, and then nothing is written;
+/// `Unsupported` if the text has no head of a depth that is read, and then nothing is written;
 /// of a picture `FrameLine`, `FrameTruncated`, `SampleTooLarge`, and of a later image `Header` and
 /// `FormatChanged`; `TooLarge` after 2^64 pictures, which have no further number; `NoFrames` at the
-/// end where there was none; `Read`, `OutOfMemory` and `Write` as they come.
+/// end if there was none; `Read`, `OutOfMemory` and `Write` as they come.
 pub fn framemd5_text<R: ByteIn, W: ByteOut, A: Allocator + Copy>(
     alloc: A,
     profile: Profile,

@@ -108,13 +108,13 @@ fn write_frames<R: ByteIn, W: ByteOut, A: Allocator + Copy>(
 /// image as soon as it is decoded. Beside what the decoder holds, one payload and one picture are
 /// held, for PPM three lines.
 ///
-/// The first fault ends it. Nothing is written where it is one of the file up to its first frame
-/// (`NotAvi`, `NoFfv1`, `Truncated`, `ChunkTooLong`) or of its record, or `NoY4mName` where
+/// The first fault ends it. Nothing is written if it is one of the file up to its first frame
+/// (`NotAvi`, `NoFfv1`, `Truncated`, `ChunkTooLong`) or of its record, or `NoY4mName` if
 /// YUV4MPEG2 has no name for the chroma at its depth, or `NoPpm` for RCT with transparency. Then
-/// come those of the chunks of its frames (`EmptyFrame`, too), of a payload, `FormatChanged` where
-/// a later frame's structure or aspect are not those of the header, and `NoFrames` where there was
+/// come those of the chunks of its frames (`EmptyFrame`, too), of a payload, `FormatChanged` if
+/// a later frame's structure or aspect are not those of the header, and `NoFrames` if there was
 /// none; `Read`, `OutOfMemory` and `Write` as they come. At `Wide`, `Truncated` is also a file that
-/// ends inside a `RIFF`, or that has fewer frames than its `dmlh` says, and `NotAvi` one where
+/// ends inside a `RIFF`, or that has fewer frames than its `dmlh` says, and `NotAvi` one in which
 /// something that is no `RIFF` comes after the last one; and a file that begins with the byte 1A is
 /// Matroska, with the faults that `MatroskaReader::open` and `MatroskaReader::next_frame` name in
 /// place of those of AVI. What is written then is the text of the frames before, and of an image

@@ -1,4 +1,4 @@
-//! An encoder that decodes each frame again, where that is asked, and compares it with its picture.
+//! An encoder that decodes each frame again, if that is asked, and compares it with its picture.
 
 ghost use Rattle.std.specs.Prelude.{◌≡◌, ◌⊎◌, ◌↔◌, true, false, is_some, IfOk, IfErr, IsTrue, OnOk};
 ghost use Rattle.ffv1_record.specs.Accepted.{Accepted};
@@ -59,8 +59,8 @@ fn has_planes<A: Allocator>(kept: &mut KeepLines<A>, planes: &[Vec<u8, A>]) -> b
     are_same(kept.planes(), planes)
 }
 
-/// Whether a frame decodes to this picture, of which it says this: where it codes that, and nowhere
-/// else.
+/// Whether a frame decodes to this picture, of which it says this: if it codes that, and only
+/// then.
 fn decodes_back<A: Allocator>(
     back: &mut Back<A>,
     frame: &[u8],
@@ -87,7 +87,7 @@ fn decodes_back<A: Allocator>(
     has_planes(&mut back.kept, picture.planes())
 }
 
-/// Whether a frame decodes to its picture, where there is what decodes it.
+/// Whether a frame decodes to its picture, if there is what decodes it.
 fn comes_back<A: Allocator>(
     back: &mut Option<Back<A>>,
     frame: &[u8],
@@ -109,7 +109,7 @@ fn comes_back<A: Allocator>(
     }
 }
 
-/// An encoder of the pictures of a configuration that decodes each frame again, where that is
+/// An encoder of the pictures of a configuration that decodes each frame again, if that is
 /// asked, and compares it with its picture. The memory that decoding takes is taken once.
 ///
 /// It is seen as a `Verifying`: its configuration with its table, and whether it verifies.
@@ -141,7 +141,7 @@ impl<A: Allocator + Copy> VerifyingEncoder<A> {
         }
     }
 
-    /// One that does, by the same configuration once more. Refuses with `OutOfMemory` where the
+    /// One that does, by the same configuration once more. Refuses with `OutOfMemory` if the
     /// decoder, or the room for its lines, is refused its memory.
     pub(crate) fn verifying(
         alloc: A,
@@ -167,12 +167,12 @@ impl<A: Allocator + Copy> VerifyingEncoder<A> {
         self.encoder.config()
     }
 
-    /// The frame of a picture that fits the configuration. Where this verifies, the frame is
+    /// The frame of a picture that fits the configuration. If this verifies, the frame is
     /// decoded, and compared with the picture. They are the same each time, so that `NotSame` is
     /// answered by no encoder whose memory keeps what was written there.
     ///
-    /// Answers `SliceTooLong` only where a slice has more than 16777215 coded bytes, and there
-    /// never `Ok`; else `OutOfMemory`, where memory was refused.
+    /// Answers `SliceTooLong` only if a slice has more than 16777215 coded bytes, and there
+    /// never `Ok`; else `OutOfMemory`, if memory was refused.
     pub(crate) fn encode(&mut self, picture: &Picture<A>, info: Info) -> Result<Vec<u8, A>, Fault>
         requires { Fits self.old.accepted.configuration picture.now }
         ensures same { self.new ≡ self.old }

@@ -20,7 +20,7 @@ use ffv1_wire::{ByteIn, read_byte};
 use ffv1_y4m::{PpmReader, VideoHead, Y4mReader, laws as y4m_laws};
 use std::alloc::{Allocator, Global};
 
-/// A reader of a video: of binary PPM where the first byte is `P`, else of YUV4MPEG2. Above 8 bits
+/// A reader of a video: of binary PPM if the first byte is `P`, else of YUV4MPEG2. Above 8 bits
 /// a sample of its planes is two bytes, the low byte first.
 #[derive(Drop)]
 pub(crate) enum VideoReader<A: Allocator = Global> {

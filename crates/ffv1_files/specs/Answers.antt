@@ -24,8 +24,8 @@ SoFar reading result text rest =
 abbrev pub WantsMore : {X : Type 0} → Reading X → Want → List ℕ → List ℕ → Type 0
 WantsMore reading w text rest = SoFar reading (Err (Short w)) text rest
 
--- where a read failed: where more bytes were wanted; and where the end of the input may be an
--- answer, or a fault, where it would have been one
+-- when a read may have failed: if more bytes were wanted; and, if the end of the input may be an
+-- answer, or a fault, if it would have been one
 abbrev pub ReadFails : {X : Type 0} → Bool → Reading X → List ℕ → List ℕ → Type 0
 ReadFails false reading text rest = (w : Want) × WantsMore reading w text rest
 ReadFails {X = X} true reading text rest =
@@ -35,7 +35,7 @@ ReadFails {X = X} true reading text rest =
 
 -- why a file is not read on, by whether the end of the input may be an answer: a read failed, which
 -- was counted; memory was refused for bytes that are kept, of which more were wanted; or the bytes
--- have this fault, where they are known
+-- have this fault, if they are known
 abbrev pub StopsReading : {X : Type 0} → Bool → Reading X → Passage → FileFault → Type 0
 StopsReading ends reading p fault.Read =
     (p.after ≡ one_more p.before) × Known p.old p.new (ReadFails ends reading)
@@ -47,7 +47,7 @@ StopsReading ends reading p fault.Rate = ⊥
 StopsReading ends reading p f =
     (p.after ≡ p.before) × Known p.old p.new (λ text rest. FaultsRead reading text rest f)
 
--- nothing failed; where the bytes are known, they read as this value
+-- nothing failed; if the bytes are known, they read as this value
 abbrev pub ReadsAs : {X : Type 0} → Reading X → Passage → X → Type 0
 ReadsAs reading p x =
     (p.after ≡ p.before) × Known p.old p.new (λ text rest. reading text ≡ Ok (x, rest))

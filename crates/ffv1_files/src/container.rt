@@ -5,7 +5,7 @@
 pub enum Container {
     /// An AVI.
     Avi,
-    /// Matroska, with the size of its Segment in bytes; None where it is unknown.
+    /// Matroska, with the size of its Segment in bytes; None if it is unknown.
     Matroska(Option<u64>),
 }
 

@@ -54,7 +54,7 @@ impl<A: Allocator + Copy> FileReader<A> {
     /// Reads a file up to where its frames begin. What begins with the byte 1A is read as Matroska,
     /// and all else as AVI; up to its first `movi` a file is read as AVI alone.
     ///
-    /// The faults are those of `AviReader::open`, and where all of a file is read those of
+    /// The faults are those of `AviReader::open`, and if all of a file is read those of
     /// `AviReader::open_all` or of `MatroskaReader::open`. The record that it keeps has room for at
     /// most as many bytes as were read.
     pub fn open<R: ByteIn>(

@@ -26,7 +26,7 @@ fn opened(
 }
 
 /// Whether the frames of a file have the lengths and sums of the rest of a line, and then it has
-/// this fault, or ends where that is 0; the second time too.
+/// this fault, or ends if that is 0; the second time too.
 fn are_frames(
     alloc: Global,
     fields: &mut SplitWhitespace<'_>,

@@ -32,7 +32,7 @@ fn digit(code: u8) -> Result<u8> {
     Ok(value as u8)
 }
 
-/// The next field, as bytes: hexadecimal, and `-` where there are none.
+/// The next field, as bytes: hexadecimal, and `-` if there are none.
 pub(crate) fn bytes(alloc: Global, fields: &mut SplitWhitespace<'_>) -> Result<Vec<u8>> {
     let text = fields.next().context("a field is missing")?.as_bytes();
     let mut bytes = Vec::new(alloc);

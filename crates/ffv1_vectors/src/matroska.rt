@@ -34,7 +34,7 @@ pub(crate) fn number_of(fault: FileFault) -> u32 {
     }
 }
 
-/// Whether the size of a Segment is the next field: `-` where it is unknown.
+/// Whether the size of a Segment is the next field: `-` if it is unknown.
 fn is_size(fields: &mut SplitWhitespace<'_>, size: Option<u64>) -> Result<bool> {
     let field = fields.next().context("a size is missing")?;
     match size {
@@ -63,7 +63,7 @@ pub(crate) fn is_frame(field: &str, frame: &[u8]) -> Result<bool> {
 }
 
 /// Whether the frames of a file have the lengths and sums of the rest of a line, and then it has
-/// this fault, the second time too and with no frame, or ends where that is 0.
+/// this fault, the second time too and with no frame, or ends if that is 0.
 fn are_frames<R: ByteIn>(
     alloc: Global,
     fields: &mut SplitWhitespace<'_>,
@@ -116,7 +116,7 @@ fn change(file: &mut Vec<u8>, place: u32, bits: u32) {
     }
 }
 
-/// Whether one case agrees. The file is that of the line before where the line begins with `=`, and
+/// Whether one case agrees. The file is that of the line before if the line begins with `=`, and
 /// one of its bytes may then be changed.
 fn case(alloc: Global, line: &str, file: &mut Vec<u8>) -> Result<bool> {
     let mut fields = line.split_whitespace();

@@ -54,7 +54,7 @@ pub record PutsAll (a : Accepted) (r : VideoReading) (old new : Writer) (input o
   pub all : EncodesAll input a r frames
   pub put : PutAll old new frames output packed
 
--- the Clusters of these pictures were written, and of the text, where it is known, these pictures
+-- the Clusters of these pictures were written, and of the text, if it is known, these pictures
 -- were read, and then so much as this says
 pub record PutsSome (Next : List Planes → List ℕ → List ℕ → Type 0) (a : Accepted)
     (r : VideoReading) (w : Writer) (input output : Passage) : Type 0 where
@@ -92,7 +92,7 @@ EndsPutting a r w f pictures left rest =
     ⊎ EndsFar a r w pictures left rest f
 
 -- the Clusters of these pictures were written, and of the Cluster of the next one a beginning; of
--- the text, where it is known, these pictures and the next one were read, and nothing after it
+-- the text, if it is known, these pictures and the next one were read, and nothing after it
 pub record PutsBeginning (a : Accepted) (r : VideoReading) (w : Writer) (input output : Passage)
     : Type 0 where
   pub pictures : List Planes

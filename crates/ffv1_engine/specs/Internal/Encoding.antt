@@ -63,7 +63,7 @@ StopsBy Content p a r f =
 abbrev pub StopsNext : Passage → Accepted → VideoReading → Fault → Type 0
 StopsNext p a r f = StopsBy (cause_of f) p a r f
 
--- where the text is known, it begins with these pictures
+-- if the text is known, it begins with these pictures
 abbrev pub PicturesKnown : Option (List ℕ) → Option (List ℕ) → VideoReading → List Planes → Type 0
 PicturesKnown old new r pictures = Known old new (λ text rest.
     ReadsPictures r.ppm r.most r.head true text pictures rest)
@@ -82,7 +82,7 @@ pub record Encoded (p : Passage) (a : Accepted) (r s : VideoReading) (frames : L
   pub begun : s.ppm ≡ true → s.begun ≡ at_first pictures
   pub most : s.most ≡ r.most
 
--- where the text is known, it has these pictures and no more
+-- if the text is known, it has these pictures and no more
 abbrev pub AllKnown : Option (List ℕ) → Option (List ℕ) → VideoReading → List Planes → Type 0
 AllKnown old new r pictures = Known old new (λ text rest.
     (left : List ℕ) × ReadsPictures r.ppm r.most r.head true text pictures left
@@ -106,7 +106,7 @@ EndsAt a r pictures left rest f =
     × (picture_next r.ppm r.most r.head (at_first pictures) left ≡ Ok (Some q, rest))
     × HasLongSlice a q (said_for r.head) × (f ≡ fault.SliceTooLong))
 
--- where the text is known, so it ends
+-- if the text is known, so it ends
 abbrev pub EndsKnown : Option (List ℕ) → Option (List ℕ) → Accepted → VideoReading → List Planes →
     Fault → Type 0
 EndsKnown old new a r pictures f = Known old new (λ text rest.

@@ -17,7 +17,7 @@ abbrev pub LocatedAfter : Standing → Passage → Fault → ℕ → Type 0
 LocatedAfter r p f offset = (scope : Scope) (text : Option (List ℕ)) → Reached scope text p.old r →
     LocatedFault scope (record p { old = text }) f offset
 
--- where a reader's offset was that of what it had read, it is so again
+-- if a reader's offset was that of what it had read, it is so again
 abbrev pub StaysReached : Standing → Standing → Passage → Type 0
 StaysReached old new p = (scope : Scope) (text : Option (List ℕ)) → Reached scope text p.old old →
     Reached scope text p.new new

@@ -15,7 +15,7 @@ use Rattle.ffv1_engine.specs.Packing.{AllShort, IsFor}
 use Rattle.ffv1_engine.specs.Packing.{packed_frames, packed_head}
 use Rattle.ffv1_engine.specs.Pack.{FaultsPacked, HasHead}
 
--- where the text is known, it begins with the video, and no picture is after it
+-- if the text is known, it begins with the video, and no picture is after it
 abbrev pub EndsVideo : ℕ → Option (List ℕ) → Option (List ℕ) → Video → Type 0
 EndsVideo most old new v = Known old new (λ text rest.
     (left : List ℕ) × Begins most text v left

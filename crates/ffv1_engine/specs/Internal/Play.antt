@@ -6,7 +6,7 @@ use Rattle.ffv1_files.specs.Places.{Place}
 use Rattle.ffv1_files.specs.Files.{frame_read}
 use Rattle.ffv1_reads.specs.Known.{Known}
 
--- where the text is known, it reads so from this place of the file
+-- if the text is known, it reads so from this place of the file
 abbrev pub NextIs : Place → Option (List ℕ) → Option (List ℕ) →
     Option (List ℕ × Place) → Type 0
 NextIs from old new next = Known old new (λ text rest. frame_read from text ≡ Ok (next, rest))

@@ -28,7 +28,7 @@ module _ {X : Type 0} (Is : X → Type 0) (payload : X → List ℕ) where
     pub is : Is x
     pub reads : ReadsPayload from to (payload x) input
 
-  -- with a text of one, and by what is written where the file is refused: why there is none, or its
+  -- with a text of one, and by what is written if the file is refused: why there is none, or its
   -- text was not written, by the cause
   abbrev pub OneStopsBy : (X → List ℕ) → (Fault → Type 0) → Place → Place → Passage → Passage →
       Fault → Cause → Type 0
@@ -72,7 +72,7 @@ pub record PayloadFaults (a : Accepted) (from to : Place) (input : Passage) (f :
 
 -- by what text it has
 module _ (a : Accepted) (text : Frame → List ℕ) (from to : Place) (input output : Passage) where
-  -- what playing it answers, where a refusal writes nothing: its text was written, there is none,
+  -- what playing it answers, if a refusal writes nothing: its text was written, there is none,
   -- or why it was not
   abbrev pub NextAnswers : Result Bool Fault → Type 0
   NextAnswers (Ok true) =

@@ -73,7 +73,7 @@ module _ (r : VideoReading) (input output : Passage) where
     pub written : output.after ≡ output.before
     pub writes : Appends output.old output.new (lines_of r pictures)
 
-  -- the text of these pictures was written, and of the text, where it is known, these pictures were
+  -- the text of these pictures was written, and of the text, if it is known, these pictures were
   -- read, and then so much as this says
   pub record WritesSome (Next : List Planes → List ℕ → List ℕ → Type 0) : Type 0 where
     pub pictures : List Planes

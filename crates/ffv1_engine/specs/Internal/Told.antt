@@ -39,7 +39,7 @@ use Rattle.ffv1_engine.specs.Internal.Located.{LocatedAfter}
 use Rattle.ffv1_engine.specs.Trial.{Silent}
 use Rattle.ffv1_engine.specs.Told.{PayloadStops, is_telling_fault}
 
--- where the text is known, it has this fault
+-- if the text is known, it has this fault
 abbrev pub FaultsKnown : {X : Type 0} → avi.Reading X → Option (List ℕ) → Option (List ℕ) → Fault →
     Type 0
 FaultsKnown reading old new f = Known old new (λ text rest. FaultsRead reading text rest f)
@@ -122,7 +122,7 @@ WritesFrame line p (Err f) =
     ((f ≡ fault.Write) × (p.after ≡ one_more p.before) × AppendsBeginning p.old p.new line)
     ⊎ ((f ≡ fault.OutOfMemory) × (p.after ≡ p.before) × Keeps p.old p.new)
 
--- where a payload is refused, the file may be read on, as this says
+-- if a payload is refused, the file may be read on, as this says
 abbrev pub OnPayload : Type 0 → Stop → Type 0
 OnPayload P (stop.File f) = ⊤
 OnPayload P (stop.Payload f) = P
@@ -132,7 +132,7 @@ abbrev pub IsToldFault : Container → Fault → Type 0
 IsToldFault container f =
     (is_telling_fault f ≡ true) ⊎ (is_container_fault container f ≡ true)
 
--- where reading a frame ends, it is by one of those
+-- if reading a frame ends, it is by one of those
 abbrev pub IsOwnStop : Container → Stop → Type 0
 IsOwnStop container (stop.File f) = IsToldFault container (of_avi f)
 IsOwnStop container (stop.Payload f) = ⊤

@@ -1,4 +1,4 @@
--- An encoder that decodes each frame again, where that is asked.
+-- An encoder that decodes each frame again, if that is asked.
 use Rattle.std.specs.Prelude.{◌≡◌, Bool, Option, Some, None, ⊤}
 use Rattle.ffv1_record.specs.Accepted.{Accepted}
 use Rattle.ffv1_engine.specs.declared.verifying.Back.{Back}
@@ -9,7 +9,7 @@ pub record Verifying : Type 0 where
   pub accepted : Accepted
   pub verifies : Bool
 
--- where there is a decoder, it is one of this configuration, and its lines are kept for that
+-- if there is a decoder, it is one of this configuration, and its lines are kept for that
 abbrev pub IsBackFor : {A : Type 0} → Accepted → Option (Back A) → Type 0
 IsBackFor a None = ⊤
 IsBackFor a (Some back) = (back.decoder.accepted ≡ a) × IsKeptFor a back.kept

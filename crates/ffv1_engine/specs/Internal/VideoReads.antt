@@ -44,7 +44,7 @@ reading_of (reader.Ppm r) = record {
 abbrev pub IsHeadOf : VideoReading → Type 0
 IsHeadOf r = IsHeadBy r.ppm r.head.head
 
--- where the text is known, it begins with this head; depths up to `most` are read
+-- if the text is known, it begins with this head; depths up to `most` are read
 abbrev pub HeadKnown : ℕ → Option (List ℕ) → Option (List ℕ) → Bool → SaidHead → Type 0
 HeadKnown most old new ppm h = Known old new (λ text rest.
     (ppm ≡ is_ppm text) × (video_head most text ≡ Ok (h, rest)))
@@ -58,7 +58,7 @@ pub record HeadRead (most : ℕ) (p : Passage) (r : VideoReading) : Type 0 where
   pub deep : r.head.depth ≤ most
   pub later : r.ppm ≡ true → r.most ≡ most
 
--- why no head was read: a read failed, which was counted, where the head wants one more byte; or
+-- why no head was read: a read failed, which was counted, if the head wants one more byte; or
 -- the text has a fault
 abbrev pub HeadRefusedBy : ℕ → Cause → Passage → Fault → Type 0
 HeadRefusedBy most Reading p f = (p.after ≡ one_more p.before) × Took (Wants (video_head most)) p
@@ -69,7 +69,7 @@ HeadRefusedBy most Content p f = (p.after ≡ p.before) × LacksKnown most p.old
 abbrev pub HeadRefused : ℕ → Passage → Fault → Type 0
 HeadRefused most p f = HeadRefusedBy most (cause_of f) p f
 
--- where the text is known, so it goes on
+-- if the text is known, so it goes on
 abbrev pub NextKnown : Option (List ℕ) → Option (List ℕ) → VideoReading → Option Planes → Type 0
 NextKnown old new r picture = Known old new (λ text rest.
     picture_next r.ppm r.most r.head r.begun text ≡ Ok (picture, rest))
@@ -85,14 +85,14 @@ pub record NextRead (p : Passage) (r : VideoReading) (picture : Option Planes) (
   pub begun : s.ppm ≡ true → s.begun ≡ false
   pub most : s.most ≡ r.most
 
--- where the text is known, so it goes on, by this fault
+-- if the text is known, so it goes on, by this fault
 abbrev pub StopsKnown : Option (List ℕ) → Option (List ℕ) → VideoReading → Fault → Type 0
 StopsKnown old new r f = Known old new (λ text rest.
     (g : Y4mFault) × (picture_next r.ppm r.most r.head r.begun text ≡ Err (g, rest))
     × (f ≡ of_y4m g))
 
--- why no picture was read: a read failed, which was counted, where the picture wants one more byte;
--- memory was refused, where it grows; or the text has a fault
+-- why no picture was read: a read failed, which was counted, if the picture wants one more byte;
+-- memory was refused, if it grows; or the text has a fault
 abbrev pub NextRefusedBy : Cause → Passage → VideoReading → Fault → Type 0
 NextRefusedBy Reading p r f =
     (p.after ≡ one_more p.before) × Took (Wants (picture_next r.ppm r.most r.head r.begun)) p
