@@ -7,9 +7,10 @@ import shutil
 import subprocess
 import tempfile
 
-# What the examples work on, made by FFmpeg: 3 frames of 32 by 32.
+# What the examples work on, made by FFmpeg: 3 frames of 48 by 32, of 10 bits, with sound.
 MAKING = """\
-ffmpeg -v error -f lavfi -i testsrc=size=32x32:rate=25 -frames:v 3 -c:v qtrle tape.mov
+ffmpeg -v error -f lavfi -i testsrc=size=48x32:rate=25 -f lavfi -i sine=duration=0.12 -frames:v 3 \\
+    -pix_fmt yuv422p10le -c:v v210 -c:a pcm_s24le -timecode 10:00:00:00 tape.mov
 """
 
 
@@ -35,7 +36,7 @@ README = [
     PACKED + CHECKED + r"frames 3\n",
     BROKEN,
 ]
-MANUAL = [PACKED + CHECKED, r"frames 3\n", BROKEN, ""]
+MANUAL = [PACKED + CHECKED, r"yuv422p10le\n", "", r"frames 3\n", CHECKED, BROKEN]
 
 
 def run(folder, script):
