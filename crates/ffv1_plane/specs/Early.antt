@@ -5,7 +5,7 @@ use Rattle.std.proofs.Common.{zero, suc}
 use Rattle.ffv1_plane.specs.Quantisation.{Set, entry, scale_behind, contexts_of}
 use Rattle.ffv1_plane.specs.Context.{low}
 
--- the sample above to the left of place x, where two and one are the rows two and one above: to the
+-- the sample above to the left of place x, if two and one are the rows two and one above: to the
 -- left of a row stands the sample above its first (RFC 9043, 3.1)
 abbrev pub left_above : List ℕ → List ℕ → ℕ → ℕ
 left_above two one zero = slice_index two 0

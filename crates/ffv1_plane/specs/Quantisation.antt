@@ -29,7 +29,7 @@ entry_of runs scale k =
     else if k == 128 then pos 0 -ℤ pos (scale * runs_below runs 127)
     else pos 0 -ℤ pos (scale * runs_below runs (256 - k))
 
--- RFC 9043, 4.1: the scale after some tables, where it was `scale` before them
+-- RFC 9043, 4.1: the scale after some tables, if it was `scale` before them
 abbrev pub scale_behind : ℕ → Set → ℕ
 scale_behind scale [] = scale
 scale_behind scale (runs ∷ more) = scale_behind (scale * (2 * length runs - 1)) more

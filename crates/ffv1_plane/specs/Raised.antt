@@ -26,7 +26,7 @@ half_of t = t.scale * (length t.runs - 1)
 unfoldable pub raised_entry : RaisedTable → ℕ → ℕ
 raised_entry t k = unsigned_abs (entry_of t.runs t.scale k +ℤ pos (half_of t))
 
--- the last place of level k of a table's lower half, or 255 where that is its last level or none
+-- the last place of level k of a table's lower half, or 255 if that is its last level or none
 abbrev pub last_place : List ℕ → ℕ → ℕ
 last_place runs k = if nat_lt (k + 1) (length runs) then sum (take (k + 1) runs) - 1 else 255
 

@@ -28,7 +28,7 @@ fn fold_deep(difference: i32, bits: u8) -> i32
 }
 
 /// The residual that an encoder takes for a sample of `bits` bits, as `residual_of` has it for 8
-/// and 9: the difference to the prediction, its sign flipped where `flip` holds (RFC 9043, 3.5),
+/// and 9: the difference to the prediction, its sign flipped if `flip` holds (RFC 9043, 3.5),
 /// then folded (3.8), for every `pred` and `sample`. `bits` lies from 1 to 16.
 #[inline(always)]
 pub fn deep_residual(pred: i32, flip: bool, sample: u16, bits: u8) -> i32
@@ -45,7 +45,7 @@ pub fn deep_residual(pred: i32, flip: bool, sample: u16, bits: u8) -> i32
 }
 
 /// The sample of `bits` bits that a residual makes with its prediction, as `sample_from` has it for
-/// 8 and 9, where `flip` tells whether the residual's sign was flipped (RFC 9043, 3.5 and 3.8), for
+/// 8 and 9, if `flip` tells whether the residual's sign was flipped (RFC 9043, 3.5 and 3.8), for
 /// every `pred` and `residual`. `bits` lies from 0 to 16. The result is below `2^bits`.
 #[inline(always)]
 pub fn deep_sample(pred: i32, flip: bool, residual: i32, bits: u8) -> u16

@@ -89,7 +89,7 @@ fn fill_bounds(tl: &[u16], t: &[u16], count: usize, least: &mut [u16], most: &mu
     }
 }
 
-/// A law of each row: its samples have 16 bits, also where the row is a field.
+/// A law of each row: its samples have 16 bits, also if the row is a field.
 #[inline(always)]
 fn are_words(row: &[u16])
     ensures { (x : ℕ) → slice_index row.now x < 2 ^ 16 }
@@ -167,7 +167,7 @@ fn sum_lanes<A: Allocator>(rows: &BlockRows<'_, A>, lanes: &SetLanes, at: usize,
 }
 
 /// The early sums of the first `count` places of a block: those inside the row 16 at once, in a set
-/// whose tables have few levels, and the last of these again where fewer than 16 are left.
+/// whose tables have few levels, and the last of these again if fewer than 16 are left.
 #[inline(always)]
 fn fill_sums<A: Allocator>(rows: &BlockRows<'_, A>, count: usize, tl: &[u16], sum: &mut [u16])
     requires three_tables { IsTrue rows.now.three_tables → HasThreeTables rows.now.set.now }

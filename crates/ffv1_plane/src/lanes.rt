@@ -85,7 +85,7 @@ fn raise_lanes(differences: u16x16, bits: u8) -> u16x16
 }
 
 /// The numbers of the contexts of 16 places (RFC 9043, 3.5), and modulo 65536 the differences of
-/// their samples to the predictions, their signs flipped where the contexts say so.
+/// their samples to the predictions, their signs flipped if the contexts say so.
 #[inline(always)]
 fn differ_lanes<A: Allocator>(
     set: &QuantSet<A>,

@@ -29,7 +29,7 @@ pub fn contexts_stay_below_their_count()
     ensures { (set : Set) → IsSet set → (a : Around) → size_of set a < contexts_of set }
 {}
 
-/// In a set whose fourth and fifth tables have one level, the context of a sample is 0 where the
+/// In a set whose fourth and fifth tables have one level, the context of a sample is 0 if the
 /// samples to the left, above, and above to the left and right are one.
 pub fn flat_place_has_first_context()
     ensures { (set : Set) → IsSet set → HasThreeTables set → (a : Around) → a.t ≡ a.l → a.tl ≡ a.l →

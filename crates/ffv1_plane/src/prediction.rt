@@ -45,7 +45,7 @@ pub fn predict_late(l: u16, t: u16, least: u16, most: u16) -> i32
 }
 
 /// The prediction of a sample among samples of 16 bits, which are read as signed numbers: the
-/// median of `l`, `t` and `l + t - tl` where a sample from 32768 on stands for itself less 65536
+/// median of `l`, `t` and `l + t - tl` if a sample from 32768 on stands for itself less 65536
 /// (RFC 9043, 3.3), from -32768 to 32767.
 #[inline(always)]
 pub fn predict_signed(around: &Around) -> i32

@@ -176,9 +176,9 @@ impl<A: Allocator + Copy> QuantSet<A> {
     /// The set of five tables by their runs (RFC 9043, 4.1): run `v` of a table, from 0, gives
     /// `scale * v` to its next entries until 128 are filled.
     ///
-    /// Refuses with `Fault::Runs` where a table has no run, a run of 0, or runs that do not fill
-    /// 128 entries exactly; else with `Fault::Contexts` where the set has more than 32768 contexts;
-    /// else with `Fault::OutOfMemory` where a growth is refused.
+    /// Refuses with `Fault::Runs` if a table has no run, a run of 0, or runs that do not fill
+    /// 128 entries exactly; else with `Fault::Contexts` if the set has more than 32768 contexts;
+    /// else with `Fault::OutOfMemory` if a growth is refused.
     pub fn from_runs(alloc: A, runs: &[&[u8]; 5]) -> Result<QuantSet<A>, Fault>
         ensures runs { IsErrOf result Fault.Runs ↔ IsFalse
             (are_filled (map (λ r. r.now) runs.now)) }
@@ -203,7 +203,7 @@ impl<A: Allocator + Copy> QuantSet<A> {
 
     /// The set of the runs 1 1 3 7 11 105 three times and 128 twice, of 666 contexts: the samples
     /// two to the left and two above count for nothing. Refuses with `Fault::OutOfMemory` alone,
-    /// where a growth is refused.
+    /// if a growth is refused.
     pub fn small(alloc: A) -> Result<QuantSet<A>, Fault>
         ensures ok { IfOk result (λ s. s ≡ small_set) }
         ensures contexts { IfOk result (λ s. contexts_of s ≡ 666) }
@@ -215,7 +215,7 @@ impl<A: Allocator + Copy> QuantSet<A> {
     }
 
     /// The set of the runs 1 1 3 7 11 105 three times and 3 11 114 twice, of 16638 contexts.
-    /// Refuses with `Fault::OutOfMemory` alone, where a growth is refused.
+    /// Refuses with `Fault::OutOfMemory` alone, if a growth is refused.
     pub fn large(alloc: A) -> Result<QuantSet<A>, Fault>
         ensures ok { IfOk result (λ s. s ≡ large_set) }
         ensures contexts { IfOk result (λ s. contexts_of s ≡ 16638) }
@@ -458,7 +458,7 @@ pub fn late_context<A: Allocator>(
     unraised(sum + set.fourth.raised(ll, l), RAISE)
 }
 
-/// Two sets are equal where their tables have the same runs, and so the same entries.
+/// Two sets are equal if their tables have the same runs, and so the same entries.
 impl<A: Allocator> PartialEq for QuantSet<A> {
     ghost use Rattle.std.specs.Prelude.{◌≡◌, ◌↔◌, IsTrue, nat_eq};
     ghost use lib.Pointwise.{pointwise};

@@ -45,7 +45,7 @@ pub fn unfold(pred: i32, residual: i32, bits: u8) -> u16
 }
 
 /// The residual that an encoder takes for a sample: the difference to its prediction, its sign
-/// flipped where `flip` holds (RFC 9043, 3.5), then folded (3.8), for every `pred` and `sample`.
+/// flipped if `flip` holds (RFC 9043, 3.5), then folded (3.8), for every `pred` and `sample`.
 /// `bits` is 8 or 9.
 #[inline(always)]
 pub fn residual_of(pred: i32, flip: bool, sample: u16, bits: u8) -> i32
@@ -60,7 +60,7 @@ pub fn residual_of(pred: i32, flip: bool, sample: u16, bits: u8) -> i32
     fold(sample.wrapping_sub(pred), bits)
 }
 
-/// The sample that a residual makes with its prediction, where `flip` tells whether the residual's
+/// The sample that a residual makes with its prediction, if `flip` tells whether the residual's
 /// sign was flipped (RFC 9043, 3.5 and 3.8), for every `pred` and `residual`. `bits` is 8 or 9. The
 /// result is below `2^bits`.
 #[inline(always)]

@@ -103,7 +103,7 @@ fn fold_of(difference: u32, bits: u8) -> i32
 }
 
 /// The residual that an encoder takes for a sample of `bits` bits beside these neighbours: the
-/// difference to the prediction (RFC 9043, 3.3), its sign flipped where `flip` holds (3.5), then
+/// difference to the prediction (RFC 9043, 3.3), its sign flipped if `flip` holds (3.5), then
 /// folded (3.8), for all neighbours and every `sample`. `bits` lies from 1 to 17; at 16 the
 /// prediction is that of `predict_signed`.
 #[inline(always)]
@@ -120,7 +120,7 @@ pub fn wide_residual(around: &WideAround, flip: bool, sample: u32, bits: u8) -> 
     fold_of(sample.wrapping_sub(prediction), bits)
 }
 
-/// The sample of `bits` bits that a residual makes beside these neighbours, where `flip`
+/// The sample of `bits` bits that a residual makes beside these neighbours, if `flip`
 /// tells whether the residual's sign was flipped (RFC 9043, 3.3, 3.5 and 3.8), for all neighbours
 /// and every `residual`. `bits` lies from 0 to 17; at 16 the prediction is that of
 /// `predict_signed`. The result is below `2^bits`.

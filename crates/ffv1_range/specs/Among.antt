@@ -3,7 +3,7 @@ use Rattle.std.specs.Prelude.{ℕ, ◌+◌, ◌-◌, ◌*◌, ◌≤◌}
 use Rattle.ffv1_range.specs.declared.tally.Sums.{Sums}
 use Rattle.ffv1_range.specs.declared.tally.Nonzeros.{Nonzeros}
 
--- what n symbols add to the counts of a coder, where these of them are not zero: a number of
+-- what n symbols add to the counts of a coder, if these of them are not zero: a number of
 -- exponent e has e decisions 1 of its exponent, e + 1 bits after it, and two decisions 0
 abbrev pub sums_among : ℕ → Nonzeros → Sums
 sums_among n s = record {

@@ -1,5 +1,5 @@
 -- Where bytes end. RFC 9043, 3.8.1.1.1: a last decision by state 129 is read beside what was coded,
--- and where the bytes' length is known it is 0.
+-- and if the bytes' length is known it is 0.
 use Rattle.std.specs.Prelude.{◌≡◌, ℕ, ◌+◌, false, List, length}
 use Rattle.ffv1_range.specs.Interval.{Interval, narrow}
 use Rattle.ffv1_range.specs.Codes.{Inside}

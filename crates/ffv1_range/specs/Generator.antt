@@ -34,7 +34,7 @@ abbrev pub next_alone : ℕ → ℕ
 next_alone state =
     min 248 (max (suc state) (state_near (raised_probability ((4294967296 * state + 128) / 256))))
 
--- so many states from one on, where the chain passed them over
+-- so many states from one on, if the chain passed them over
 unfoldable pub filled : ℕ → ℕ → List ℕ → List ℕ
 filled zero state one = one
 filled (suc left) state one =

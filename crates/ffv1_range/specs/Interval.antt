@@ -32,7 +32,7 @@ part i state true =
       count = i.count;
     }
 
--- one byte more where the width is below 256
+-- one byte more if the width is below 256
 abbrev pub renormalised : Interval → Interval
 renormalised i =
     if nat_lt i.width 256

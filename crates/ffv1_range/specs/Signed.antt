@@ -7,7 +7,7 @@ abbrev pub signed_by : ℕ → Bool → ℤ
 signed_by size false = pos size
 signed_by size true = pos 0 -ℤ pos size
 
--- the number itself, where none stands for 0
+-- the number itself, if none stands for 0
 abbrev pub number_of : Option SignedNumber → ℤ
 number_of None = pos 0
 number_of (Some s) = signed_by s.size s.negative

@@ -2,7 +2,7 @@
 use Rattle.std.specs.Prelude.{ℕ, List, [], ◌∷◌}
 use Rattle.ffv1_range.specs.Table.{Table}
 
--- where each of the 256 states goes after a decision 1; 0 where a state is none of the table's
+-- where each of the 256 states goes after a decision 1; 0 if a state is none of the table's
 abbrev pub default_state_transition : List ℕ
 default_state_transition =
     -- 0 to 15

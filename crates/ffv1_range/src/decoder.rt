@@ -58,7 +58,7 @@ impl<'a> Model for RangeDecoder<'a> {
 }
 
 impl<'a> RangeDecoder<'a> {
-    /// Begins at the bytes. Answers `BadStart` exactly where their first two, big end first and
+    /// Begins at the bytes. Answers `BadStart` exactly if their first two, big end first and
     /// with zeros after the end, are 65280 or more: such bytes code no decisions, not even none.
     pub fn new(bytes: &'a [u8]) -> Result<RangeDecoder<'a>, Fault>
         ensures refused { IsErr result ↔ (65280 ≤ value bytes.now 2) }
@@ -264,7 +264,7 @@ impl<'a> RangeDecoder<'a> {
         true
     }
 
-    /// Goes on with a part of the interval; takes a byte where it is narrower than 256.
+    /// Goes on with a part of the interval; takes a byte if it is narrower than 256.
     #[inline(always)]
     fn go_on(&mut self, width: u32, gap: u32)
         requires most { width ≤ 65280 }

@@ -83,7 +83,7 @@ impl<A: Allocator> RangeEncoder<A> {
     }
 
     /// One decision more, by a state that the table holds. The state moves by the decision, also
-    /// where the answer is `OutOfMemory`: then a growth was refused, now or before, the encoder has
+    /// if the answer is `OutOfMemory`: then a growth was refused, now or before, the encoder has
     /// failed for good, and its counts stay.
     #[inline(always)]
     pub fn put(&mut self, table: &StateTable, state: &mut u8, bit: bool) -> Result<(), Fault>
@@ -168,7 +168,7 @@ impl<A: Allocator> RangeEncoder<A> {
     /// The bytes, by the sentinel ending: after one more decision 0 by the state 129, the least
     /// multiple of 256 that is at least the interval's low end, without its last byte. They are as
     /// many as one and all renormalisations, that of the last decision included. Answers
-    /// `OutOfMemory` where a growth was refused, now or before; then no byte is handed out.
+    /// `OutOfMemory` if a growth was refused, now or before; then no byte is handed out.
     pub fn finish_sentinel(mut self) -> Result<Vec<u8, A>, Fault>
         ensures ok { IfOk result (λ bytes. bytes.items ≡ sentinel_of self.interval) }
         ensures long { IfOk result (λ bytes.
@@ -193,7 +193,7 @@ impl<A: Allocator> RangeEncoder<A> {
     }
 
     /// The bytes, by the full ending: all bytes of the interval's low end, two more than the
-    /// renormalisations. They code the decisions whatever follows them. Answers `OutOfMemory` where
+    /// renormalisations. They code the decisions whatever follows them. Answers `OutOfMemory` if
     /// a growth was refused, now or before; then no byte is handed out.
     pub fn finish_full(self) -> Result<Vec<u8, A>, Fault>
         ensures ok { IfOk result (λ bytes. bytes.items ≡ full_of self.interval) }
@@ -230,7 +230,7 @@ impl<A: Allocator> RangeEncoder<A> {
         }
     }
 
-    /// Narrows the interval by a decision, uncounted, and gives out a byte where it is narrower
+    /// Narrows the interval by a decision, uncounted, and gives out a byte if it is narrower
     /// than 256.
     #[inline(always)]
     pub(crate) fn step(&mut self, state: u8, bit: bool) -> Result<(), Fault>

@@ -293,7 +293,7 @@ pub fn bytes_code_one_bit_next()
         Codes bytes (past ++ (record { state = state; bit = c } ∷ ys)) → b ≡ c }
 {}
 
-/// Bytes code at most one number next, and none where they code a symbol that is refused.
+/// Bytes code at most one number next, and none if they code a symbol that is refused.
 pub fn bytes_code_one_number_next()
     ensures one { (bytes : List ℕ) (t : Table) (states : List ℕ) (past : List Decision) (v w : ℤ) →
         AreBytes bytes → unsigned_abs v < 2 ^ 31 → unsigned_abs w < 2 ^ 31 →
@@ -319,7 +319,7 @@ pub fn bytes_code_one_number_next()
         Codes bytes (past ++ decided t states too_long) → ⊥ }
 {}
 
-/// The same where the states are those of a history, at slots from base on.
+/// The same if the states are those of a history, at slots from base on.
 pub fn bytes_code_one_number_after_history()
     ensures one { (bytes : List ℕ) (t : Table) (base : ℕ) (before : List Decision)
         (past : List Step) (v w : ℤ) → AreBytes bytes → IsTable t.floor t.one →

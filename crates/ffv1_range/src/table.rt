@@ -71,7 +71,7 @@ impl StateTable {
     }
 
     /// The standard's table changed by deltas, that of state 1 first (RFC 9043, 4.2.4). Answers
-    /// `StateTable` exactly where a delta is -2147483648, or no floor from 1 to 128 is such that
+    /// `StateTable` exactly if a delta is -2147483648, or no floor from 1 to 128 is such that
     /// each state from it to 256 less it goes to one of them after a decision 1. The table's floor
     /// is the least such.
     pub fn with_deltas(deltas: &[i32; 255]) -> Result<StateTable, Fault>
@@ -218,7 +218,7 @@ fn changed(deltas: &[i32; 255]) -> Result<[u8; 256], Fault>
     Ok(one)
 }
 
-/// The sum of an entry and a delta, where it is a byte; 0 for any other.
+/// The sum of an entry and a delta, if it is a byte; 0 for any other.
 fn byte(entry: u8, delta: i32) -> u8
     ensures { result ≡ byte_of (pos entry +ℤ delta) }
 {

@@ -17,8 +17,8 @@ struct YcbcrLine<'a> {
     cr: &'a [u16],
 }
 
-/// The colour of a sample, or `None` where it has none. Sums and differences are taken modulo
-/// 65536, as lanes take them: where red, green and blue come out from 0 to 255, then Cb and Cr are
+/// The colour of a sample, or `None` if it has none. Sums and differences are taken modulo
+/// 65536, as lanes take them: if red, green and blue come out from 0 to 255, then Cb and Cr are
 /// below 512, and nothing was cut.
 #[inline(always)]
 fn colour_of(y: u16, cb: u16, cr: u16) -> Option<(u8, u8, u8)>
@@ -34,8 +34,8 @@ fn colour_of(y: u16, cb: u16, cr: u16) -> Option<(u8, u8, u8)>
     Some((red as u8, green as u8, blue as u8))
 }
 
-/// The colours of 16 places from `at` on, or `false` and nothing done where not each of them has
-/// one. The numbers are those of `colour_of`: all of them lie from 0 to 255 where no bit above the
+/// The colours of 16 places from `at` on, or `false` and nothing done if not each of them has
+/// one. The numbers are those of `colour_of`: all of them lie from 0 to 255 if no bit above the
 /// lowest eight is set in any.
 #[inline(always)]
 fn inverse_block(at: usize, line: &YcbcrLine<'_>, r: &mut [u8], g: &mut [u8], b: &mut [u8]) -> bool
@@ -119,7 +119,7 @@ fn inverse_rest(
 /// each place the only red, green and blue whose transform the place is. The six lines have one
 /// length, any.
 ///
-/// Refuses exactly where a sample has no red, green and blue from 0 to 255, with the first such
+/// Refuses exactly if a sample has no red, green and blue from 0 to 255, with the first such
 /// place `x`: the places before `x` are filled then, `x` and all after it are as before.
 pub fn inverse_line(
     y: &[u16],

@@ -7,7 +7,7 @@ ghost use Rattle.ffv1_rct.specs.Lines.{IsKeptFrom};
 use crate::fault::NoColour;
 use std::simd::prelude::*;
 
-/// 32 places from `at` on, or `false` and nothing done where one of them lies above 255.
+/// 32 places from `at` on, or `false` and nothing done if one of them lies above 255.
 #[inline(always)]
 fn narrow_block(at: usize, a: &[u16], out: &mut [u8]) -> bool
     requires at { at + 32 ≤ length a.now }
@@ -54,7 +54,7 @@ fn narrow_rest(at: usize, a: &[u16], out: &mut [u8]) -> Result<(), NoColour>
 /// The samples of a coded transparency line, any, as bytes, unchanged. The two lines have one
 /// length, any.
 ///
-/// Refuses exactly where a sample lies above 255, with the first such place `x`: the places before
+/// Refuses exactly if a sample lies above 255, with the first such place `x`: the places before
 /// `x` are filled then, `x` and all after it are as before.
 pub fn narrow_line(a: &[u16], out: &mut [u8]) -> Result<(), NoColour>
     requires { length out.old ≡ length a.now }

@@ -1,4 +1,4 @@
-//! What the type of a line says of its samples, also where the line is a field.
+//! What the type of a line says of its samples, also if the line is a field.
 
 ghost use Rattle.std.specs.Prelude.{ℕ, ◌^◌, ◌<◌, slice_index};
 

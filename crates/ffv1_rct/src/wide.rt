@@ -52,8 +52,8 @@ pub fn forward_wide(first: &mut [u32], second: &mut [u32], third: &mut [u32])
     }
 }
 
-/// The colour of a sample, with colours below `2 * half`, a power of 2, or `None` where it has
-/// none. Differences are taken modulo 2^32: where red, green and blue come out below `2 * half`,
+/// The colour of a sample, with colours below `2 * half`, a power of 2, or `None` if it has
+/// none. Differences are taken modulo 2^32: if red, green and blue come out below `2 * half`,
 /// nothing was cut.
 #[inline(always)]
 fn colour_wide(y: u32, cb: u32, cr: u32, half: u32) -> Option<(u16, u16, u16)>
@@ -80,7 +80,7 @@ fn colour_wide(y: u32, cb: u32, cr: u32, half: u32) -> Option<(u16, u16, u16)>
 /// The inverse of the transform of a line of samples of 16 bits (RFC 9043, 3.7.2), as
 /// `inverse_words` has it for fewer, for any values of Y, Cb and Cr.
 ///
-/// Refuses exactly where a sample has no red, green and blue below 2^16, with the first such place
+/// Refuses exactly if a sample has no red, green and blue below 2^16, with the first such place
 /// `x`: the places before `x` are filled then, `x` and all after it are as before.
 pub fn inverse_wide(
     coded: &CodedWide<'_>,
@@ -124,7 +124,7 @@ pub fn inverse_wide(
 /// The samples of a coded line, any, unchanged: each as two bytes, the low byte first. `out` has
 /// twice the length of `a`, any.
 ///
-/// Refuses exactly where a sample lies at 2^16 or above, with the first such place `x`: the places
+/// Refuses exactly if a sample lies at 2^16 or above, with the first such place `x`: the places
 /// before `x` are filled then, `x` and all after it are as before.
 pub fn narrow_wide(a: &[u32], out: &mut [u8]) -> Result<(), NoColour>
     requires out { length out.old ≡ 2 * length a.now }

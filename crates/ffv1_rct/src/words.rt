@@ -48,7 +48,7 @@ fn coded_word(r: u16, g: u16, b: u16, top: u32) -> (u16, u16, u16)
 /// most 15, each sample is below `2^depth`, and the three lines have one length, any.
 ///
 /// At 9 to 15 bits without transparency green and blue change places: then the second line is given
-/// blue and the third green, and Y, Cb and Cr come out where they do here.
+/// blue and the third green, and Y, Cb and Cr come out if they do here.
 pub fn forward_words(first: &mut [u16], second: &mut [u16], third: &mut [u16], depth: u8)
     requires depth { depth ≤ 15 }
     requires second { length second.old ≡ length first.old }
@@ -68,8 +68,8 @@ pub fn forward_words(first: &mut [u16], second: &mut [u16], third: &mut [u16], d
     }
 }
 
-/// The colour of a sample, with colours below `2 * half`, a power of 2, or `None` where it has
-/// none. Differences are taken modulo 2^32: where red, green and blue come out below `2 * half`,
+/// The colour of a sample, with colours below `2 * half`, a power of 2, or `None` if it has
+/// none. Differences are taken modulo 2^32: if red, green and blue come out below `2 * half`,
 /// nothing was cut.
 #[inline(always)]
 fn colour_word(y: u16, cb: u16, cr: u16, half: u32) -> Option<(u16, u16, u16)>
@@ -108,7 +108,7 @@ pub(crate) fn put_word(line: &mut [u8], x: usize, word: u16)
 /// each as two bytes, the low byte first. `depth` lies from 9 to 15; Y, Cb and Cr have one length,
 /// any, and each line of bytes has twice that.
 ///
-/// Refuses exactly where a sample has no red, green and blue below `2^depth`, with the first such
+/// Refuses exactly if a sample has no red, green and blue below `2^depth`, with the first such
 /// place `x`: the places before `x` are filled then, `x` and all after it are as before.
 ///
 /// At 9 to 15 bits without transparency green and blue change places: then `g` takes blue, and `b`
@@ -158,7 +158,7 @@ pub fn inverse_words(
 /// The samples of a coded line, any, unchanged: each as two bytes, the low byte first. `depth` lies
 /// from 9 to 16, and `out` has twice the length of `a`, any.
 ///
-/// Refuses exactly where a sample lies at `2^depth` or above, with the first such place `x`: the
+/// Refuses exactly if a sample lies at `2^depth` or above, with the first such place `x`: the
 /// places before `x` are filled then, `x` and all after it are as before.
 pub fn narrow_words(a: &[u16], out: &mut [u8], depth: u8) -> Result<(), NoColour>
     requires deep { 8 < depth }

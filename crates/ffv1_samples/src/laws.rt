@@ -6,7 +6,7 @@ ghost use Rattle.ffv1_samples.specs.Samples.{AreBelow, are_in_depth, bytes_of, s
 ghost use Rattle.ffv1_samples.specs.Samples.{samples_of};
 
 /// The samples of the bytes of samples are these samples, and the bytes of the samples of bytes are
-/// these bytes where no half sample stands last.
+/// these bytes if no half sample stands last.
 pub fn samples_and_bytes_are_inverses()
     ensures samples { (depth : ℕ) (samples : List ℕ) →
         samples_of depth (bytes_of depth samples) ≡ samples }
@@ -54,7 +54,7 @@ pub fn sample_is_two_bytes_low_first()
         ≡ slice_index bytes (2 * place) + 256 * slice_index bytes (2 * place + 1) }
 {}
 
-/// All samples of bytes are below 2 ^ depth where each one is, and only then.
+/// All samples of bytes are below 2 ^ depth if each one is, and only then.
 pub fn depth_test_is_exact()
     ensures each { (depth : ℕ) (bytes : List ℕ) → AreBelow 256 bytes →
         are_in_depth depth bytes ≡ true → AreBelow (2 ^ depth) (samples_of depth bytes) }

@@ -9,7 +9,7 @@ use Rattle.std.proofs.Common.{zero, suc}
 abbrev pub generator : ℕ
 generator = 3988292384
 
--- the first coefficient is struck out, by the generator where it is 1
+-- the first coefficient is struck out, by the generator if it is 1
 abbrev pub bit_step : ℕ → ℕ
 bit_step n = if nat_eq (n % 2) 1 then bit_xor (n / 2) generator else n / 2
 

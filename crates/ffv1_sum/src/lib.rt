@@ -1,7 +1,7 @@
 // SPDX-License-Identifier: MIT OR Apache-2.0
 //! The CRC-32 of EBML (RFC 8794, 11.3.1), which is the one of ISO 3309 and ITU-T V.42.
 //!
-//! [`crc32`] is the sum of bytes. [`more`] goes on with a sum where bytes come piece by piece: it
+//! [`crc32`] is the sum of bytes. [`more`] goes on with a sum when bytes come piece by piece: it
 //! begins with 4294967295, and its end is turned round. `laws` says what damage a sum tells.
 //!
 //! ```text

@@ -97,7 +97,7 @@ check_app = with_progress (with_rule (with_rule (some_files (codes "check"))
 abbrev pub show_app : App
 show_app = with_rule (some_files (codes "show")) (flag_rule (codes "cost"))
 
--- the program, which has a version, wants a command, and answers with its help where there are no
+-- the program, which has a version, wants a command, and answers with its help if there are no
 -- words
 abbrev pub top_app : App
 top_app = record (new_app (codes "ffv1")) {

@@ -195,7 +195,7 @@ abbrev pub IsRefused : App → List Text → Error → Type 0
 IsRefused line words e = HasKind (fault_of line words) e
     ⊎ ((fault_of line words ≡ []) × (TellsNone line words e ⊎ TellsConflict line words e))
 
--- a line that clap takes fails for want of memory, and where its order is in conflict
+-- a line that clap takes fails for want of memory, and if its order is in conflict
 abbrev pub IsRefusedIfTaken : App → List Text → Error → Type 0
 IsRefusedIfTaken line words e = takes line words ≡ true
     → (kind_of e ≡ kind.OutOfMemory) ⊎ TellsConflict line words e

@@ -411,10 +411,10 @@ fn read<'a>(
 /// conflict. A path `-` is standard input or standard output.
 ///
 /// The error is clap's own, whose text says why: of a line that clap refuses it is of a kind that
-/// clap's meaning of the line gives. Of any other it is an `InvalidValue`, where the line names no
-/// order, which none does; or an `ArgumentConflict`, where `pack` or `unpack` has one
+/// clap's meaning of the line gives. Of any other it is an `InvalidValue`, if the line names no
+/// order, which none does; or an `ArgumentConflict`, if `pack` or `unpack` has one
 /// text for both its files other than `-`, or writes to `/dev/stdout`, `/dev/fd/1` or
-/// `/proc/self/fd/1`, where `pack` without a container writes to a name that ends in `.mov`,
+/// `/proc/self/fd/1`, if `pack` without a container writes to a name that ends in `.mov`,
 /// `.mp4`, `.mxf`, `.y4m` or `.ppm`, in letters of either case, or `check`, `show` or `framemd5`
 /// have `-` more than once; or memory was refused. A line that clap takes names an order, and fails
 /// for want of memory and for such a conflict alone.

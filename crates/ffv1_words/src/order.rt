@@ -17,7 +17,7 @@ pub enum CoderChoice {
 /// Which container `pack` writes.
 #[derive(Clone, Copy, Debug, PartialEq, Eq)]
 pub enum ContainerChoice {
-    /// Matroska where the name of the output ends in `.mkv`, else AVI.
+    /// Matroska if the name of the output ends in `.mkv`, else AVI.
     Auto,
     /// AVI.
     Avi,
@@ -220,7 +220,7 @@ fn has_hyphens(paths: &[&str]) -> bool
 }
 
 impl<'a> Order<'a> {
-    /// Why its files are in conflict, where they are.
+    /// Why its files are in conflict, if they are.
     pub(crate) fn conflict(self) -> Option<&'static str>
         ensures { is_some result ≡ is_in_conflict self.entry }
     {

@@ -44,7 +44,7 @@ pub record Reads (t : Table) (old : Reading) (states : List ℕ) (new : Reading)
   pub moves : after ≡ moved_by t states steps
   pub named : AreStates (decided t states steps)
 
--- where these steps had been read before, those are read now
+-- if these steps had been read before, those are read now
 abbrev pub ReadsOn : Table → Reading → List ℕ → Reading → List ℕ → List Step → List Step → Type 0
 ReadsOn t old states new after before steps = (first : Reading) (fresh : List ℕ) →
     Reads t first fresh old states before → Reads t first fresh new after steps
@@ -118,7 +118,7 @@ pub record IsHoldingPart (bytes : List ℕ) (low width held : ℕ) : Type 0 wher
   pub room : 65536 * (256 ^ held * value bytes (length bytes)) + low + width ≤
       65536 * (256 ^ held * 256 ^ length bytes)
 
--- A low end is marked where one bit more stands above it, eight places further up for each byte
+-- A low end is marked if one bit more stands above it, eight places further up for each byte
 -- that is held back. How many those are, of four at most:
 unfoldable pub held_in : ℕ → ℕ
 held_in marked = min (marked / 2 ^ 39) 1 + min (marked / 2 ^ 47) 1 + min (marked / 2 ^ 55) 1 +

@@ -211,8 +211,8 @@ impl RangeDecoder<'_> {
     }
 
     /// As `get_signed_in_row`, but that a number is given by its size and its sign, and 0 as none,
-    /// and that nothing is counted but `nonzeros`: their symbol, where the number is not zero.
-    /// After `n` such symbols the decoder's counts are to go on by `nonzeros.among(n)`, and where
+    /// and that nothing is counted but `nonzeros`: their symbol, if the number is not zero.
+    /// After `n` such symbols the decoder's counts are to go on by `nonzeros.among(n)`, and if
     /// the one after them was refused by `nonzeros.among_refused(n)`. Fewer than 2^20 nonzero
     /// numbers have room.
     #[inline(always)]

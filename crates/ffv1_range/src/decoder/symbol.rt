@@ -163,7 +163,7 @@ pub(crate) fn get_mantissa(
 
 impl RangeDecoder<'_> {
     /// The signed number whose symbol comes next, of a size below 2^31, by 32 states that the table
-    /// holds. The states move by the decisions. Answers `SymbolTooLong` exactly where the 31st
+    /// holds. The states move by the decisions. Answers `SymbolTooLong` exactly if the 31st
     /// decision of the exponent is 1; the decoder then stands after that decision.
     #[inline(always)]
     pub fn get_signed(&mut self, table: &StateTable, states: &mut [u8]) -> Result<i32, Fault>
@@ -221,7 +221,7 @@ impl RangeDecoder<'_> {
     }
 
     /// The number without a sign whose symbol comes next, below 2^31, by 32 states that the table
-    /// holds. The states move by the decisions. Answers `SymbolTooLong` exactly where the 31st
+    /// holds. The states move by the decisions. Answers `SymbolTooLong` exactly if the 31st
     /// decision of the exponent is 1; the decoder then stands after that decision.
     #[inline(always)]
     pub fn get_unsigned(&mut self, table: &StateTable, states: &mut [u8]) -> Result<u32, Fault>

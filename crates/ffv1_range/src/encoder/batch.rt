@@ -196,8 +196,8 @@ pub fn list_signed(list: &mut [u32], at: usize, context: u32, residual: usize) -
 
 impl<A: Allocator> RangeEncoder<A> {
     /// The decisions of a list, of fewer than 2^32, by states that the table holds, by an encoder
-    /// that has not failed. A decision is its slot times 512, and 256 more where it is 1. The
-    /// states move by the decisions. Answers `OutOfMemory` where a growth was refused: the encoder
+    /// that has not failed. A decision is its slot times 512, and 256 more if it is 1. The
+    /// states move by the decisions. Answers `OutOfMemory` if a growth was refused: the encoder
     /// has failed for good, its counts stay, and the states are still held by the table.
     #[inline(always)]
     pub fn put_all(

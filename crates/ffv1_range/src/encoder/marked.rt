@@ -17,7 +17,7 @@ use std::alloc::{AllocError, Allocator};
 
 /// What an encoder's interval has beside its bytes while many decisions are written: its low end,
 /// with up to four bytes that are held back, and its width. The low end is marked: one bit more,
-/// 2^31 where no byte is held back and eight places further up for each one that is, tells how many
+/// 2^31 if no byte is held back and eight places further up for each one that is, tells how many
 /// they are.
 // No count beside it: the mark is shifted with the low end, and that four bytes are held back is
 // the highest bit.
@@ -35,10 +35,10 @@ struct Holding {
     held: u32,
 }
 
-/// The mark where no byte is held back.
+/// The mark if no byte is held back.
 const MARK: u64 = 1 << 31;
 
-/// The mark where four bytes are held back.
+/// The mark if four bytes are held back.
 const FULL: u64 = 1 << 63;
 
 /// The part of a decision.
@@ -126,7 +126,7 @@ impl Registers for Marked {
 
     ghost are_sound = { λ bytes m. IsMarked bytes m.low m.width × (held_in m.low < 4) };
 
-    // Four bytes are given out where they are held back.
+    // Four bytes are given out if they are held back.
     #[inline(always)]
     fn narrow<A: Allocator>(
         &mut self,

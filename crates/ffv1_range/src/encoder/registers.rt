@@ -17,7 +17,7 @@ pub(crate) trait Registers {
     // What holds of them beside these bytes.
     ghost are_sound: { List ℕ → Self → Type 0 };
 
-    /// Narrows the interval by a decision. Where a growth is refused, nothing is left of the bytes.
+    /// Narrows the interval by a decision. If a growth is refused, nothing is left of the bytes.
     fn narrow<A: Allocator>(
         &mut self,
         bytes: &mut Vec<u8, A>,

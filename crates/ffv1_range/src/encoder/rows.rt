@@ -143,7 +143,7 @@ fn sums_of(numbers: &[i32]) -> Sums
 impl<A: Allocator> RangeEncoder<A> {
     /// The symbols of signed numbers, each by its row of many states, 32 a row, by an encoder that
     /// has not failed. Answers how many decisions they were. The states move by the decisions.
-    /// `OutOfMemory` where a growth was refused: the encoder has failed for good, its counts stay,
+    /// `OutOfMemory` if a growth was refused: the encoder has failed for good, its counts stay,
     /// and the states are still held by the table (RFC 9043, 3.8.1.2).
     #[inline(always)]
     pub fn put_rows(

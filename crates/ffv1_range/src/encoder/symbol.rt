@@ -230,7 +230,7 @@ pub(crate) fn put_number<A: Allocator, R: Registers>(
 
 impl<A: Allocator> RangeEncoder<A> {
     /// The symbol of a signed number of a size below 2^31, by 32 states that the table holds. The
-    /// states move by the decisions. Answers `OutOfMemory` where a growth was refused, now or
+    /// states move by the decisions. Answers `OutOfMemory` if a growth was refused, now or
     /// before: the encoder has failed for good, its counts stay, and the states are still held by
     /// the table.
     #[inline(always)]

@@ -1,7 +1,7 @@
 //! The decisions of each residual of nine bits, for lists.
 
 /// In rows of 24, one for each residual modulo 512: for each of its decisions 512 times the slot,
-/// and 256 more where it is 1; after them 0.
+/// and 256 more if it is 1; after them 0.
 pub(crate) static SYMBOLS: [u16; 12288] = [
     256, 0, 0, 0, 0, 0, 0, 0, 0, 0, 0, 0, 0, 0, 0, 0, 0, 0, 0, 0, 0, 0, 0, 0, 0, 512, 5632, 0, 0,
     0, 0, 0, 0, 0, 0, 0, 0, 0, 0, 0, 0, 0, 0, 0, 0, 0, 0, 0, 0, 768, 1024, 11264, 6144, 0, 0, 0, 0,
