@@ -21,23 +21,37 @@ samples-append : (rows : List (List ℕ)) (row : List ℕ) → samples_in (rows 
 samples-append [] row = append-nil row
 samples-append (r ∷ rows) row = ap (λ l. r ++ l) (samples-append rows row) ∙ sym (append_assoc r (samples_in rows) row)
 
+wide_next : (width : ℕ) (rows : List (List ℕ)) (cur : List ℕ) → length cur ≡ width → ((y : ℕ) → y < length rows → length (get_or rows y []) ≡ width) →
+    (y : ℕ) → y < length (rows ++ (cur ∷ [])) → length (get_or (rows ++ (cur ∷ [])) y []) ≡ width
+wide_next width rows cur wide before y h =
+    let all = rows ++ (cur ∷ []) in
+    let many : length all ≡ length rows + 1 = length-append rows (cur ∷ []) in
+    let here : length rows ≡ length rows + 0 = omega arith in
+    let last : get_or all (length rows) [] ≡ cur = ap (λ k. get_or all k []) here ∙ get_or-append-add rows (cur ∷ []) 0 [] in
+    elim (cases_lt y (length rows)) [
+      | inl k ↦ subst (λ r. length r ≡ width) (sym (get_or_append_left rows (cur ∷ []) [] y k)) (before y k)
+      | inr k ↦ let at : y ≡ length rows = omega (arith, h, k, many) in subst (λ r. length r ≡ width) (sym (ap (λ j. get_or all j []) at ∙ last)) wide
+    ]
+
 module _ {S : Type 0} (takes : RowStep S) where
   pub taken_none : (coding : RowCoding) (r : Decoder) (width : ℕ) (s : S) →
-      RowsTaken takes s s (λ samples. (RowsRead coding r r width samples 0) × (Rolls width samples (replicate width 0) (replicate width 0) 0))
-  taken_none coding r width s = record { rows = []; taken = refl; holds = (read_none coding r width, rolls_first width) }
+      RowsTaken takes s s width (λ count samples. (count ≡ 0) × (RowsRead coding r r width samples 0) × (Rolls width samples (replicate width 0) (replicate width 0) 0))
+  taken_none coding r width s = record { rows = []; taken = refl; wide = λ y h. absurd (omega (arith, h)); holds = (refl, read_none coding r width, rolls_first width) }
 
   pub taken_next : (coding : RowCoding) (a b d : Decoder) (width n : ℕ) (over : RowsAbove) (cur : List ℕ) (s m t : S) → length cur ≡ width →
-      RowsTaken takes s m (λ samples. (RowsRead coding a b width samples n) × (Rolls width samples over.two over.one n)) → Lined coding b d over cur (length cur) → takes m cur t →
-      RowsTaken takes s t (λ samples. (RowsRead coding a d width samples (n + 1)) × (Rolls width samples over.one cur (n + 1)))
+      RowsTaken takes s m width (λ count samples. (count ≡ n) × (RowsRead coding a b width samples n) × (Rolls width samples over.two over.one n)) → Lined coding b d over cur (length cur) → takes m cur t →
+      RowsTaken takes s t width (λ count samples. (count ≡ n + 1) × (RowsRead coding a d width samples (n + 1)) × (Rolls width samples over.one cur (n + 1)))
   taken_next coding a b d width n over cur s m t wide before lined now =
       let same = sym (samples-append before.rows cur) in
       let old = samples_in before.rows in
       record {
         rows = before.rows ++ (cur ∷ []);
         taken = takes_next takes s before.rows m cur t before.taken now;
+        wide = wide_next width before.rows cur wide before.wide;
         holds = (
-          subst (λ l. RowsRead coding a d width l (n + 1)) same (read_next coding a b d width old over cur n wide before.holds.1 before.holds.0 lined),
-          subst (λ l. Rolls width l over.one cur (n + 1)) same (rolls_next width old over.two over.one cur n wide before.holds.1),
+          length-append before.rows (cur ∷ []) ∙ ap (λ k. k + 1) before.holds.0,
+          subst (λ l. RowsRead coding a d width l (n + 1)) same (read_next coding a b d width old over cur n wide before.holds.2 before.holds.1 lined),
+          subst (λ l. Rolls width l over.one cur (n + 1)) same (rolls_next width old over.two over.one cur n wide before.holds.2),
         );
       }
 

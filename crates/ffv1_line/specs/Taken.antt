@@ -20,19 +20,18 @@ abbrev pub samples_in : List (List ℕ) → List ℕ
 samples_in [] = []
 samples_in (row ∷ rows) = row ++ samples_in rows
 
--- a sink took some rows, of whose samples this holds
-pub record RowsTaken {S : Type 0} (takes : RowStep S) (s t : S) (Holds : List ℕ → Type 0)
-    : Type 0 where
+-- a sink took some rows of this width, and this holds of how many they are and of their samples
+pub record RowsTaken {S : Type 0} (takes : RowStep S) (s t : S) (width : ℕ)
+    (Holds : ℕ → List ℕ → Type 0) : Type 0 where
   pub rows : List (List ℕ)
   pub taken : TakesRows takes s rows t
-  pub holds : Holds (samples_in rows)
+  pub wide : (y : ℕ) → y < length rows → length (slice_index_or rows y []) ≡ width
+  pub holds : Holds (length rows) (samples_in rows)
 
--- a decoder read rows of these samples, fewer than n, and then a symbol at place x of the next row
--- that is refused
-pub record RowsRefused (coding : RowCoding) (old new : Decoder) (width n x : ℕ)
+-- a decoder read y rows of these samples, and then a symbol at place x of the next row that is
+-- refused
+pub record RowsRefused (coding : RowCoding) (old new : Decoder) (width x y : ℕ)
     (samples : List ℕ) : Type 0 where
-  pub y : ℕ
-  pub few : y < n
   pub between : Decoder
   pub above : RowsAbove
   pub cur : List ℕ

@@ -13,7 +13,7 @@ use std::marker::Model;
 
 /// How the rows of a cell of a plane are coded: by which table of states, by which quantisation
 /// table set, and how many bits a sample of a line has, from 8 to 16: those of the pictures, and
-/// one more where colours are coded as luma and differences (RFC 9043, 3.7.2). Samples of 16 bits
+/// one more if colours are coded as luma and differences (RFC 9043, 3.7.2). Samples of 16 bits
 /// are predicted by signed numbers (RFC 9043, 3.3).
 #[derive(Drop)]
 pub struct Coding<'a, B: Allocator> {

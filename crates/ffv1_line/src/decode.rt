@@ -37,7 +37,7 @@ pub use wide::decode_wide;
 /// the coded residuals make in any cell of which these are rows, by the neighbours' coordinates. It
 /// takes no memory.
 ///
-/// `TooLong { x }` where the symbol at `x`, the first such place, has 31 exponent decisions 1: the
+/// `TooLong { x }` if the symbol at `x`, the first such place, has 31 exponent decisions 1: the
 /// decoder stands after the last of them, the places before `x` are filled, and `x` and those
 /// after it are as before.
 #[inline(never)]

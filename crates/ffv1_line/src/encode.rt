@@ -73,7 +73,7 @@ fn put_residual<A: Allocator>(
     Ok(())
 }
 
-/// The same, where nearly all residuals are 0.
+/// The same, if nearly all residuals are 0.
 #[inline(always)]
 fn put_mostly_zero<A: Allocator>(
     encoder: &mut RangeEncoder<A>,
@@ -172,8 +172,8 @@ fn put_numbers<A: Allocator, B: Allocator>(
     )
 }
 
-/// The symbols of a part of a row, by an encoder that has not failed: one by one where samples have
-/// more than 9 bits, where the block before had many decisions, or where nearly all residuals are
+/// The symbols of a part of a row, by an encoder that has not failed: one by one if samples have
+/// more than 9 bits, if the block before had many decisions, or if nearly all residuals are
 /// zero, else by a list.
 #[inline(always)]
 fn encode_block<A: Allocator, B: Allocator>(
@@ -276,7 +276,7 @@ fn encode_row<A: Allocator, B: Allocator, const BITS: u8, const THREE_TABLES: bo
 /// each context of the set, all held by the table. What is put is what the definition takes for any
 /// cell of which these are rows, by the neighbours' coordinates.
 ///
-/// `OutOfMemory` where the encoder was refused memory, now or before: it has failed for good, its
+/// `OutOfMemory` if the encoder was refused memory, now or before: it has failed for good, its
 /// counts are those after some first samples of the row, and the states are still held by the
 /// table. One that had failed before is left as it was, and the states too.
 #[inline(never)]

@@ -275,7 +275,7 @@ pub fn sample_takes_at_most_63_decisions()
         CountedAtMost old.writing.counts new.writing.counts ((2 * coding.bits + 1) * n) }
 {}
 
-/// A number has d binary digits where it is at least 2^(d-1) and below 2^d, and 0 has none.
+/// A number has d binary digits if it is at least 2^(d-1) and below 2^d, and 0 has none.
 pub fn binary_digits_bound_a_number()
     ensures least { (n : ℕ) → 0 < n → 2 ^ (binary_digits n - 1) ≤ n }
     ensures most { (n : ℕ) → n < 2 ^ binary_digits n }

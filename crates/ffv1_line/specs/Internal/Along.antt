@@ -48,7 +48,7 @@ pub record IsPreparedSomehow (set : Set) (e : Early) (i : ℕ) : Type 0 where
   pub tt : ℕ
   pub prepared : IsPrepared set e i tr tt
 
--- where the samples above, above to the left and to the left are l, a sample of this early sum has
+-- if the samples above, above to the left and to the left are l, a sample of this early sum has
 -- this context, whatever stands above to the right and two above
 pub record IsEqualContext (set : Set) (sum l ll size : ℕ) : Type 0 where
   pub each : (tr tt : ℕ) → IsEarly set l l tr tt sum → size ≡ size_of set (record {
@@ -60,7 +60,7 @@ pub record IsEqualContext (set : Set) (sum l ll size : ℕ) : Type 0 where
     tt = tt;
   })
 
--- where those samples and the one above to the right are one, a sample has the first context
+-- if those samples and the one above to the right are one, a sample has the first context
 pub record HasRunContext (set : Set) : Type 0 where
   pub each : (a : Around) → a.t ≡ a.l → a.tl ≡ a.l → a.tr ≡ a.l → size_of set a ≡ 0
 

@@ -65,7 +65,7 @@ part_steps p n = places_steps p.set.now p.bits p.two.now p.one.now p.cur.now p.f
 abbrev pub nine_bit_steps : ℕ → ℕ → List Step
 nine_bit_steps context residual = shifted (context * 32) (signed_steps (of_nine_bits residual))
 
--- the counters went on by the decisions of its first places, and not of all where it has some
+-- the counters went on by the decisions of its first places, and not of all if it has some
 pub record CountsPart {A : Type 0} (p : Part A) (old new : Counts) : Type 0 where
   pub first : ℕ
   pub few : 0 < p.count → first < p.count

@@ -129,14 +129,14 @@ pub record MayComeAgain {B : Type 0} (p : Places B) (state : ℕ) (cur : List �
   pub again : ComesAgain p.bits b.l
 
 -- zeros from place i on have this context, as long as they go on: in a run the first one, else that
--- of the early sum, also where the sample two to the left is the one too
+-- of the early sum, also if the sample two to the left is the one too
 abbrev pub SharesContext : {B : Type 0} → Bool → Places B → ℕ → Behind → ℕ → Type 0
 SharesContext true p i b size = (size ≡ 0) × HasRunContext p.set.now
 SharesContext false p i b size =
     IsEqualContext p.set.now (slice_index p.early.now.sum i) b.l b.ll size ×
     IsEqualContext p.set.now (slice_index p.early.now.sum i) b.l b.l size
 
--- they go on at place i, where the samples to the left and above to the left are l: in a run the
+-- they go on at place i, if the samples to the left and above to the left are l: in a run the
 -- sample above to the right is l too, else the sample above is, and the early sum is this one
 abbrev pub GoesOn : Bool → Early → ℕ → ℕ → ℕ → Type 0
 GoesOn true e sum l i = slice_index e.t (i + 1) ≡ l

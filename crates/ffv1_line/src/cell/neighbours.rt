@@ -35,7 +35,7 @@ pub(crate) fn sample_two_before(above: &[u16], row: &[u16], x: usize) -> u16
     sample_before(above, row, x - 1)
 }
 
-/// The sample to the right above, where the sample above is `t`: after the end of a row stands
+/// The sample to the right above, if the sample above is `t`: after the end of a row stands
 /// its last sample (RFC 9043, 3.1).
 #[inline(always)]
 pub(crate) fn right_above(one: &[u16], x: usize, last: usize, t: u16) -> u16

@@ -32,7 +32,7 @@ impl<L: Drop> RollingRows<L> {
 }
 
 impl<A: Allocator + Copy> RollingRows<Vec<u16, A>> {
-    /// Three rows of `width` zeros, as they stand at the top of a cell. Refuses where a growth is
+    /// Three rows of `width` zeros, as they stand at the top of a cell. Refuses if a growth is
     /// refused.
     pub fn new(alloc: A, width: usize) -> Result<RollingRows<Vec<u16, A>>, AllocError>
         ensures two { IfOk result (λ r. r.two.items ≡ replicate width 0) }

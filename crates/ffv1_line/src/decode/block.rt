@@ -17,7 +17,7 @@ use std::alloc::Allocator;
 /// A block of fewer nonzero symbols is mostly zero.
 const MOSTLY_ZERO: u32 = 16;
 
-/// The places of a block from `start` on whose symbols are zeros, where the block before was mostly
+/// The places of a block from `start` on whose symbols are zeros, if the block before was mostly
 /// zero: those of a run in a set whose fourth and fifth tables have one level, else those of equal
 /// neighbours. `kept` is the same value in memory, for the call that is not inlined: a copy for
 /// each call costs more than one argument more. Answers the first place that is left, from `start`
@@ -56,7 +56,7 @@ fn decode_zeros<'a, B: Allocator, const WAS_MOSTLY_ZERO: bool>(
 }
 
 /// The places of a block, by a decoder of its own. After a block that was mostly zero, zeros in
-/// runs or at equal neighbours are looked for first, which is faster where they are many. Answers
+/// runs or at equal neighbours are looked for first, which is faster if they are many. Answers
 /// whether this block is mostly zero: whether few of its symbols are nonzero. `kept` is the same as
 /// `places`.
 #[inline(always)]

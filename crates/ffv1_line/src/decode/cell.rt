@@ -37,10 +37,10 @@ pub trait RowSink {
 /// The cell has `height` rows of at least one sample of `coding.bits` bits. `rows` are three lines
 /// of its width, of which `two` and `one` are zeros, as `RollingRows::new` makes them; they turn
 /// after each row. `states` are those of the plane's class, 32 for each context of the set, all
-/// held by the table. It takes no memory itself. Where the bytes code a cell of this size, its rows
+/// held by the table. It takes no memory itself. If the bytes code a cell of this size, its rows
 /// are handed over.
 ///
-/// `TooLong { x }` where the symbol at place `x` of a row, the first such place of the cell, has 31
+/// `TooLong { x }` if the symbol at place `x` of a row, the first such place of the cell, has 31
 /// exponent decisions 1: the rows above it were handed over, and the decoder stands after the last
 /// of them.
 pub fn decode_cell<B: Allocator, R: Allocator, T: RowSink>(
@@ -56,12 +56,14 @@ pub fn decode_cell<B: Allocator, R: Allocator, T: RowSink>(
     requires one { rows.old.one.items ≡ replicate (length rows.old.cur.items) 0 }
     requires rows { length states.old ≡ contexts_of coding.now.set * 32 }
     requires held { AllHeld coding.now.table states.old }
-    ensures ok { OnOk result (RowsTaken T.takes sink.old sink.new (λ samples.
-        RowsRead coding.now (decoder_by decoder.old states.old) (decoder_by decoder.new states.new)
-        (length rows.old.cur.items) samples height)) }
-    ensures refused { IfErr result (λ e. RowsTaken T.takes sink.old sink.new (RowsRefused coding.now
-        (decoder_by decoder.old states.old) (decoder_by decoder.new states.new)
-        (length rows.old.cur.items) height e.x)) }
+    ensures ok { OnOk result (RowsTaken T.takes sink.old sink.new (length rows.old.cur.items)
+        (λ count samples. (count ≡ height)
+        × RowsRead coding.now (decoder_by decoder.old states.old)
+        (decoder_by decoder.new states.new) (length rows.old.cur.items) samples height)) }
+    ensures refused { IfErr result (λ e. RowsTaken T.takes sink.old sink.new
+        (length rows.old.cur.items) (λ y samples. (y < height)
+        × RowsRefused coding.now (decoder_by decoder.old states.old)
+        (decoder_by decoder.new states.new) (length rows.old.cur.items) e.x y samples)) }
     ensures inside { IfErr result (λ e. e.x < length rows.old.cur.items) }
     ensures held { AllHeld coding.now.table states.new }
     ensures back { (before : List Decision) (c : Cell) (qs : List (List ℤ)) →

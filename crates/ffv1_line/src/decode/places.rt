@@ -73,7 +73,7 @@ impl<'a, B: Allocator> Places<'a, B> {
         }
     }
 
-    /// The same, with the bits and the kind of the set as constants; where `BITS` is 0, the bits
+    /// The same, with the bits and the kind of the set as constants; if `BITS` is 0, the bits
     /// are no constant.
     #[inline(always)]
     pub(crate) fn fixed<const BITS: u8, const THREE_TABLES: bool>(&self) -> Places<'a, B>

@@ -20,7 +20,7 @@ use std::alloc::Allocator;
 /// the row, of at least one sample, and all three have one length. `states` are those of the
 /// plane's class, 32 for each context of the set, all held by the table. It takes no memory.
 ///
-/// `TooLong { x }` where the symbol at `x`, the first such place, has 31 exponent decisions 1: the
+/// `TooLong { x }` if the symbol at `x`, the first such place, has 31 exponent decisions 1: the
 /// decoder stands after the last of them, the places before `x` are filled, and `x` and those
 /// after it are as before.
 #[inline(never)]

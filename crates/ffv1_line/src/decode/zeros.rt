@@ -11,7 +11,7 @@ use ffv1_plane::Early;
 use ffv1_range::RangeDecoder;
 use std::alloc::Allocator;
 
-/// Whether a position goes on as the one before it, where the samples to the left and above to the
+/// Whether a position goes on as the one before it, if the samples to the left and above to the
 /// left are `l`: in a run the sample above to the right is `l` too, else the sample above is, and
 /// the early sum is this one.
 #[inline(always)]

@@ -41,9 +41,9 @@ pub(crate) struct Block {
     pub(crate) contexts: [u32; PLACES],
     /// The residuals: of 8 and 9 bits modulo 512, of more with half of `2^bits` added.
     pub(crate) residuals: [u16; PLACES],
-    /// The residuals as signed numbers, where they are written symbol by symbol.
+    /// The residuals as signed numbers, if they are written symbol by symbol.
     pub(crate) numbers: [i32; PLACES],
-    /// The decisions, where they are listed.
+    /// The decisions, if they are listed.
     pub(crate) list: [u32; LIST],
     /// Whether the block before had many decisions a sample.
     pub(crate) is_dense: bool,
@@ -226,7 +226,7 @@ fn prepare_lanes<A: Allocator>(
 }
 
 /// The contexts and the residuals of a part: in a set whose tables have few levels 16 at once, but
-/// at the row's borders, and the last of these again where fewer than 16 are left.
+/// at the row's borders, and the last of these again if fewer than 16 are left.
 #[inline(always)]
 pub(crate) fn prepare<A: Allocator>(block: &mut Block, part: &Part<'_, A>)
     requires part { IsPart part.now }

@@ -56,7 +56,7 @@ fn load_row<R: Allocator, C: CellRows>(cell: &C, y: u32, line: &mut Vec<u16, R>)
 /// memory. `states` are those of the plane's class, 32 for each context of the set, all held by the
 /// table. A cell of no rows puts nothing.
 ///
-/// `OutOfMemory` where the encoder was refused memory, now or before: it has failed for good, its
+/// `OutOfMemory` if the encoder was refused memory, now or before: it has failed for good, its
 /// counts are those after some first rows of the cell and some first samples of the next one, and
 /// the states are still held by the table. One that had failed before is left as it was, and the
 /// states too.

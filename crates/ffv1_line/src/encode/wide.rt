@@ -19,7 +19,7 @@ use std::alloc::Allocator;
 /// least one sample, and all three have one length. `states` are those of the plane's class, 32 for
 /// each context of the set, all held by the table.
 ///
-/// `OutOfMemory` where the encoder was refused memory, now or before: it has failed for good, its
+/// `OutOfMemory` if the encoder was refused memory, now or before: it has failed for good, its
 /// counts are those after some first samples of the row, and the states are still held by the
 /// table. One that had failed before is left as it was, and the states too.
 #[inline(never)]

@@ -43,16 +43,18 @@ returns-in_err-decode_line-clause-refused g c =
     rw (stop.1, stop.2) (record {
       rows = kept.rows;
       taken = kept.taken;
-      holds = record {
-        y = c.loop.counter;
-        few = c.loop-test.true;
-        between = decoder_by c.loop.decoder c.loop.states;
-        above = over;
-        cur = c.decode_line.new.cur;
-        rolls = kept.holds.1;
-        read = kept.holds.0;
-        refused = refused;
-      };
+      wide = kept.wide;
+      holds = (
+        rw (← kept.holds.0) at c.loop-test.true,
+        record {
+          between = decoder_by c.loop.decoder c.loop.states;
+          above = over;
+          cur = c.decode_line.new.cur;
+          rolls = rw (← kept.holds.0) at kept.holds.2;
+          read = rw (← kept.holds.0) at kept.holds.1;
+          refused = refused;
+        },
+      );
     })
 
 pub returns-in_err-decode_line-clause-back : goal.returns-in_err-decode_line-clause-back
@@ -95,7 +97,7 @@ loop-preserved g c =
     (record {
       held = c.decode_line.ensures.held;
       slots = c.decode_line.auto.states ∙ kept.slots;
-      cur_long = kept.taken.holds.1.two_long;
+      cur_long = kept.taken.holds.2.two_long;
       taken = taken_next takes c.args.coding.now _ _ _ (length c.args.rows.now.cur.items)
           c.loop.counter over cur c.args.sink.now c.loop.sink c.row.new.self long kept.taken lined
           took;
@@ -114,8 +116,12 @@ returns-clause-ok g c =
     record {
       rows = kept.rows;
       taken = kept.taken;
-      holds = subst (λ n. RowsRead c.args.coding.now
-          (decoder_by c.args.decoder.now c.args.states.now)
-          (decoder_by c.loop.decoder c.loop.states) (length c.args.rows.now.cur.items)
-          (samples_in kept.rows) n) all kept.holds.0;
+      wide = kept.wide;
+      holds = (
+        kept.holds.0 ∙ all,
+        subst (λ n. RowsRead c.args.coding.now
+            (decoder_by c.args.decoder.now c.args.states.now)
+            (decoder_by c.loop.decoder c.loop.states) (length c.args.rows.now.cur.items)
+            (samples_in kept.rows) n) all kept.holds.1,
+      );
     }

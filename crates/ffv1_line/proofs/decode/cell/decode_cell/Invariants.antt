@@ -19,8 +19,9 @@ invariant-loop g l =
       held : AllHeld l.coding.table l.states;
       slots : length l.states ≡ contexts_of l.coding.set * 32;
       cur_long : length l.rows.cur.items ≡ width;
-      taken : RowsTaken takes l.fn.sink l.sink
-          (λ samples. (RowsRead l.coding first now width samples l.counter) ×
+      taken : RowsTaken takes l.fn.sink l.sink width
+          (λ count samples. (count ≡ l.counter) ×
+          (RowsRead l.coding first now width samples l.counter) ×
           (Rolls width samples l.rows.two.items l.rows.one.items l.counter));
       back : (before : List Decision) (c : Cell) (qs : List (List ℤ)) → c.width ≡ width → length qs
           ≡ l.height → StandsAfter before l.coding l.fn.states c qs 0 first →
