@@ -1,4 +1,4 @@
--- A payload that was damaged on its way, within 32 neighbouring bits of one slice.
+-- A payload that was damaged on its way, within 32 neighbouring bits: of one slice, or anywhere.
 use Rattle.std.specs.Prelude.{◌≡◌, ◌⊎◌, ℕ, ◌*◌, ◌^◌, ◌<◌, ◌≤◌, true, List, length, slice_index}
 use Rattle.std.specs.Prelude.{bit_xor}
 use Rattle.std.proofs.Common.{suc}
@@ -36,3 +36,17 @@ pub record IsDamaged (a : Accepted) (sent payload : List ℕ) (spans : ℕ → �
   pub bytes : AreBytes sent
   pub good : Cuts a.configuration sent spans
   pub burst : IsBurst a.configuration sent payload spans s
+
+-- with parity, the payload is a good one, but for damage within 32 neighbouring bits, wherever
+-- these lie
+pub record HasBurst (a : Accepted) (sent payload : List ℕ) : Type 0 where
+  pub guarded : a.configuration.ec ≡ true
+  pub bytes : AreBytes sent
+  pub spans : ℕ → ℕ
+  pub good : Cuts a.configuration sent spans
+  pub long : length payload ≡ length sent
+  pub bits : ℕ
+  pub place : ℕ
+  pub some : 0 < bits
+  pub few : bits < 2 ^ 32
+  pub differs : bit_xor (number_of sent) (number_of payload) ≡ bits * 2 ^ place

@@ -171,6 +171,38 @@ stored bytes n small =
     let sum = stored_remainder bytes n small in
     ((λ none. same_of_none (parity_of bytes) n (sym sum ∙ none)), (λ same. sum ∙ ap (bit_xor (parity_of bytes)) same ∙ xor_self (parity_of bytes)))
 
+-- ---- one behind the other
+
+joined_value : (xs ys : List ℕ) → value (xs ++ ys) (length xs + length ys) ≡ value xs (length xs) * 2 ^ (8 * length ys) + value ys (length ys)
+joined_value xs ys =
+    let m = length xs in
+    let n = length ys in
+    let all = value_in_parts (xs ++ ys) m n in
+    let first : value (xs ++ ys) m ≡ value xs m =
+    sym (value_taken (xs ++ ys) m m (le_refl m)) ∙ ap (λ (l : List ℕ). value l m) (take-append_seam xs ys) in
+    let last : value (drop m (xs ++ ys)) n ≡ value ys n = ap (λ (l : List ℕ). value l n) (drop-append_seam xs ys) in
+    all ∙ ap (λ x. x * 256 ^ n + value (drop m (xs ++ ys)) n) first ∙ ap (λ x. value xs m * 256 ^ n + x) last ∙ ap (λ w. value xs m * w + value ys n) (wide_as n)
+
+pub sound_in_a_row : (xs ys : List ℕ) → AreBytes ys → 4 ≤ length xs → 4 ≤ length ys → remainder_of xs ≡ 0 → remainder_of ys ≡ 0 → remainder_of (xs ++ ys) ≡ 0
+unfolding remainder_of
+sound_in_a_row xs ys are long_x long_y none_x none_y =
+    let m = length xs in
+    let n = length ys in
+    let k = 8 * m - 32 + 8 * n in
+    let v = value xs m in
+    let w = value ys n in
+    let long : length (xs ++ ys) ≡ m + n = length-append xs ys in
+    let places : 8 * (m + n) - 32 ≡ k = omega (arith, long_x) in
+    let below : w < 2 ^ (8 * n) = omega (arith, value_below ys are n, wide_as n) in
+    let apart : v * 2 ^ (8 * n) + w ≡ bit_xor (v * 2 ^ (8 * n)) w = sym (xor_shifted v (8 * n) w below) in
+    let first : divided k (v * 2 ^ (8 * n)) ≡ 0 =
+    divided_scaled (8 * m - 32) (8 * n) v ∙ to_zero (8 * n) (divided (8 * m - 32) v) none_x in
+    let split : k ≡ 8 * m + (8 * n - 32) = omega (arith, long_x, long_y) in
+    let last : divided k w ≡ 0 =
+    ap (λ c. divided c w) split ∙ divided_small (8 * m) (8 * n - 32) w (value_fits ys are) ∙ none_y in
+    ap (λ c. divided (8 * c - 32) (value (xs ++ ys) c)) long ∙ ap (λ c. divided c (value (xs ++ ys) (m + n))) places
+    ∙ ap (divided k) (joined_value xs ys ∙ apart) ∙ divided_xor k (v * 2 ^ (8 * n)) w ∙ ap (λ x. bit_xor x (divided k w)) first ∙ ap (bit_xor 0) last
+
 -- ---- sums and differences
 
 pub added : (xs ys zs : List ℕ) → length xs ≡ length zs → length ys ≡ length zs → value zs (length zs) ≡ bit_xor (value xs (length xs)) (value ys (length ys)) →

@@ -31,7 +31,7 @@ is_depth most depth =
 abbrev pub has_depth : ℕ → Configuration → Bool
 has_depth most c = is_depth most c.depth
 
--- the greatest depth of a profile, where `Wide` goes up to `most`
+-- the greatest depth of a profile, if `Wide` goes up to `most`
 abbrev pub deepest : Profile → ℕ → ℕ
 deepest profile.Strict most = 8
 deepest profile.Wide most = most
@@ -70,7 +70,7 @@ edge k size count = k * size / count
 abbrev pub AreMultiples : ℕ → ℕ → ℕ → Type 0
 AreMultiples size count log2 = (k : ℕ) → 0 < k → k < count → edge k size count % 2 ^ log2 ≡ 0
 
--- what a configuration must meet, by the fault where it does not
+-- what a configuration must meet, by the fault if it does not
 abbrev pub Passes : RecordFault → Configuration → Type 0
 Passes fault.Size c = IsTrue (is_sized c)
 Passes fault.Subsampling c = IsTrue (is_subsampled c)
@@ -97,14 +97,14 @@ abbrev pub IsFirst : List RecordFault → Configuration → RecordFault → Type
 IsFirst [] c found = ⊥
 IsFirst (f ∷ fs) c found = ((Passes f c → ⊥) × (found ≡ f)) ⊎ (Passes f c × IsFirst fs c found)
 
--- the same where a depth is judged after the size, and this says whether it is accepted
+-- the same if a depth is judged after the size, and this says whether it is accepted
 abbrev pub IsFirstWhere : Bool → Configuration → RecordFault → Type 0
 IsFirstWhere true c found = IsFirst checks c found
 IsFirstWhere false c found =
     ((Passes fault.Size c → ⊥) × (found ≡ fault.Size))
     ⊎ (Passes fault.Size c × (found ≡ fault.Depth))
 
--- why a configuration is refused where depths up to this one are accepted
+-- why a configuration is refused if depths up to this one are accepted
 abbrev pub IsFirstUpTo : ℕ → Configuration → RecordFault → Type 0
 IsFirstUpTo most c found = IsFirstWhere (has_depth most c) c found
 

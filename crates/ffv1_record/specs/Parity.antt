@@ -10,7 +10,7 @@ use Rattle.ffv1_range.specs.Codes.{value}
 abbrev pub generator : ℕ
 generator = 4374732215
 
--- a polynomial whose coefficient of degree 32 + place is struck out by the generator, where it is 1
+-- a polynomial whose coefficient of degree 32 + place is struck out by the generator, if it is 1
 abbrev pub struck : ℕ → ℕ → ℕ
 struck place n = if nat_eq (bit_at n (32 + place)) 1 then bit_xor n (generator * 2 ^ place) else n
 

@@ -1,4 +1,4 @@
--- The parameters of a record, read in their order (RFC 9043, 4.2), each check made where its symbol
+-- The parameters of a record, read in their order (RFC 9043, 4.2), each check made when its symbol
 -- has been read.
 use Rattle.std.specs.Prelude.{◌≡◌, ◌≢◌, ◌⊎◌, ℕ, ◌+◌, ◌-◌, ◌≤◌, ◌<◌, ◌==◌, nat_le, ◌||◌, not, Bool}
 use Rattle.std.specs.Prelude.{true, List, [], ◌∷◌, ◌++◌, length, ℤ, Ok, Err}

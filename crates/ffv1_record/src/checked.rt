@@ -21,7 +21,7 @@ pub const OFFSETS: usize = 1025;
 pub struct Held {
     /// States: 32 for each column, class of planes, and context of the largest set.
     pub states: usize,
-    /// Samples: three lines of each plane that is held at once, in words of 32 bits where a coded
+    /// Samples: three lines of each plane that is held at once, in words of 32 bits if a coded
     /// sample has 17, as RCT of 16 bits has, else of 16.
     pub samples: usize,
     /// Bytes of output: one line of each such plane, of one byte a sample at 8 bits, else two.

@@ -95,7 +95,7 @@ fn have_symbols(deltas: &[i32; 255]) -> bool
     true
 }
 
-/// The state transition table of some deltas. Refuses with `StateTable` where they make none.
+/// The state transition table of some deltas. Refuses with `StateTable` if they make none.
 fn table_of(deltas: &[i32; 255]) -> Result<StateTable, RecordFault>
     ensures ok { IfOk result (λ t. IsTableOf deltas.now t) }
     ensures closed { IfOk result (λ t. IsTable t.floor t.one) }
@@ -113,7 +113,7 @@ fn table_of(deltas: &[i32; 255]) -> Result<StateTable, RecordFault>
 }
 
 impl Coder {
-    /// The state transition table. Refuses with `StateTable` where the deltas make none.
+    /// The state transition table. Refuses with `StateTable` if the deltas make none.
     fn table(&self) -> Result<StateTable, RecordFault>
         ensures ok { IfOk result (λ t. IsTableFor self.now t) }
         ensures closed { IfOk result (λ t. IsTable t.floor t.one) }
@@ -148,7 +148,7 @@ fn are_multiples(size: u32, count: u32, log2: u32) -> bool
     true
 }
 
-/// Whether a depth is accepted, in bits a sample: 8, 9, 10, 12, 14 or 16 where it is not above
+/// Whether a depth is accepted, in bits a sample: 8, 9, 10, 12, 14 or 16 if it is not above
 /// `most`.
 pub(crate) fn is_depth(most: u32, depth: u32) -> bool
     ensures { result ≡ is_depth most depth }
@@ -305,8 +305,8 @@ impl<A: Allocator> Config<A> {
     /// The configuration, checked in a profile, for samples of `depth` bits; it keeps both. `most`
     /// is the greatest depth that the profile `Wide` accepts. Refuses with the first of these that
     /// stands: `Size`, `Depth`, `Subsampling`, `ExtraPlane`, `Sets`, `StateTable`, `Grid`,
-    /// `ChromaEdge`; else accepts. `Depth` comes in `Strict` where the depth is not 8, and in
-    /// `Wide` where it is not 8, 9, 10, 12, 14 or 16, or is above `most`. It takes no memory.
+    /// `ChromaEdge`; else accepts. `Depth` comes in `Strict` if the depth is not 8, and in
+    /// `Wide` if it is not 8, 9, 10, 12, 14 or 16, or is above `most`. It takes no memory.
     pub fn check_in(
         self,
         profile: Profile,

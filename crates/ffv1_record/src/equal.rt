@@ -1,4 +1,4 @@
-//! Compares configurations: they are equal exactly where all that they say is.
+//! Compares configurations: they are equal exactly if all that they say is.
 
 ghost use Rattle.std.specs.Prelude.{◌≡◌, ◌↔◌, IsTrue};
 ghost use Rattle.ffv1_record.specs.Configuration.{configuration_of};
@@ -92,7 +92,7 @@ impl Eq for Profile {
     ghost laws = { profile_equivalence };
 }
 
-/// Sets are equal where each is, one after the other.
+/// Sets are equal if each is, one after the other.
 impl<A: Allocator> PartialEq for Sets<A> {
     ghost use Rattle.std.specs.Prelude.{◌≡◌, ◌↔◌, IsTrue};
     ghost use Rattle.std.specs.Cmp.{partial_equiv_from_equiv};
@@ -147,7 +147,7 @@ impl<A: Allocator> Config<A> {
     }
 }
 
-/// Configurations are equal where all that they say is, wherever their sets lie in memory.
+/// Configurations are equal if all that they say is, wherever their sets lie in memory.
 impl<A: Allocator> PartialEq for Config<A> {
     ghost use Rattle.std.specs.Prelude.{◌≡◌, ◌↔◌, IsTrue};
     ghost use Rattle.std.specs.Cmp.{partial_equiv_from_equiv, on_equiv};
@@ -174,7 +174,7 @@ impl<A: Allocator> Eq for Config<A> {
     ghost laws = { on_equiv configuration_of configuration_equivalence };
 }
 
-/// Checked configurations are equal where the configurations, the depths and the profiles are: then
+/// Checked configurations are equal if the configurations, the depths and the profiles are: then
 /// their tables are, too.
 impl<A: Allocator> PartialEq for Checked<A> {
     ghost use Rattle.std.specs.Prelude.{◌≡◌, ◌↔◌, IsTrue};

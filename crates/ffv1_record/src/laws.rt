@@ -21,8 +21,8 @@ ghost use Rattle.ffv1_record.specs.Record.{IsRecord, record_of, body_of};
 
 use crate::laws;
 
-/// Bytes followed by four more have the remainder 0 exactly where the four are their parity, big
-/// end first; and the parity of bytes is 0 exactly where their remainder is.
+/// Bytes followed by four more have the remainder 0 exactly if the four are their parity, big
+/// end first; and the parity of bytes is 0 exactly if their remainder is.
 pub fn parity_makes_the_remainder_zero()
     ensures stored { (bytes : List ℕ) (n : ℕ) → AreBytes bytes → n < 2 ^ 32 →
         (remainder_of (bytes ++ digits 4 n) ≡ 0) ↔ (n ≡ parity_of bytes) }
@@ -45,6 +45,12 @@ pub fn bursts_change_the_remainder()
         length xs ≡ length ys → 0 < bits → bits < 2 ^ 32 →
         bit_xor (value xs (length xs)) (value ys (length ys)) ≡ bits * 2 ^ place →
         remainder_of xs ≡ remainder_of ys → ⊥ }
+{}
+
+/// Bytes of the remainder 0 behind others of the remainder 0 have it together.
+pub fn remainder_of_sound_bytes_in_a_row_is_zero()
+    ensures { (xs ys : List ℕ) → AreBytes ys → 4 ≤ length xs → 4 ≤ length ys →
+        remainder_of xs ≡ 0 → remainder_of ys ≡ 0 → remainder_of (xs ++ ys) ≡ 0 }
 {}
 
 /// What is written of a configuration is its record, whatever the configuration.
@@ -137,7 +143,7 @@ pub fn accepted_configuration_has_sound_parts()
 {}
 
 /// The first parameter that is not good, in the order of the record, is the fault that is answered:
-/// where the bytes code good symbols of all parameters before it, and then symbols that are a fault
+/// if the bytes code good symbols of all parameters before it, and then symbols that are a fault
 /// in its place. And the other way round: a reading of parameters that is refused has such a first
 /// one, and so has a record that is refused for nothing else.
 pub fn first_bad_parameter_is_the_fault()

@@ -8,7 +8,7 @@
 //! transition table, too, and says how much a decoder holds. `write_record` writes a `Checked`, and
 //! `read_record` gives it back; `parity` is a function of bytes alone. `laws` has what holds of the
 //! definitions. A `Checked` keeps its `Profile` and its depth, the bits of a sample, which are
-//! `Strict` and 8 where none is named: `Config::check_in` and `read_record_in` take them.
+//! `Strict` and 8 if none is named: `Config::check_in` and `read_record_in` take them.
 //!
 //! ```
 //! let mut sets = Sets::new(heap);

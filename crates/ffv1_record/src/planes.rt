@@ -2,7 +2,7 @@
 
 use crate::config::Colour;
 
-/// Colour, depth and chroma, as they stand in a record; the depth is 8 where that is 0.
+/// Colour, depth and chroma, as they stand in a record; the depth is 8 if that is 0.
 #[derive(Clone, Copy)]
 pub(crate) struct Planes {
     pub(crate) colour: Colour,

@@ -321,13 +321,13 @@ pub fn read_record<A: Allocator + Copy>(
 /// checked in a profile, which it keeps. `most` is the greatest depth that the profile `Wide`
 /// accepts, in bits a sample.
 ///
-/// Refuses with `Short` where there are fewer than 5 bytes; else with `Parity` where their
-/// remainder is not 0; else with `BadStart` where the first two are 65280 or more; else with the
+/// Refuses with `Short` if there are fewer than 5 bytes; else with `Parity` if their
+/// remainder is not 0; else with `BadStart` if the first two are 65280 or more; else with the
 /// first in the order of the bytes of `SymbolTooLong`, `Version` to `ExtraPlane`, `StateTable`,
-/// `Runs`, `Contexts` and `Sets`, each judged where its symbol has been read, the deltas after
-/// their last; else with the first that `Config::check_in` finds. `Depth` comes in `Strict` where
-/// the bits of a sample are not 0 or 8, and in `Wide` where they are not 0, 8, 9, 10, 12, 14 or 16,
-/// or are above `most`. `OutOfMemory` where a growth was refused before another fault was met: no
+/// `Runs`, `Contexts` and `Sets`, each judged when its symbol has been read, the deltas after
+/// their last; else with the first that `Config::check_in` finds. `Depth` comes in `Strict` if
+/// the bits of a sample are not 0 or 8, and in `Wide` if they are not 0, 8, 9, 10, 12, 14 or 16,
+/// or are above `most`. `OutOfMemory` if a growth was refused before another fault was met: no
 /// memory is taken before the first run of the first set was read, so a fault that stands before
 /// that comes first. Bytes between the parameters and the parity are ignored, and 0 bits of a
 /// sample mean 8. After a refusal the bytes are as they were, and may be read again.

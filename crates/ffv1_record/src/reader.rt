@@ -35,7 +35,7 @@ impl<'a> Model for RecordReader<'a> {
 }
 
 impl<'a> RecordReader<'a> {
-    /// Begins at the bytes. Refuses with `BadStart` exactly where their first two are 65280 or
+    /// Begins at the bytes. Refuses with `BadStart` exactly if their first two are 65280 or
     /// more.
     pub(crate) fn new(bytes: &'a [u8]) -> Result<RecordReader<'a>, RecordFault>
         ensures ok { IfOk result (λ r. Stands r bytes.now beginning) }

@@ -54,7 +54,7 @@ fn after_byte(remainder: u32, byte: u8) -> u32
 /// generator 0x104C11DB7, the highest bit of each byte first (RFC 9043, 4.3.2 and 4.9.3).
 ///
 /// Bytes that are followed by their parity, big end first, have the remainder 0, and the parity of
-/// bytes is 0 exactly where their remainder is.
+/// bytes is 0 exactly if their remainder is.
 pub fn parity(bytes: &[u8]) -> u32
     ensures { result ≡ parity_of bytes.now }
 {

@@ -43,7 +43,7 @@ impl<A: Allocator> Sets<A> {
         }
     }
 
-    /// One set more, as the last. Where a growth is refused nothing changes, and the set is
+    /// One set more, as the last. If a growth is refused nothing changes, and the set is
     /// dropped.
     pub fn push(&mut self, set: QuantSet<A>) -> Result<(), AllocError>
         ensures ok { OnOk result (self.new ≡ self.old ++ set ∷ []) }
@@ -85,7 +85,7 @@ impl<A: Allocator> Sets<A> {
         &self.sets
     }
 
-    /// The largest number of contexts of the sets, at most 32768; 0 where there is none.
+    /// The largest number of contexts of the sets, at most 32768; 0 if there is none.
     pub fn most_contexts(&self) -> u32
         ensures value { result ≡ most_contexts self.now }
         ensures few { result ≤ 32768 }

@@ -263,7 +263,7 @@ fn write_sealed<A: Allocator, B: Allocator>(
 
 /// The configuration record (RFC 9043, 4.3): the parameters by the full ending, and their parity,
 /// big end first. It has at most 6 bytes more than decisions, and `read_record` gives the
-/// configuration back. Refuses with `OutOfMemory` alone, where a growth was refused.
+/// configuration back. Refuses with `OutOfMemory` alone, if a growth was refused.
 pub fn write_record<A: Allocator, B: Allocator>(
     alloc: A,
     checked: &Checked<B>,

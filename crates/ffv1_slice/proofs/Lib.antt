@@ -7,6 +7,7 @@ pub mod CallsGive
 pub mod HeadValues
 pub mod Lengths
 pub mod WholeSlices
+pub mod SoundPayloads
 pub mod FoundHeads
 pub mod Sharing
 pub mod SpanOffsets

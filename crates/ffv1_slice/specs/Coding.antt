@@ -88,7 +88,7 @@ BeginsWithoutKey a n r = StandsAfter r a.table [] → RefusesKey r.bytes a.table
 abbrev pub StandsAtHead : Accepted → ℕ → Reading → Type 0
 StandsAtHead a n r = StandsAfter r a.table (key_steps n)
 
--- where it does, its bytes code this head; or they are refused so
+-- if it does, its bytes code this head; or they are refused so
 abbrev pub FindsHead : Accepted → ℕ → Reading → SliceHead → Type 0
 FindsHead a n r h = StandsAtHead a n r → CodesHead r.bytes a.table a.profile a.configuration n h
 

@@ -1,4 +1,4 @@
--- What stands after the coded bytes of a slice (RFC 9043, 4.9): slice_size, and where ec is 1
+-- What stands after the coded bytes of a slice (RFC 9043, 4.9): slice_size, and if ec is 1
 -- error_status and slice_crc_parity.
 use Rattle.std.specs.Prelude.{◌≡◌, ◌⊎◌, ◌<◌, ℕ, ◌+◌, ◌-◌, ◌*◌, Bool, true, false, List, [], ◌∷◌}
 use Rattle.std.specs.Prelude.{◌++◌, length, take, drop, slice_index}

@@ -51,7 +51,7 @@ abbrev pub is_aspect : ℕ → ℕ → Bool
 is_aspect num den =
     (nat_lt num 65536 && nat_lt den 65536) && (if num == 0 then den == 0 else nat_lt 0 den)
 
--- what two numbers say that are no aspect: none; but where both are below 65536, just one of them
+-- what two numbers say that are no aspect: none; but if both are below 65536, just one of them
 -- is 0, and at Wide they say what 0 and 0 say, that the aspect is unknown
 abbrev pub half_aspect : Profile → ℕ → ℕ → Option (ℕ × ℕ)
 half_aspect profile.Strict num den = None
@@ -79,7 +79,7 @@ pub record IsHead (p : Profile) (c : Configuration) (h : SliceHead) : Type 0 whe
   pub structure : h.structure < 4
   pub aspect : has_aspect p h.sar_num h.sar_den ≡ true
 
--- what a value must meet, by the value before it and itself, and the fault where it does not
+-- what a value must meet, by the value before it and itself, and the fault if it does not
 pub record Rule : Type 0 where
   pub passes : ℕ → ℕ → Bool
   pub fault : SliceFault

@@ -2,7 +2,7 @@
 use Rattle.std.specs.Prelude.{ℕ, ◌+◌, nat_lt, if◌then◌else◌}
 use Rattle.ffv1_record.specs.Configuration.{Configuration}
 
--- at most so many for a head of the profile: 98, 6 more for a third index, and 2 more where a
+-- at most so many for a head of the profile: 98, 6 more for a third index, and 2 more if a
 -- position may be above 15
 abbrev pub head_most : Configuration → ℕ
 head_most c =

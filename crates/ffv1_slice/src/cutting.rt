@@ -14,7 +14,7 @@ use crate::spans::Spans;
 use ffv1_record::{Checked, Config, laws as record_laws, parity};
 use std::alloc::Allocator;
 
-/// Why a payload is not cut, and in which slice. The slice is 0 where bytes are left before the
+/// Why a payload is not cut, and in which slice. The slice is 0 if bytes are left before the
 /// first.
 #[derive(Clone, Copy, Debug, PartialEq, Eq)]
 pub struct CutFault {
@@ -154,8 +154,8 @@ fn cut_from_end<A: Allocator, B: Allocator>(
 
 /// Cuts a payload into the slices of a configuration's pictures.
 ///
-/// The slices are found from the last to the first: `Footer` where there are fewer bytes than a
-/// footer, or fewer before it than its slice_size, then `Leftover` where bytes are left before the
+/// The slices are found from the last to the first: `Footer` if there are fewer bytes than a
+/// footer, or fewer before it than its slice_size, then `Leftover` if bytes are left before the
 /// first slice. With ec each slice, from the first, has the remainder 0, else `SliceParity`, and
 /// the status 0, else `SliceStatus`. After a refusal there are no spans. It takes no memory and
 /// gives none back, whatever it answers: the capacity stays.

@@ -14,7 +14,7 @@ const GREATEST_SIZE: usize = 16777215;
 
 /// The footer of coded bytes: their number in three bytes, big end first, and with ec a status of 0
 /// and the parity, by which the whole slice has the remainder 0. Answers `SliceTooLong` exactly
-/// where there are more than 16777215 bytes; with ec alone `OutOfMemory`, where the copy whose
+/// if there are more than 16777215 bytes; with ec alone `OutOfMemory`, if the copy whose
 /// parity it takes was refused memory.
 pub fn footer<A: Allocator>(alloc: A, coded: &[u8], ec: bool) -> Result<Footer, SliceFault>
     ensures ok { IfOk result (λ f. f ≡ footer_of ec coded.now) }

@@ -223,7 +223,7 @@ impl Grid {
         self.depth
     }
 
-    /// How many bytes a sample has where lines are handed over: 1 at a depth of 8, else 2.
+    /// How many bytes a sample has when lines are handed over: 1 at a depth of 8, else 2.
     pub fn sample_bytes(&self) -> usize
         ensures value { result ≡ sample_bytes self.now.depth }
         ensures least { 1 ≤ result }

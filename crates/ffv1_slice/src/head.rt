@@ -21,15 +21,15 @@ pub struct SliceHead {
     pub indexes: [u8; 3],
     /// How the picture is interlaced: 0 unknown, 1 top first, 2 bottom first, 3 progressive.
     pub structure: u8,
-    /// The width of a sample in the unit of its height, or 0 where the sample aspect is unknown. It
-    /// is unknown, too, where just one of the two numbers is 0, which a head of `Wide` may have.
+    /// The width of a sample in the unit of its height, or 0 if the sample aspect is unknown. It
+    /// is unknown, too, if just one of the two numbers is 0, which a head of `Wide` may have.
     pub sar_num: u16,
-    /// The height of a sample, or 0 where the sample aspect is unknown.
+    /// The height of a sample, or 0 if the sample aspect is unknown.
     pub sar_den: u16,
 }
 
 /// Reads the key of a slice: the first begins with a keyframe of 1 in a state of its own, and the
-/// others have none. Answers `NotKey` exactly where that of the first is 0, after which the
+/// others have none. Answers `NotKey` exactly if that of the first is 0, after which the
 /// decoder then stands. Of any other slice nothing is read.
 pub fn get_key<A: Allocator>(
     decoder: &mut RangeDecoder<'_>,
@@ -57,7 +57,7 @@ pub fn get_key<A: Allocator>(
 
 /// Puts the key of a slice: a keyframe of 1 for the first, and nothing for the others.
 ///
-/// Answers `OutOfMemory` where the encoder was refused memory, now that its bytes grow or before;
+/// Answers `OutOfMemory` if the encoder was refused memory, now that its bytes grow or before;
 /// then it has failed for good.
 pub fn put_key<A: Allocator, B: Allocator>(
     encoder: &mut RangeEncoder<A>,
@@ -124,9 +124,9 @@ fn read_head<A: Allocator>(
 /// Reads the head of a slice, whose number in raster order gives its place, by 32 fresh states.
 ///
 /// Of a decoder that stands after the key of its slice, what is read is the one head that its
-/// bytes code. Where they code none, the answer is the first of `SymbolTooLong`, `Place`,
+/// bytes code. If they code none, the answer is the first of `SymbolTooLong`, `Place`,
 /// `SetIndex`, `Structure` and `Aspect` in the order of the symbols, each after its own symbol, and
-/// `Aspect` after both its numbers; the decoder then stands after that symbol. Where just one of
+/// `Aspect` after both its numbers; the decoder then stands after that symbol. If just one of
 /// these is 0, that is `Aspect` at `Strict`, and read as it is at `Wide`. It takes no memory.
 pub fn get_head<A: Allocator>(
     decoder: &mut RangeDecoder<'_>,
@@ -155,7 +155,7 @@ pub fn get_head<A: Allocator>(
 /// without an extra plane, a structure of 0 to 3, and aspect numbers that are both 0 or neither; at
 /// `Wide` just one of them may be 0, too.
 ///
-/// Answers `OutOfMemory` where the encoder was refused memory, now that its bytes grow or before;
+/// Answers `OutOfMemory` if the encoder was refused memory, now that its bytes grow or before;
 /// then it has failed for good.
 pub fn put_head<A: Allocator, B: Allocator>(
     encoder: &mut RangeEncoder<A>,

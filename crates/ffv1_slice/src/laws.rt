@@ -35,7 +35,7 @@ pub fn payload_has_one_cutting()
 {}
 
 /// A payload is cut in exactly one way: to the offsets of its slices, or it is refused, for one
-/// fault in one slice. Where it has a cutting whose slices are sound, these are its offsets, and it
+/// fault in one slice. If it has a cutting whose slices are sound, these are its offsets, and it
 /// is not refused.
 pub fn payload_is_cut_in_one_way()
     ensures some { (c : Configuration) (payload : List ℕ) →
@@ -48,6 +48,14 @@ pub fn payload_is_cut_in_one_way()
     ensures refused { (c : Configuration) (payload : List ℕ) (spans : ℕ → ℕ) (f : CutFault) →
         IsRefused c payload f → Cuts c payload spans → ⊥ }
 {}
+
+/// With parity, a payload that is a row of sound slices has the remainder 0 as a whole.
+pub fn payload_of_sound_slices_has_remainder_zero()
+    ensures { (c : Configuration) (payload : List ℕ) (spans : ℕ → ℕ) → AreBytes payload →
+        c.ec ≡ true → Cuts c payload spans → remainder_of payload ≡ 0 }
+{
+    record_laws::remainder_of_sound_bytes_in_a_row_is_zero();
+}
 
 /// Coded bytes with their footers, one slice's after the other's, are cut where they were joined.
 pub fn slices_are_cut_where_joined()
@@ -124,7 +132,7 @@ pub fn accepted_slices_share_nothing()
     record_laws::accepted_configuration_is_in_range();
 }
 
-/// The parts of a side have no sample in common exactly where each inner edge is a multiple of the
+/// The parts of a side have no sample in common exactly if each inner edge is a multiple of the
 /// factor.
 pub fn sides_share_nothing_at_multiples()
     ensures none { (s : Side) (k : ℕ) → 0 < s.count → s.count ≤ s.size →

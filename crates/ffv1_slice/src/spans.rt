@@ -43,7 +43,7 @@ impl<A: Allocator> Model for Spans<A> {
 }
 
 impl<A: Allocator> Spans<A> {
-    /// No slices, and room for 1025 offsets. Answers `OutOfMemory` where that was refused.
+    /// No slices, and room for 1025 offsets. Answers `OutOfMemory` if that was refused.
     pub fn new(alloc: A) -> Result<Spans<A>, SliceFault>
         ensures ok { IfOk result (λ s. s ≡ record {
           offsets = [];
@@ -61,7 +61,7 @@ impl<A: Allocator> Spans<A> {
         })
     }
 
-    /// Where the coded bytes of a slice begin and end, or None where there is no such slice.
+    /// Where the coded bytes of a slice begin and end, or None if there is no such slice.
     pub fn span(&self, slice: usize) -> Option<(usize, usize)>
         ensures value { result ≡ span_of self.now slice }
         ensures room { IsCut self.now }

@@ -12,7 +12,7 @@ ghost use Rattle.ffv1_codec.specs.Handed.{HandsFinishes};
 ghost use Rattle.ffv1_codec.specs.Internal.Buffers.{HoldBits, KeepsLengths, length_of_lines};
 ghost use Rattle.ffv1_codec.specs.SliceList.{bits_of};
 ghost use Rattle.ffv1_codec.specs.Headline.{Headline};
-ghost use Rattle.ffv1_codec.specs.Damage.{IsDamaged};
+ghost use Rattle.ffv1_codec.specs.Damage.{HasBurst, IsDamaged};
 ghost use Rattle.ffv1_codec.specs.Decoding.{in_slice};
 ghost use Rattle.ffv1_codec.specs.OwnFaults.{CountsSink, IsOwn};
 ghost use Rattle.ffv1_codec.specs.Internal.Opened.{IsCutOf, coded_by};
@@ -296,7 +296,9 @@ impl<A: Allocator> FrameDecoder<A> {
     /// refused. That decision is looked at, and counted nowhere.
     ///
     /// With parity, a payload that differs from a good one within 32 neighbouring bits of one
-    /// slice, its slice_size aside, is `SliceParity` in that slice, before any line.
+    /// slice, its slice_size aside, is `SliceParity` in that slice, before any line. Wherever such
+    /// bits lie in the payload, in a slice_size and across slices too, it is refused as it is cut,
+    /// by `Footer`, `Leftover`, `SliceParity` or `SliceStatus`, before any line.
     ///
     /// Also before a fault, the sink is handed nothing but lines that are made of what the bytes of
     /// the slices code.
@@ -314,6 +316,10 @@ impl<A: Allocator> FrameDecoder<A> {
             IsDamaged self.old.accepted sent payload.now spans slice →
             (result ≡ Err (in_slice fault.SliceParity slice)) × (self.new.tally ≡ no_tally)
             × (sink.new ≡ sink.old) }
+        ensures burst { (sent : List ℕ) → HasBurst self.old.accepted sent payload.now →
+            (f : CutFault) × IsRefused self.old.accepted.configuration payload.now f
+            × (result ≡ Err (cut_fault f)) × (self.new.tally ≡ no_tally)
+            × (sink.new ≡ sink.old) }
         ensures same { self.new ≡ record self.old { tally = self.new.tally } }
         ensures cost { HasCost self.old.accepted self.new.tally }
         ensures handed { HandsFinishes S.takes S.refuses self.old.accepted payload.now sink.old
@@ -322,6 +328,7 @@ impl<A: Allocator> FrameDecoder<A> {
         laws::answer::headline_holds_for_each_answer::<S>();
         laws::frame_length_follows_from_residuals();
         laws::answer::damage_is_found_by_parity::<S>();
+        laws::answer::damage_anywhere_is_refused::<S>();
         laws::answer::frame_cost_is_near_its_weight::<S>();
         laws::answer::sink_is_handed_only_coded_lines::<S>();
         let _table = self.checked.table();

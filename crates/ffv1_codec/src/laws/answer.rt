@@ -17,7 +17,7 @@ ghost use Rattle.ffv1_codec.specs.SliceList.{Said};
 ghost use Rattle.ffv1_codec.specs.Frame.{CodesPicture};
 ghost use Rattle.ffv1_codec.specs.Lines.{lines_of};
 ghost use Rattle.ffv1_codec.specs.Answer.{Answers, decisions_in, decided_by, no_tally};
-ghost use Rattle.ffv1_codec.specs.Answer.{HasDecided, slices_in};
+ghost use Rattle.ffv1_codec.specs.Answer.{HasDecided, slices_in, cut_fault};
 ghost use Rattle.ffv1_codec.specs.Cost.{Costs, HasCost};
 ghost use Rattle.ffv1_codec.specs.Handed.{HandsFinishes};
 ghost use Rattle.ffv1_codec.specs.Outcome.{CountOf, FaultsOf, RefusesNext, TakesBefore};
@@ -26,9 +26,10 @@ ghost use Rattle.ffv1_record.specs.declared.checked.Held.{Held};
 ghost use Rattle.ffv1_codec.specs.Bounds.{most_decisions, most_by_bytes, most_by_standard};
 ghost use Rattle.ffv1_codec.specs.Headline.{StandsOnce, AreShort, DecodesTo, Headline};
 ghost use Rattle.ffv1_codec.specs.Headline.{StandsAtEachPlace};
-ghost use Rattle.ffv1_slice.specs.Cutting.{Cuts};
+ghost use Rattle.ffv1_slice.specs.Cutting.{Cuts, IsRefused};
+ghost use Rattle.ffv1_slice.specs.declared.cutting.CutFault.{CutFault};
 ghost use Rattle.ffv1_codec.specs.declared.fault.CodecFault.TheVariants as codec_fault;
-ghost use Rattle.ffv1_codec.specs.Damage.{IsBurst};
+ghost use Rattle.ffv1_codec.specs.Damage.{IsBurst, HasBurst};
 ghost use Rattle.ffv1_codec.specs.DecodeFaults.{is_decode_fault};
 ghost use Rattle.ffv1_codec.specs.Decoding as decoding;
 ghost use Rattle.ffv1_codec.specs.Decoding.{State, Decodes, Offers, in_slice};
@@ -215,6 +216,20 @@ pub fn damage_is_found_by_parity<S: LineSink>()
 {
     record_laws::bursts_change_the_remainder();
     slice_laws::payload_is_cut_in_one_way();
+}
+
+/// With parity, a payload that differs from a good one within 32 neighbouring bits, wherever these
+/// lie, also in sizes and across the borders of slices, is refused as it is cut, before any line
+/// and any decision.
+pub fn damage_anywhere_is_refused<S: LineSink>()
+    ensures { (a : Accepted) (sent payload : List ℕ) (old new : S) (tally : Tally)
+        (result : Result Said FrameFault) → AreBytes payload → HasBurst a sent payload →
+        Answers S.takes S.refuses a payload old new tally result →
+        (f : CutFault) × IsRefused a.configuration payload f × (result ≡ Err (cut_fault f))
+        × (tally ≡ no_tally) × (new ≡ old) }
+{
+    record_laws::bursts_change_the_remainder();
+    slice_laws::payload_of_sound_slices_has_remainder_zero();
 }
 
 /// What a call of the decoder is for, from its answer, its bytes, and what it holds: one statement,

@@ -32,6 +32,12 @@ returns-clause-damaged g c sent spans slice is =
     c.args.sink.now c.decode_held.new.sink c.decode_held.new.self.tally c.decode_held.result
     is.bytes (λ k. omega (arith, c.type_inv.payload k)) is.good is.burst c.decode_held.ensures.exact
 
+pub returns-clause-burst : goal.returns-clause-burst
+returns-clause-burst g c sent is =
+    c.damage_anywhere_is_refused.ensures c.args.self.now.accepted sent c.args.payload.now
+    c.args.sink.now c.decode_held.new.sink c.decode_held.new.self.tally c.decode_held.result
+    (λ k. omega (arith, c.type_inv.payload k)) is c.decode_held.ensures.exact
+
 pub returns-clause-cost : goal.returns-clause-cost
 returns-clause-cost g c =
     c.frame_cost_is_near_its_weight.ensures.answer c.args.self.now.accepted c.args.payload.now
