@@ -1,5 +1,5 @@
 -- The frames of a movi.
-use Rattle.std.proofs.Common.{◌≡◌, ℕ, suc, zero, ◌+◌, ◌-◌, ◌%◌, ◌≤◌, ◌<◌, ◌==◌, nat_lt, Bool, true, false, Option, Some, None, Result, Ok, Err, List, [], ◌∷◌, ◌++◌, length, map, ap, ◌∙◌, sym, subst, arith, refl, append_assoc, append-nil, length-append}
+use Rattle.std.proofs.Common.{codes, ◌≡◌, ℕ, suc, zero, ◌+◌, ◌-◌, ◌%◌, ◌≤◌, ◌<◌, ◌==◌, nat_lt, Bool, true, false, Option, Some, None, Result, Ok, Err, List, [], ◌∷◌, ◌++◌, length, map, ap, ◌∙◌, sym, subst, arith, refl, append_assoc, append-nil, length-append}
 use Rattle.std.proofs.lemmas.Bool.{eqb-false, ltb-false, le-ltb, ne_eqb}
 use Rattle.std.proofs.lemmas.Grind.{flat_map-append}
 use Rattle.byteorder.specs.Endian.{little_number}
@@ -13,21 +13,21 @@ use Rattle.ffv1_avi.specs.Places.{extent_of, first_place, frame_at}
 use Rattle.ffv1_reads.specs.Reads.{Kept, Reading, Stop, given, passed, read_on, ◌>>=◌}
 use Rattle.ffv1_avi.specs.Padding.{content, padded}
 use Rattle.ffv1_reads.specs.Head.{limit}
-use Rattle.ffv1_avi.specs.Walk.{entry_read, resumed, visited, walk}
-use Rattle.ffv1_avi.proofs.ListWalks.{Complete, Ended, IsPassed, Run, Sound, Taking, entry_complete, walk_complete, walk_sound}
+use Rattle.ffv1_avi.specs.Walk.{entry_in, is_name, resumed, visited, walk_in}
+use Rattle.ffv1_avi.proofs.ListWalks.{Complete, Ended, IsPassed, Run, Sound, Stands, Taking, entry_complete_in, walk_complete_in, walk_sound_in}
 use Rattle.ffv1_avi.proofs.Fields.{skipped_passed}
 use Rattle.ffv1_avi.proofs.PassedBytes.{content_complete, content_sound, skip_complete}
 use Rattle.ffv1_reads.proofs.Results.{read_on_ok}
 use Rattle.ffv1_avi.proofs.FrameTurns.{frames_step}
 use Rattle.ffv1_avi.proofs.Moves.{frame_step, moved_first, movi_empty}
 use Rattle.ffv1_reads.proofs.Results.{ok_is, some_is}
-use Rattle.ffv1_avi.proofs.ChunkByChunk.{walk_step}
+use Rattle.ffv1_avi.proofs.ChunkByChunk.{walk_step_in}
 use Rattle.ffv1_avi.specs.declared.place.Names.{Names}
-use Rattle.ffv1_avi.specs.Names.{is_barred}
+use Rattle.ffv1_avi.specs.Names.{bars, is_barred}
 use Rattle.ffv1_avi.specs.Names.{is_frame}
 use Rattle.ffv1_avi.specs.Chunks.{barred_in}
 use Rattle.ffv1_avi.specs.Chunks.{frame_in}
-use Rattle.ffv1_avi.specs.declared.place.Names.TheVariants.{Any}
+use Rattle.ffv1_avi.specs.declared.place.Names.TheVariants.{Any, Closed}
 
 -- a chunk that is no list and no frame
 abbrev pub TakesMovi : Names → Taking (Unit {0})
@@ -55,6 +55,18 @@ movi_sound names s e text t rest listed h = on_names (is_barred names e.name) (i
 pub movi_complete : (names : Names) → Complete (visit_movi names) (TakesMovi names)
 unfolding visit_movi
 movi_complete names s e bytes padding t rest listed long odd takes = rw (takes.0, takes.1) (ap (λ z. read_on z (λ _. given (tt, None))) (skip_complete e.size bytes padding rest long odd))
+
+-- what may stand in movi is not barred
+pub stands_in : (names : Names) (name : List ℕ) → is_barred names name ≡ false → bars names name ≡ false
+stands_in Any name h = refl
+stands_in (Closed stream streams) name h = on_list (is_name name (codes "LIST")) refl
+  where
+    on_list : (a : Bool) → is_name name (codes "LIST") ≡ a → bars (Closed stream streams) name ≡ false
+    on_list true p = rw p refl
+    on_list false p = rw (p, h) refl
+
+pub movi_stands : (names : Names) → Stands (bars names) (TakesMovi names)
+movi_stands names s name bytes t takes = stands_in names name takes.0
 
 -- where the walk of movi stops there is a frame
 pub record IsFrame (names : Names) (e : Entry) (text : List ℕ) (y : ℕ × ℕ) (rest : List ℕ) : Type 0 where
@@ -123,8 +135,8 @@ pub movi_read_sound : (names : Names) (left : ℕ) (text : List ℕ) (w : Option
 unfolding movi_found
 movi_read_sound names left text w h =
     let first = read_on_ok (movi_found names left text) movi_frame w h in
-    let second = read_on_ok (walk (visit_movi names) left tt text) (λ p. given p.1) first.0 first.1 in
-    let walked = walk_sound (visit_movi names) (TakesMovi names) (movi_sound names) left tt text second.0 second.1 in
+    let second = read_on_ok (walk_in (bars names) (visit_movi names) left tt text) (λ p. given p.1) first.0 first.1 in
+    let walked = walk_sound_in (bars names) (visit_movi names) (TakesMovi names) (movi_sound names) left tt text second.0 second.1 in
     let same = ok_is (second.0.0.1, second.0.1) first.0 second.2 in
     let Q : Option (ℕ × ℕ) × List ℕ → Type 0 = λ z. movi_frame z.0 z.1 ≡ Ok w in
     on_end second.0.0.1 second.0.1 walked.chunks walked.behind walked.after walked.text_is walked.each walked.long walked.run walked.end (subst Q (sym same) first.2)
@@ -346,8 +358,8 @@ pub movi_passed : (names : Names) (c : Chunk) (more : ℕ) (rest : List ℕ) →
 unfolding movi_found
 movi_passed names c more rest is list named =
     let one : chunks_text (c ∷ []) ≡ chunk_text c = append-nil (chunk_text c) in
-    let walked = walk_complete (visit_movi names) (TakesMovi names) (movi_complete names) (c ∷ []) tt tt more rest (is, tt) (tt, (list, named), refl) in
-    let alone : walk (visit_movi names) (length (chunk_text c) + more) tt (chunk_text c ++ rest) ≡ walk (visit_movi names) more tt rest = rw one at walked in
+    let walked = walk_complete_in (bars names) (visit_movi names) (TakesMovi names) (movi_stands names) (movi_complete names) (c ∷ []) tt tt more rest (is, tt) (tt, (list, named), refl) in
+    let alone : walk_in (bars names) (visit_movi names) (length (chunk_text c) + more) tt (chunk_text c ++ rest) ≡ walk_in (bars names) (visit_movi names) more tt rest = rw one at walked in
     ap (λ z. read_on z (λ p. given p.1)) alone
 
 -- a frame is read
@@ -361,15 +373,15 @@ movi_there names c more rest is list named short some =
     let e : Entry = record { name = c.name; size = size; left = left - (8 + padded size) } in
     let behind : e.left ≡ more = rw (← counted) (omega (arith, total)) in
     let whole : chunk_text c ++ rest ≡ (c.name ++ c.size) ++ ((c.bytes ++ c.padding) ++ rest) = regrouped c.name c.size c.bytes c.padding rest in
-    let entry : entry_read left (chunk_text c ++ rest) ≡ Ok (Some e, (c.bytes ++ c.padding) ++ rest) =
-    ap (entry_read left) whole ∙ entry_complete left c.name c.size ((c.bytes ++ c.padding) ++ rest) is.named is.sized (rw (← counted) (omega (arith, total))) (λ l. rw is.counted (is.listed l)) in
+    let entry : entry_in (bars names) left (chunk_text c ++ rest) ≡ Ok (Some e, (c.bytes ++ c.padding) ++ rest) =
+    ap (entry_in (bars names) left) whole ∙ entry_complete_in (bars names) left c.name c.size ((c.bytes ++ c.padding) ++ rest) (stands_in names c.name list) is.named is.sized (rw (← counted) (omega (arith, total))) (λ l. rw is.counted (is.listed l)) in
     let fits : nat_lt limit size ≡ false = le-ltb _ _ (rw is.counted short) in
     let not_none : (size == 0) ≡ false = ne_eqb _ _ (λ z. omega (arith, some, is.counted, z)) in
     let stop : visit_movi names tt e ((c.bytes ++ c.padding) ++ rest) ≡ Ok ((tt, Some (size, e.left)), (c.bytes ++ c.padding) ++ rest) = rw (list, named, fits, not_none) refl in
     let read : content Kept size ((c.bytes ++ c.padding) ++ rest) ≡ Ok (c.bytes, rest) = content_complete Kept size c.bytes c.padding rest counted (rw is.counted is.padded) in
-    ap (λ z. read_on (read_on z (λ p. given p.1)) movi_frame) (walk_step (visit_movi names) left tt (chunk_text c ++ rest))
-    ∙ ap (λ z. read_on (read_on (read_on z (visited (visit_movi names) (walk (visit_movi names)) tt)) (λ p. given p.1)) movi_frame) entry
-    ∙ ap (λ z. read_on (read_on (read_on z (λ p. resumed (walk (visit_movi names) e.left) p.0 p.1)) (λ p. given p.1)) movi_frame) stop
+    ap (λ z. read_on (read_on z (λ p. given p.1)) movi_frame) (walk_step_in (bars names) (visit_movi names) left tt (chunk_text c ++ rest))
+    ∙ ap (λ z. read_on (read_on (read_on z (visited (visit_movi names) (walk_in (bars names) (visit_movi names)) tt)) (λ p. given p.1)) movi_frame) entry
+    ∙ ap (λ z. read_on (read_on (read_on z (λ p. resumed (walk_in (bars names) (visit_movi names) e.left) p.0 p.1)) (λ p. given p.1)) movi_frame) stop
     ∙ ap (λ z. read_on z (λ bytes. given (Some (bytes, e.left)))) read
     ∙ rw behind refl
   where

@@ -8,10 +8,10 @@ use Rattle.ffv1_reads.specs.Reads.{Stop}
 use Rattle.ffv1_avi.specs.Chunks.{AreChunks, Chunk, IsChunk, chunk_text, chunks_text}
 use Rattle.ffv1_avi.specs.Padding.{padded}
 use Rattle.ffv1_reads.specs.Reads.{read_on}
-use Rattle.ffv1_avi.specs.Walk.{Visit, entry_judged, entry_read, is_name, resumed, visited, walk, walk_up_to}
+use Rattle.ffv1_avi.specs.Walk.{Visit, bars_none, entry_in, entry_judged, entry_read, is_name, resumed, visited, walk, walk_in, walk_up_to}
 use Rattle.ffv1_reads.proofs.Results.{cut_back, cut_front}
 use Rattle.ffv1_reads.proofs.Results.{ok_is, some_is}
-use Rattle.ffv1_avi.proofs.ChunkByChunk.{walk_step}
+use Rattle.ffv1_avi.proofs.ChunkByChunk.{walk_step_in}
 
 -- what a state becomes by a chunk of this name and these bytes
 abbrev pub Taking : Type 0 → Type 1
@@ -32,13 +32,14 @@ pub record IsEntry (left : ℕ) (text : List ℕ) (e : Entry) (rest : List ℕ) 
   pub fits : e.left + (8 + padded e.size) ≡ left
   pub listed : is_name e.name (codes "LIST") ≡ true → 4 ≤ e.size
 
-judged_sound : (left : ℕ) (name size text rest : List ℕ) (e : Entry) (a b : Bool) → nat_lt left (8 + padded (little_number 4 size)) ≡ a → (is_name name (codes "LIST") && nat_lt (little_number 4 size) 4) ≡ b →
-    length name ≡ 4 → length size ≡ 4 → entry_judged left name (little_number 4 size) text ≡ Ok (Some e, rest) → IsEntry left ((name ++ size) ++ text) e rest
-judged_sound left name size text rest e true b p q n z h = absurd (cc (rw p at h))
-judged_sound left name size text rest e false true p q n z h = absurd (cc (rw (p, q) at h))
-judged_sound left name size text rest e false false p q n z h =
+judged_sound : (barred : List ℕ → Bool) (left : ℕ) (name size text rest : List ℕ) (e : Entry) (a b d : Bool) → barred name ≡ d → nat_lt left (8 + padded (little_number 4 size)) ≡ a → (is_name name (codes "LIST") && nat_lt (little_number 4 size) 4) ≡ b →
+    length name ≡ 4 → length size ≡ 4 → entry_judged barred left name (little_number 4 size) text ≡ Ok (Some e, rest) → IsEntry left ((name ++ size) ++ text) e rest
+judged_sound barred left name size text rest e a b true t p q n z h = absurd (cc (rw t at h))
+judged_sound barred left name size text rest e true b false t p q n z h = absurd (cc (rw (t, p) at h))
+judged_sound barred left name size text rest e false true false t p q n z h = absurd (cc (rw (t, p, q) at h))
+judged_sound barred left name size text rest e false false false t p q n z h =
     let made : Entry = record { name = name; size = little_number 4 size; left = left - (8 + padded (little_number 4 size)) } in
-    let found : Ok (Some made, text) ≡ Ok (Some e, rest) = rw (p, q) at h in
+    let found : Ok (Some made, text) ≡ Ok (Some e, rest) = rw (t, p, q) at h in
     let parts = ok_is (Some made, text) (Some e, rest) found in
     let same : made ≡ e = some_is made e (ap (λ (z : Option Entry × List ℕ). z.0) parts) in
     let behind : text ≡ rest = ap (λ (z : Option Entry × List ℕ). z.1) parts in
@@ -50,11 +51,11 @@ judged_sound left name size text rest e false false p q n z h =
     subst Q behind (subst P same here)
 
 -- the next header of a list, or its end
-pub entry_sound : (left : ℕ) (text : List ℕ) (e : Entry) (rest : List ℕ) → entry_read left text ≡ Ok (Some e, rest) → IsEntry left text e rest
-unfolding entry_read
-entry_sound left text e rest h = on_left (left == 0) (nat_lt left 8) (nat_lt (length text) 8) refl refl refl h
+pub entry_sound : (barred : List ℕ → Bool) (left : ℕ) (text : List ℕ) (e : Entry) (rest : List ℕ) → entry_in barred left text ≡ Ok (Some e, rest) → IsEntry left text e rest
+unfolding entry_in
+entry_sound barred left text e rest h = on_left (left == 0) (nat_lt left 8) (nat_lt (length text) 8) refl refl refl h
   where
-    on_left : (a b c : Bool) → (left == 0) ≡ a → nat_lt left 8 ≡ b → nat_lt (length text) 8 ≡ c → entry_read left text ≡ Ok (Some e, rest) → IsEntry left text e rest
+    on_left : (a b c : Bool) → (left == 0) ≡ a → nat_lt left 8 ≡ b → nat_lt (length text) 8 ≡ c → entry_in barred left text ≡ Ok (Some e, rest) → IsEntry left text e rest
     on_left true b c p q r h =
         let none : Ok (None, text) ≡ Ok (Some e, rest) = rw p at h in
         let same : None ≡ Some e = ap (λ (z : Option Entry × List ℕ). z.0) (ok_is (None, text) (Some e, rest) none) in
@@ -69,28 +70,29 @@ entry_sound left text e rest h = on_left (left == 0) (nat_lt left 8) (nat_lt (le
         let name : length (take 4 head) ≡ 4 = length-take 4 head ∙ (omega (arith, long)) in
         let size : length (drop 4 head) ≡ 4 = length-drop 4 head ∙ (omega (arith, long)) in
         let P : List ℕ → Type 0 = λ z. IsEntry left z e rest in
-        subst P whole (judged_sound left (take 4 head) (drop 4 head) (drop 8 text) rest e _ _ refl refl name size (rw (p, q, r) at h))
+        subst P whole (judged_sound barred left (take 4 head) (drop 4 head) (drop 8 text) rest e _ _ _ refl refl refl name size (rw (p, q, r) at h))
 
-pub entry_none : (left : ℕ) (text rest : List ℕ) → entry_read left text ≡ Ok (None, rest) → (left ≡ 0) × (text ≡ rest)
-unfolding entry_read
-entry_none left text rest h = on_left (left == 0) (nat_lt left 8) (nat_lt (length text) 8) refl refl refl h
+pub entry_none : (barred : List ℕ → Bool) (left : ℕ) (text rest : List ℕ) → entry_in barred left text ≡ Ok (None, rest) → (left ≡ 0) × (text ≡ rest)
+unfolding entry_in
+entry_none barred left text rest h = on_left (left == 0) (nat_lt left 8) (nat_lt (length text) 8) refl refl refl h
   where
-    on_judged : (n : ℕ) (name more : List ℕ) (a b : Bool) → nat_lt left (8 + padded n) ≡ a → (is_name name (codes "LIST") && nat_lt n 4) ≡ b → entry_judged left name n more ≡ Ok (None, rest) → ⊥
-    on_judged n name more true b p q h = absurd (cc (rw p at h))
-    on_judged n name more false true p q h = absurd (cc (rw (p, q) at h))
-    on_judged n name more false false p q h =
+    on_judged : (n : ℕ) (name more : List ℕ) (a b d : Bool) → barred name ≡ d → nat_lt left (8 + padded n) ≡ a → (is_name name (codes "LIST") && nat_lt n 4) ≡ b → entry_judged barred left name n more ≡ Ok (None, rest) → ⊥
+    on_judged n name more a b true t p q h = absurd (cc (rw t at h))
+    on_judged n name more true b false t p q h = absurd (cc (rw (t, p) at h))
+    on_judged n name more false true false t p q h = absurd (cc (rw (t, p, q) at h))
+    on_judged n name more false false false t p q h =
         let made : Entry = record { name = name; size = n; left = left - (8 + padded n) } in
-        let found : Ok (Some made, more) ≡ Ok (None, rest) = rw (p, q) at h in
+        let found : Ok (Some made, more) ≡ Ok (None, rest) = rw (t, p, q) at h in
         let same : Some made ≡ None = ap (λ (z : Option Entry × List ℕ). z.0) (ok_is (Some made, more) (None, rest) found) in
         absurd (cc)
 
-    on_left : (a b c : Bool) → (left == 0) ≡ a → nat_lt left 8 ≡ b → nat_lt (length text) 8 ≡ c → entry_read left text ≡ Ok (None, rest) → (left ≡ 0) × (text ≡ rest)
+    on_left : (a b c : Bool) → (left == 0) ≡ a → nat_lt left 8 ≡ b → nat_lt (length text) 8 ≡ c → entry_in barred left text ≡ Ok (None, rest) → (left ≡ 0) × (text ≡ rest)
     on_left true b c p q r h =
         let none : Ok (None, text) ≡ Ok (None, rest) = rw p at h in
         (eqb-true left 0 p, ap (λ (z : Option Entry × List ℕ). z.1) (ok_is (None, text) (None, rest) none))
     on_left false true c p q r h = absurd (cc (rw (p, q) at h))
     on_left false false true p q r h = absurd (cc (rw (p, q, r) at h))
-    on_left false false false p q r h = absurd (on_judged (little_number 4 (drop 4 (take 8 text))) (take 4 (take 8 text)) (drop 8 text) _ _ refl refl (rw (p, q, r) at h))
+    on_left false false false p q r h = absurd (on_judged (little_number 4 (drop 4 (take 8 text))) (take 4 (take 8 text)) (drop 8 text) _ _ _ refl refl refl (rw (p, q, r) at h))
 
 -- a visit that passes a chunk has taken its bytes and its padding
 pub record IsPassed {S : Type 0} (T : Taking S) (s : S) (e : Entry) (t : S) (text rest : List ℕ) : Type 0 where
@@ -157,23 +159,23 @@ walked_stop visit T left s text e middle t y rest entry stop =
 abbrev WalkedTo : {S Y : Type 0} → Visit S Y → Taking S → ℕ → S → List ℕ → (S × Option Y) × List ℕ → Type 0
 WalkedTo visit T left s text z = Walked visit T left s text z.0.0 z.0.1 z.1
 
-walk_up_to_sound : {S Y : Type 0} (visit : Visit S Y) (T : Taking S) → Sound visit T → (most left : ℕ) (s : S) (text : List ℕ) (z : (S × Option Y) × List ℕ) → left ≤ most →
-    walk_up_to visit most left s text ≡ Ok z → WalkedTo visit T left s text z
+walk_up_to_sound : {S Y : Type 0} (barred : List ℕ → Bool) (visit : Visit S Y) (T : Taking S) → Sound visit T → (most left : ℕ) (s : S) (text : List ℕ) (z : (S × Option Y) × List ℕ) → left ≤ most →
+    walk_up_to barred visit most left s text ≡ Ok z → WalkedTo visit T left s text z
 unfolding walk_up_to
-walk_up_to_sound {S = S} {Y = Y} visit T sound zero left s text z enough h =
+walk_up_to_sound {S = S} {Y = Y} barred visit T sound zero left s text z enough h =
     let none : left ≡ 0 = omega (arith, enough) in
     let P : (S × Option Y) × List ℕ → Type 0 = λ z. WalkedTo visit T left s text z in
     subst P (ok_is ((s, None), text) z h) (walked_none visit T left s text none)
-walk_up_to_sound {S = S} {Y = Y} visit T sound (suc most) left s text z enough h =
-    on_entry (λ l u more z. walk_up_to_sound visit T sound most l u more z) (entry_read left text) refl h
+walk_up_to_sound {S = S} {Y = Y} barred visit T sound (suc most) left s text z enough h =
+    on_entry (λ l u more z. walk_up_to_sound barred visit T sound most l u more z) (entry_in barred left text) refl h
   where
     Again : Type 0
-    Again = (l : ℕ) (u : S) (more : List ℕ) (z : (S × Option Y) × List ℕ) → l ≤ most → walk_up_to visit most l u more ≡ Ok z → WalkedTo visit T l u more z
+    Again = (l : ℕ) (u : S) (more : List ℕ) (z : (S × Option Y) × List ℕ) → l ≤ most → walk_up_to barred visit most l u more ≡ Ok z → WalkedTo visit T l u more z
 
     P : (S × Option Y) × List ℕ → Type 0
     P z = WalkedTo visit T left s text z
 
-    on_visit : Again → (e : Entry) (middle : List ℕ) → IsEntry left text e middle → (v : Result ((S × Option Y) × List ℕ) Stop) → visit s e middle ≡ v → read_on v (λ p. resumed (walk_up_to visit most e.left) p.0 p.1) ≡ Ok z → P z
+    on_visit : Again → (e : Entry) (middle : List ℕ) → IsEntry left text e middle → (v : Result ((S × Option Y) × List ℕ) Stop) → visit s e middle ≡ v → read_on v (λ p. resumed (walk_up_to barred visit most e.left) p.0 p.1) ≡ Ok z → P z
     on_visit again e middle entry (Err f) is k = absurd (cc)
     on_visit again e middle entry (Ok ((t, Some y), rest)) is k = subst P (ok_is ((t, Some y), rest) z k) (walked_stop visit T left s text e middle t y rest entry is)
     on_visit again e middle entry (Ok ((u, None), more)) is k =
@@ -181,22 +183,26 @@ walk_up_to_sound {S = S} {Y = Y} visit T sound (suc most) left s text z enough h
         let passed = sound s e middle u more entry.listed is in
         walked_more visit T left s u text middle more e z.0.0 z.0.1 z.1 entry passed (again e.left u more z less k)
 
-    on_entry : Again → (v : Result (Option Entry × List ℕ) Stop) → entry_read left text ≡ v → read_on v (visited visit (walk_up_to visit most) s) ≡ Ok z → P z
+    on_entry : Again → (v : Result (Option Entry × List ℕ) Stop) → entry_in barred left text ≡ v → read_on v (visited visit (walk_up_to barred visit most) s) ≡ Ok z → P z
     on_entry again (Err f) is k = absurd (cc)
     on_entry again (Ok (None, rest)) is k =
-        let end = entry_none left text rest is in
+        let end = entry_none barred left text rest is in
         let Q : List ℕ → Type 0 = λ r. WalkedTo visit T left s text ((s, None), r) in
         subst P (ok_is ((s, None), rest) z k) (subst Q end.1 (walked_none visit T left s text end.0))
-    on_entry again (Ok (Some e, middle)) is k = on_visit again e middle (entry_sound left text e middle is) (visit s e middle) refl k
+    on_entry again (Ok (Some e, middle)) is k = on_visit again e middle (entry_sound barred left text e middle is) (visit s e middle) refl k
 
+pub walk_sound_in : {S Y : Type 0} (barred : List ℕ → Bool) (visit : Visit S Y) (T : Taking S) → Sound visit T → (left : ℕ) (s : S) (text : List ℕ) (z : (S × Option Y) × List ℕ) → walk_in barred visit left s text ≡ Ok z → WalkedTo visit T left s text z
+walk_sound_in barred visit T sound left s text z h = walk_up_to_sound barred visit T sound left left s text z (omega arith) h
+
+-- the same in a list that bars no name
 pub walk_sound : {S Y : Type 0} (visit : Visit S Y) (T : Taking S) → Sound visit T → (left : ℕ) (s : S) (text : List ℕ) (z : (S × Option Y) × List ℕ) → walk visit left s text ≡ Ok z → WalkedTo visit T left s text z
-walk_sound visit T sound left s text z h = walk_up_to_sound visit T sound left left s text z (omega arith) h
+walk_sound visit T sound left s text z h = walk_sound_in bars_none visit T sound left s text z h
 
 -- a header that fits is read
-pub entry_complete : (left : ℕ) (name size rest : List ℕ) → length name ≡ 4 → length size ≡ 4 → 8 + padded (little_number 4 size) ≤ left → (is_name name (codes "LIST") ≡ true → 4 ≤ little_number 4 size) →
-    entry_read left ((name ++ size) ++ rest) ≡ Ok (Some (record { name = name; size = little_number 4 size; left = left - (8 + padded (little_number 4 size)) }), rest)
-unfolding entry_read
-entry_complete left name size rest named sized fits listed =
+pub entry_complete_in : (barred : List ℕ → Bool) (left : ℕ) (name size rest : List ℕ) → barred name ≡ false → length name ≡ 4 → length size ≡ 4 → 8 + padded (little_number 4 size) ≤ left → (is_name name (codes "LIST") ≡ true → 4 ≤ little_number 4 size) →
+    entry_in barred left ((name ++ size) ++ rest) ≡ Ok (Some (record { name = name; size = little_number 4 size; left = left - (8 + padded (little_number 4 size)) }), rest)
+unfolding entry_in
+entry_complete_in barred left name size rest stands named sized fits listed =
     let both : length (name ++ size) ≡ 8 = omega (arith, named, sized, length-append name size) in
     let some : (left == 0) ≡ false = ne_eqb _ _ (λ e. omega (arith, fits, e)) in
     let room : nat_lt left 8 ≡ false = le-ltb _ _ (omega (arith, fits)) in
@@ -206,20 +212,29 @@ entry_complete left name size rest named sized fits listed =
     let first : take 4 (name ++ size) ≡ name = cut_front 4 name size named in
     let second : drop 4 (name ++ size) ≡ size = cut_back 4 name size named in
     let fit : nat_lt left (8 + padded (little_number 4 size)) ≡ false = le-ltb _ _ fits in
-    rw (some, room, there, front, behind, first, second, fit, no_short_list (is_name name (codes "LIST")) refl) refl
+    rw (some, room, there, front, behind, first, second, stands, fit, no_short_list (is_name name (codes "LIST")) refl) refl
   where
     no_short_list : (b : Bool) → is_name name (codes "LIST") ≡ b → (b && nat_lt (little_number 4 size) 4) ≡ false
     no_short_list true is = le-ltb _ _ (listed is)
     no_short_list false is = refl
 
+-- the same in a list that bars no name
+pub entry_complete : (left : ℕ) (name size rest : List ℕ) → length name ≡ 4 → length size ≡ 4 → 8 + padded (little_number 4 size) ≤ left → (is_name name (codes "LIST") ≡ true → 4 ≤ little_number 4 size) →
+    entry_read left ((name ++ size) ++ rest) ≡ Ok (Some (record { name = name; size = little_number 4 size; left = left - (8 + padded (little_number 4 size)) }), rest)
+entry_complete left name size rest named sized fits listed = entry_complete_in bars_none left name size rest refl named sized fits listed
+
+-- a list does not bar what a state takes
+abbrev pub Stands : {S : Type 0} → (List ℕ → Bool) → Taking S → Type 0
+Stands {S = S} barred T = (s : S) (name bytes : List ℕ) (t : S) → T s name bytes t → barred name ≡ false
+
 abbrev pub Complete : {S Y : Type 0} → Visit S Y → Taking S → Type 0
 Complete {S = S} {Y = Y} visit T = (s : S) (e : Entry) (bytes padding : List ℕ) (t : S) (rest : List ℕ) → IsListed e → length bytes ≡ e.size → length padding ≡ e.size % 2 → T s e.name bytes t → visit s e ((bytes ++ padding) ++ rest) ≡ Ok ((t, None), rest)
 
 -- a walk passes chunks
-pub walk_complete : {S Y : Type 0} (visit : Visit S Y) (T : Taking S) → Complete visit T → (chunks : List Chunk) (s t : S) (more : ℕ) (rest : List ℕ) → AreChunks chunks → Run T s chunks t →
-    walk visit (length (chunks_text chunks) + more) s (chunks_text chunks ++ rest) ≡ walk visit more t rest
-walk_complete visit T complete [] s t more rest each run = rw (zero-add more, run) refl
-walk_complete {S = S} {Y = Y} visit T complete (c ∷ cs) s t more rest each run =
+pub walk_complete_in : {S Y : Type 0} (barred : List ℕ → Bool) (visit : Visit S Y) (T : Taking S) → Stands barred T → Complete visit T → (chunks : List Chunk) (s t : S) (more : ℕ) (rest : List ℕ) → AreChunks chunks → Run T s chunks t →
+    walk_in barred visit (length (chunks_text chunks) + more) s (chunks_text chunks ++ rest) ≡ walk_in barred visit more t rest
+walk_complete_in barred visit T stands complete [] s t more rest each run = rw (zero-add more, run) refl
+walk_complete_in {S = S} {Y = Y} barred visit T stands complete (c ∷ cs) s t more rest each run =
     let is = each.0 in
     let left = length (chunks_text (c ∷ cs)) + more in
     let behind = chunks_text cs ++ rest in
@@ -228,16 +243,21 @@ walk_complete {S = S} {Y = Y} visit T complete (c ∷ cs) s t more rest each run
     let all : left ≡ 8 + padded (little_number 4 c.size) + (length (chunks_text cs) + more) = rw is.counted (omega (arith, size, length-append (chunk_text c) (chunks_text cs))) in
     let list : is_name c.name (codes "LIST") ≡ true → 4 ≤ little_number 4 c.size = λ l. rw is.counted (is.listed l) in
     let e : Entry = record { name = c.name; size = little_number 4 c.size; left = left - (8 + padded (little_number 4 c.size)) } in
-    let entry = entry_complete left c.name c.size ((c.bytes ++ c.padding) ++ behind) is.named is.sized (omega (arith, all)) list in
+    let entry = entry_complete_in barred left c.name c.size ((c.bytes ++ c.padding) ++ behind) (stands s c.name c.bytes run.0 run.1) is.named is.sized (omega (arith, all)) list in
     let odd : length c.padding ≡ e.size % 2 = rw is.counted is.padded in
     let pass = complete s e c.bytes c.padding run.0 behind list (sym is.counted) odd run.1 in
     let less : e.left ≡ length (chunks_text cs) + more = omega (arith, all) in
-    walk_step visit left s (chunks_text (c ∷ cs) ++ rest)
-    ∙ ap (λ z. read_on (entry_read left z) (visited visit (walk visit) s)) whole
-    ∙ ap (λ z. read_on z (visited visit (walk visit) s)) entry
-    ∙ ap (λ z. read_on z (λ p. resumed (walk visit e.left) p.0 p.1)) pass
-    ∙ ap (λ l. walk visit l run.0 behind) less
-    ∙ walk_complete visit T complete cs run.0 t more rest each.1 run.2
+    walk_step_in barred visit left s (chunks_text (c ∷ cs) ++ rest)
+    ∙ ap (λ z. read_on (entry_in barred left z) (visited visit (walk_in barred visit) s)) whole
+    ∙ ap (λ z. read_on z (visited visit (walk_in barred visit) s)) entry
+    ∙ ap (λ z. read_on z (λ p. resumed (walk_in barred visit e.left) p.0 p.1)) pass
+    ∙ ap (λ l. walk_in barred visit l run.0 behind) less
+    ∙ walk_complete_in barred visit T stands complete cs run.0 t more rest each.1 run.2
   where
     regrouped : (a b c d e f : List ℕ) → ((((a ++ b) ++ c) ++ d) ++ e) ++ f ≡ (a ++ b) ++ ((c ++ d) ++ (e ++ f))
     regrouped a b c d e f = simp append_assoc
+
+-- the same in a list that bars no name
+pub walk_complete : {S Y : Type 0} (visit : Visit S Y) (T : Taking S) → Complete visit T → (chunks : List Chunk) (s t : S) (more : ℕ) (rest : List ℕ) → AreChunks chunks → Run T s chunks t →
+    walk visit (length (chunks_text chunks) + more) s (chunks_text chunks ++ rest) ≡ walk visit more t rest
+walk_complete visit T complete chunks s t more rest each run = walk_complete_in bars_none visit T (λ s name bytes t takes. refl) complete chunks s t more rest each run

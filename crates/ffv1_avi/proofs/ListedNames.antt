@@ -6,15 +6,16 @@ use Rattle.byteorder.specs.Endian.{little_number}
 use Rattle.ffv1_reads.specs.declared.fault.FileFault.TheVariants as fault
 use Rattle.ffv1_reads.specs.Reads.{Met, given, read_on}
 use Rattle.ffv1_avi.specs.declared.place.Names.TheVariants.{Closed}
-use Rattle.ffv1_avi.specs.Names.{IsFrameName, IsIndexName, IsListed, IsOfOther, are_digits, bitmap_name, frame_name, is_barred, is_digit, is_frame, is_index, is_of_other, is_stream_frame, number_of, palette_name, stands_beside}
+use Rattle.ffv1_avi.specs.Names.{IsFrameName, bars, IsIndexName, IsListed, IsOfOther, are_digits, bitmap_name, frame_name, is_barred, is_digit, is_frame, is_index, is_of_other, is_stream_frame, number_of, palette_name, stands_beside}
 use Rattle.ffv1_avi.specs.Files.{found_or_on, found_read, frame_found, frame_read, movi_found, visit_movi}
 use Rattle.ffv1_avi.specs.Padding.{padded}
-use Rattle.ffv1_avi.specs.Walk.{entry_read, is_name, resumed, visited, walk}
+use Rattle.ffv1_avi.specs.Walk.{entry_in, is_name, resumed, visited, walk_in}
 use Rattle.ffv1_avi.specs.declared.chunk.Entry.{Entry}
 use Rattle.ffv1_avi.specs.declared.place.Place.{Place}
-use Rattle.ffv1_avi.proofs.ChunkByChunk.{walk_step}
-use Rattle.ffv1_avi.proofs.ListWalks.{entry_complete}
+use Rattle.ffv1_avi.proofs.ChunkByChunk.{walk_step_in}
+use Rattle.ffv1_avi.proofs.ListWalks.{entry_complete_in}
 use Rattle.ffv1_avi.proofs.Moves.{frame_step}
+use Rattle.ffv1_avi.proofs.RefusalLaws.{entry_barred}
 
 both_are : (a b : Bool) → (a && b) ≡ true → (a ≡ true) × (b ≡ true)
 both_are true true h = (refl, refl)
@@ -96,21 +97,38 @@ listed_named stream streams name few long h = on_frame (is_stream_frame stream n
     on_frame false true p q = on_four (four (is_name name (palette_name stream)) (is_of_other stream streams name) (is_index name) (is_name name (codes "JUNK")) q)
     on_frame false false p q = absurd (cc (rw (p, q) at h))
 
+-- a chunk whose name movi bars is refused behind its header, whatever size it says
+pub unsized_refused : (place : Place) (name size rest : List ℕ) → length name ≡ 4 → length size ≡ 4 → 8 ≤ place.movi → bars place.names name ≡ true →
+    frame_read place ((name ++ size) ++ rest) ≡ Err (Met fault.NotAvi rest)
+unfolding movi_found
+unsized_refused place name size rest named sized enough bar =
+    let text = (name ++ size) ++ rest in
+    let visit = visit_movi place.names in
+    let barred = bars place.names in
+    ap (λ z. read_on z found_read) (frame_step place text)
+    ∙ ap (λ z. read_on (read_on (read_on z (λ p. given p.1)) (found_or_on frame_found place)) found_read) (walk_step_in (bars place.names) visit place.movi tt text)
+    ∙ ap (λ z. read_on (read_on (read_on (read_on z (visited visit (walk_in barred visit) tt)) (λ p. given p.1)) (found_or_on frame_found place)) found_read) (entry_barred barred place.movi name size rest bar named sized enough)
+
 -- a chunk that may not stand in movi is refused behind its header
 pub barred_refused : (place : Place) (name size rest : List ℕ) → length name ≡ 4 → length size ≡ 4 → 8 + padded (little_number 4 size) ≤ place.movi → (is_name name (codes "LIST") ≡ true → 4 ≤ little_number 4 size) → is_barred place.names name ≡ true →
     frame_read place ((name ++ size) ++ rest) ≡ Err (Met fault.NotAvi rest)
 unfolding movi_found visit_movi
-barred_refused place name size rest named sized fits listed barred =
-    let text = (name ++ size) ++ rest in
-    let visit = visit_movi place.names in
-    let n = little_number 4 size in
-    let e : Entry = record { name = name; size = n; left = place.movi - (8 + padded n) } in
-    let entry : entry_read place.movi text ≡ Ok (Some e, rest) = entry_complete place.movi name size rest named sized fits listed in
-    let stop : visit tt e rest ≡ Err (Met fault.NotAvi rest) = rw barred refl in
-    ap (λ z. read_on z found_read) (frame_step place text)
-    ∙ ap (λ z. read_on (read_on (read_on z (λ p. given p.1)) (found_or_on frame_found place)) found_read) (walk_step visit place.movi tt text)
-    ∙ ap (λ z. read_on (read_on (read_on (read_on z (visited visit (walk visit) tt)) (λ p. given p.1)) (found_or_on frame_found place)) found_read) entry
-    ∙ ap (λ z. read_on (read_on (read_on (read_on z (λ p. resumed (walk visit e.left) p.0 p.1)) (λ p. given p.1)) (found_or_on frame_found place)) found_read) stop
+barred_refused place name size rest named sized fits listed barred = on_bars (bars place.names name) refl
+  where
+    on_bars : (a : Bool) → bars place.names name ≡ a → frame_read place ((name ++ size) ++ rest) ≡ Err (Met fault.NotAvi rest)
+    on_bars true p = unsized_refused place name size rest named sized (omega (arith, fits)) p
+    on_bars false p =
+        let text = (name ++ size) ++ rest in
+        let visit = visit_movi place.names in
+        let walking = walk_in (bars place.names) visit in
+        let n = little_number 4 size in
+        let e : Entry = record { name = name; size = n; left = place.movi - (8 + padded n) } in
+        let entry : entry_in (bars place.names) place.movi text ≡ Ok (Some e, rest) = entry_complete_in (bars place.names) place.movi name size rest p named sized fits listed in
+        let stop : visit tt e rest ≡ Err (Met fault.NotAvi rest) = rw barred refl in
+        ap (λ z. read_on z found_read) (frame_step place text)
+        ∙ ap (λ z. read_on (read_on (read_on z (λ p. given p.1)) (found_or_on frame_found place)) found_read) (walk_step_in (bars place.names) visit place.movi tt text)
+        ∙ ap (λ z. read_on (read_on (read_on (read_on z (visited visit walking tt)) (λ p. given p.1)) (found_or_on frame_found place)) found_read) entry
+        ∙ ap (λ z. read_on (read_on (read_on (read_on z (λ p. resumed (walking e.left) p.0 p.1)) (λ p. given p.1)) (found_or_on frame_found place)) found_read) stop
 
 named_self : (xs : List ℕ) → is_name xs xs ≡ true
 named_self [] = refl

@@ -9,14 +9,15 @@ use Rattle.ffv1_avi.specs.Chunks.{AreChunks, Chunk, Passes, chunks_text, is_list
 use Rattle.ffv1_avi.specs.Files.{found_or_on, found_read, frame_found, frame_read, moved, moved_by, movi_found, movi_or_riff, movi_sought, name_or_end, riff_begun, riff_named, sought_on, visit_movi, visit_riff}
 use Rattle.ffv1_avi.specs.Places.{extent_of, riff_at}
 use Rattle.ffv1_reads.specs.Reads.{Met, Stop, given, read_on}
-use Rattle.ffv1_avi.specs.Walk.{visited, walk, walk_up_to}
-use Rattle.ffv1_avi.proofs.FrameLaws.{TakesMovi, movi_complete}
+use Rattle.ffv1_avi.specs.Names.{bars}
+use Rattle.ffv1_avi.specs.Walk.{visited, walk, walk_in, walk_up_to}
+use Rattle.ffv1_avi.proofs.FrameLaws.{TakesMovi, movi_complete, movi_stands}
 use Rattle.ffv1_avi.proofs.LaterFrames.{begun_riff, in_riff}
-use Rattle.ffv1_avi.proofs.ListWalks.{Run, walk_complete}
+use Rattle.ffv1_avi.proofs.ListWalks.{Run, walk_complete, walk_complete_in}
 use Rattle.ffv1_avi.proofs.Moves.{extent_every, frame_step, movi_empty}
-use Rattle.ffv1_avi.proofs.RefusalLaws.{entry_long}
+use Rattle.ffv1_avi.proofs.RefusalLaws.{entry_long, entry_long_in}
 use Rattle.ffv1_avi.proofs.RiffLaws.{TakesRiff, riff_complete}
-use Rattle.ffv1_avi.proofs.ChunkByChunk.{walk_step}
+use Rattle.ffv1_avi.proofs.ChunkByChunk.{walk_step, walk_step_in}
 use Rattle.ffv1_avi.specs.declared.place.Names.{Names}
 use Rattle.ffv1_avi.specs.Chunks.{barred_in}
 use Rattle.ffv1_avi.specs.Chunks.{frame_in}
@@ -41,17 +42,17 @@ riff_run names (c ∷ cs) none frames = on_name (is_list (codes "movi") c) (fram
     on_name false true p q again = let gone : c ∷ those (frame_in names) cs ≡ [] = rw q at frames in absurd (cc)
     on_name false false p q again = (tt, (p, q), again (rw p at none) (rw q at frames))
 
-pub movi_long_at : (place : Place) (chunks : List Chunk) (left : ℕ) (name size rest : List ℕ) → place.movi ≡ length (chunks_text chunks) + left → AreChunks chunks → those (barred_in place.names) chunks ≡ [] → those (frame_in place.names) chunks ≡ [] → Passes left name size →
+pub movi_long_at : (place : Place) (chunks : List Chunk) (left : ℕ) (name size rest : List ℕ) → place.movi ≡ length (chunks_text chunks) + left → AreChunks chunks → those (barred_in place.names) chunks ≡ [] → those (frame_in place.names) chunks ≡ [] → Passes left name size → bars place.names name ≡ false →
     frame_read place (chunks_text chunks ++ ((name ++ size) ++ rest)) ≡ Err (Met fault.Truncated rest)
 unfolding movi_found
-movi_long_at place chunks left name size rest room each lists frames passes =
+movi_long_at place chunks left name size rest room each lists frames passes stands =
     let text = (name ++ size) ++ rest in
     let visit = visit_movi place.names in
     let found : movi_found place.names place.movi (chunks_text chunks ++ text) ≡ Err (Met fault.Truncated rest) =
     ap (λ n. movi_found place.names n (chunks_text chunks ++ text)) room
-    ∙ ap (λ z. read_on z (λ p. given p.1)) (walk_complete visit (TakesMovi place.names) (movi_complete place.names) chunks tt tt left text each (movi_run place.names chunks lists frames))
-    ∙ ap (λ z. read_on z (λ p. given p.1)) (walk_step visit left tt text)
-    ∙ ap (λ z. read_on (read_on z (visited visit (walk visit) tt)) (λ p. given p.1)) (entry_long left name size rest passes.named passes.sized passes.header passes.passes) in
+    ∙ ap (λ z. read_on z (λ p. given p.1)) (walk_complete_in (bars place.names) visit (TakesMovi place.names) (movi_stands place.names) (movi_complete place.names) chunks tt tt left text each (movi_run place.names chunks lists frames))
+    ∙ ap (λ z. read_on z (λ p. given p.1)) (walk_step_in (bars place.names) visit left tt text)
+    ∙ ap (λ z. read_on (read_on z (visited visit (walk_in (bars place.names) visit) tt)) (λ p. given p.1)) (entry_long_in (bars place.names) left name size rest stands passes.named passes.sized passes.header passes.passes) in
     ap (λ z. read_on z found_read) (frame_step place (chunks_text chunks ++ text))
     ∙ ap (λ z. read_on (read_on z (found_or_on frame_found place)) found_read) found
 

@@ -10,12 +10,12 @@ use Rattle.ffv1_avi.specs.Places.{amount, extent_of, frame_at, movi_at, riff_at}
 use Rattle.ffv1_reads.specs.Reads.{Stop, given, passed, read_on, taken, ◌>>=◌}
 use Rattle.ffv1_avi.specs.Padding.{padded}
 use Rattle.ffv1_reads.specs.Head.{limit}
-use Rattle.ffv1_avi.specs.Walk.{Visit, entry_read, is_name, resumed, visited, walk, walk_up_to}
+use Rattle.ffv1_avi.specs.Walk.{Visit, bars_none, entry_in, is_name, resumed, visited, walk_in, walk_up_to}
 use Rattle.ffv1_avi.proofs.ListWalks.{entry_sound}
 use Rattle.ffv1_reads.proofs.Results.{read_on_ok}
 use Rattle.ffv1_reads.proofs.Results.{ok_is, some_is}
 use Rattle.ffv1_avi.specs.declared.place.Names.{Names}
-use Rattle.ffv1_avi.specs.Names.{is_barred}
+use Rattle.ffv1_avi.specs.Names.{bars, is_barred}
 use Rattle.ffv1_avi.specs.Names.{is_frame}
 
 no_some : {X : Type 0} (x : X) → ◌≡◌ {A = Option X} (Some x) None → ⊥
@@ -29,35 +29,35 @@ pub record StopsAt {S Y : Type 0} (visit : Visit S Y) (left : ℕ) (t : S) (y : 
   pub fits : entry.left + (8 + padded entry.size) ≤ left
   pub is : visit state entry text ≡ Ok ((t, Some y), rest)
 
-stops_up_to : {S Y : Type 0} (visit : Visit S Y) (most left : ℕ) (s : S) (text : List ℕ) (t : S) (y : Y) (rest : List ℕ) → walk_up_to visit most left s text ≡ Ok ((t, Some y), rest) → StopsAt visit left t y rest
+stops_up_to : {S Y : Type 0} (barred : List ℕ → Bool) (visit : Visit S Y) (most left : ℕ) (s : S) (text : List ℕ) (t : S) (y : Y) (rest : List ℕ) → walk_up_to barred visit most left s text ≡ Ok ((t, Some y), rest) → StopsAt visit left t y rest
 unfolding walk_up_to
-stops_up_to {S = S} {Y = Y} visit zero left s text t y rest h = absurd (no_some y (sym (ap (λ (z : (S × Option Y) × List ℕ). z.0.1) (ok_is ((s, None), text) ((t, Some y), rest) h))))
-stops_up_to {S = S} {Y = Y} visit (suc most) left s text t y rest h =
-    let first = read_on_ok (entry_read left text) (visited visit (walk_up_to visit most) s) ((t, Some y), rest) h in
-    on_entry (λ l u after k. stops_up_to visit most l u after t y rest k) first.0.0 first.0.1 first.1 first.2
+stops_up_to {S = S} {Y = Y} barred visit zero left s text t y rest h = absurd (no_some y (sym (ap (λ (z : (S × Option Y) × List ℕ). z.0.1) (ok_is ((s, None), text) ((t, Some y), rest) h))))
+stops_up_to {S = S} {Y = Y} barred visit (suc most) left s text t y rest h =
+    let first = read_on_ok (entry_in barred left text) (visited visit (walk_up_to barred visit most) s) ((t, Some y), rest) h in
+    on_entry (λ l u after k. stops_up_to barred visit most l u after t y rest k) first.0.0 first.0.1 first.1 first.2
   where
     Again : Type 0
-    Again = (l : ℕ) (u : S) (after : List ℕ) → walk_up_to visit most l u after ≡ Ok ((t, Some y), rest) → StopsAt visit l t y rest
+    Again = (l : ℕ) (u : S) (after : List ℕ) → walk_up_to barred visit most l u after ≡ Ok ((t, Some y), rest) → StopsAt visit l t y rest
 
-    on_visit : Again → (e : Entry) (more : List ℕ) → e.left + (8 + padded e.size) ≤ left → (u : S) (o : Option Y) (after : List ℕ) → visit s e more ≡ Ok ((u, o), after) → resumed (walk_up_to visit most e.left) u o after ≡ Ok ((t, Some y), rest) → StopsAt visit left t y rest
+    on_visit : Again → (e : Entry) (more : List ℕ) → e.left + (8 + padded e.size) ≤ left → (u : S) (o : Option Y) (after : List ℕ) → visit s e more ≡ Ok ((u, o), after) → resumed (walk_up_to barred visit most e.left) u o after ≡ Ok ((t, Some y), rest) → StopsAt visit left t y rest
     on_visit again e more fits u (Some x) after is k = record { state = s; entry = e; text = more; fits = fits; is = is ∙ k }
     on_visit again e more fits u None after is k =
         let later = again e.left u after k in
         record { state = later.state; entry = later.entry; text = later.text; fits = omega (arith, later.fits, fits); is = later.is }
 
-    on_entry : Again → (o : Option Entry) (more : List ℕ) → entry_read left text ≡ Ok (o, more) → visited visit (walk_up_to visit most) s o more ≡ Ok ((t, Some y), rest) → StopsAt visit left t y rest
+    on_entry : Again → (o : Option Entry) (more : List ℕ) → entry_in barred left text ≡ Ok (o, more) → visited visit (walk_up_to barred visit most) s o more ≡ Ok ((t, Some y), rest) → StopsAt visit left t y rest
     on_entry again None more is k = absurd (no_some y (sym (ap (λ (z : (S × Option Y) × List ℕ). z.0.1) (ok_is ((s, None), more) ((t, Some y), rest) k))))
     on_entry again (Some e) more is k =
-        let entry = entry_sound left text e more is in
-        let second = read_on_ok (visit s e more) (λ p. resumed (walk_up_to visit most e.left) p.0 p.1) ((t, Some y), rest) k in
+        let entry = entry_sound barred left text e more is in
+        let second = read_on_ok (visit s e more) (λ p. resumed (walk_up_to barred visit most e.left) p.0 p.1) ((t, Some y), rest) k in
         on_visit again e more (omega (arith, entry.fits)) second.0.0.0 second.0.0.1 second.0.1 second.1 second.2
 
 -- the state and the outcome of a walk that stops
-walk_given : {S Y : Type 0} (visit : Visit S Y) (left : ℕ) (s : S) (text : List ℕ) (y : Y) (rest : List ℕ) → (walk visit left s >>= λ p. given p.1) text ≡ Ok (Some y, rest) → (t : S) × (walk visit left s text ≡ Ok ((t, Some y), rest))
-walk_given {S = S} {Y = Y} visit left s text y rest h =
-    let first = read_on_ok (walk visit left s text) (λ p. given p.1) (Some y, rest) h in
+walk_given : {S Y : Type 0} (barred : List ℕ → Bool) (visit : Visit S Y) (left : ℕ) (s : S) (text : List ℕ) (y : Y) (rest : List ℕ) → (walk_in barred visit left s >>= λ p. given p.1) text ≡ Ok (Some y, rest) → (t : S) × (walk_in barred visit left s text ≡ Ok ((t, Some y), rest))
+walk_given {S = S} {Y = Y} barred visit left s text y rest h =
+    let first = read_on_ok (walk_in barred visit left s text) (λ p. given p.1) (Some y, rest) h in
     let same = ok_is (first.0.0.1, first.0.1) (Some y, rest) first.2 in
-    let P : Option Y × List ℕ → Type 0 = λ z. walk visit left s text ≡ Ok ((first.0.0.0, z.0), z.1) in
+    let P : Option Y × List ℕ → Type 0 = λ z. walk_in barred visit left s text ≡ Ok ((first.0.0.0, z.0), z.1) in
     (first.0.0.0, subst P same first.1)
 
 -- the bytes of a movi, and those that RIFF has after it, are fewer than RIFF had
@@ -92,8 +92,8 @@ riff_stop names s e text t y rest h = on_list (is_name e.name (codes "LIST")) re
 sought_less : (names : Names) (left : ℕ) (text : List ℕ) (y : ℕ × ℕ) (rest : List ℕ) → movi_sought names left text ≡ Ok (Some y, rest) → y.0 + y.1 + 8 ≤ left
 unfolding movi_sought
 sought_less names left text y rest h =
-    let walked = walk_given (visit_riff names) left tt text y rest h in
-    let stop = stops_up_to (visit_riff names) left left tt text walked.0 y rest walked.1 in
+    let walked = walk_given bars_none (visit_riff names) left tt text y rest h in
+    let stop = stops_up_to bars_none (visit_riff names) left left tt text walked.0 y rest walked.1 in
     let movi = riff_stop names stop.state stop.entry stop.text walked.0 y rest stop.is in
     omega (arith, stop.fits, movi.0, movi.1)
 
@@ -193,8 +193,8 @@ movi_stop_at names s e text t y rest h = on_names (is_barred names e.name) (is_f
 found_less : (names : Names) (left : ℕ) (text : List ℕ) (y : ℕ × ℕ) (rest : List ℕ) → movi_found names left text ≡ Ok (Some y, rest) → y.0 + y.1 + 8 ≤ left
 unfolding movi_found
 found_less names left text y rest h =
-    let walked = walk_given (visit_movi names) left tt text y rest h in
-    let stop = stops_up_to (visit_movi names) left left tt text walked.0 y rest walked.1 in
+    let walked = walk_given (bars names) (visit_movi names) left tt text y rest h in
+    let stop = stops_up_to (bars names) (visit_movi names) left left tt text walked.0 y rest walked.1 in
     let frame = movi_stop_at names stop.state stop.entry stop.text walked.0 y rest stop.is in
     omega (arith, stop.fits, frame.0, frame.1)
 

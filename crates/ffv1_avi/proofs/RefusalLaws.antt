@@ -10,7 +10,7 @@ use Rattle.ffv1_avi.specs.declared.place.Extent.TheVariants.{FirstMovi}
 use Rattle.ffv1_avi.specs.declared.place.Names.TheVariants.{Any}
 use Rattle.ffv1_reads.specs.Reads.{Met, given, read_on, refused, taken}
 use Rattle.ffv1_avi.specs.Padding.{padded}
-use Rattle.ffv1_avi.specs.Walk.{entry_read, is_name, resumed, visited, walk}
+use Rattle.ffv1_avi.specs.Walk.{bars_none, entry_in, entry_read, is_name, resumed, visited, walk}
 use Rattle.ffv1_reads.proofs.Results.{cut_back, cut_front}
 use Rattle.ffv1_avi.proofs.ListWalks.{entry_complete, walk_complete}
 use Rattle.ffv1_avi.proofs.Contents.{number_taken}
@@ -63,18 +63,36 @@ no_stream file parts rest is none =
     spelled_length = refl
 
 -- a header whose chunk does not fit
-pub entry_long : (left : ℕ) (name size rest : List ℕ) → length name ≡ 4 → length size ≡ 4 → 8 ≤ left → left < 8 + padded (little_number 4 size) → entry_read left ((name ++ size) ++ rest) ≡ Err (Met fault.Truncated rest)
-unfolding entry_read
-entry_long left name size rest named sized enough long =
+pub entry_long_in : (barred : List ℕ → Bool) (left : ℕ) (name size rest : List ℕ) → barred name ≡ false → length name ≡ 4 → length size ≡ 4 → 8 ≤ left → left < 8 + padded (little_number 4 size) → entry_in barred left ((name ++ size) ++ rest) ≡ Err (Met fault.Truncated rest)
+unfolding entry_in
+entry_long_in barred left name size rest stands named sized enough long =
     let both : length (name ++ size) ≡ 8 = omega (arith, named, sized, length-append name size) in
     let some : (left == 0) ≡ false = ne_eqb _ _ (λ e. omega (arith, enough, e)) in
     let room : nat_lt left 8 ≡ false = le-ltb _ _ enough in
     let there : nat_lt (length ((name ++ size) ++ rest)) 8 ≡ false = le-ltb _ _ (omega (arith, both, length-append (name ++ size) rest)) in
     let front : take 8 ((name ++ size) ++ rest) ≡ name ++ size = cut_front 8 (name ++ size) rest both in
     let behind : drop 8 ((name ++ size) ++ rest) ≡ rest = cut_back 8 (name ++ size) rest both in
+    let first : take 4 (name ++ size) ≡ name = cut_front 4 name size named in
     let second : drop 4 (name ++ size) ≡ size = cut_back 4 name size named in
     let fit : nat_lt left (8 + padded (little_number 4 size)) ≡ true = lt-ltb _ _ long in
-    rw (some, room, there, front, behind, second, fit) refl
+    rw (some, room, there, front, behind, first, second, stands, fit) refl
+
+-- the same in a list that bars no name
+pub entry_long : (left : ℕ) (name size rest : List ℕ) → length name ≡ 4 → length size ≡ 4 → 8 ≤ left → left < 8 + padded (little_number 4 size) → entry_read left ((name ++ size) ++ rest) ≡ Err (Met fault.Truncated rest)
+entry_long left name size rest named sized enough long = entry_long_in bars_none left name size rest refl named sized enough long
+
+-- a header whose name the list bars
+pub entry_barred : (barred : List ℕ → Bool) (left : ℕ) (name size rest : List ℕ) → barred name ≡ true → length name ≡ 4 → length size ≡ 4 → 8 ≤ left → entry_in barred left ((name ++ size) ++ rest) ≡ Err (Met fault.NotAvi rest)
+unfolding entry_in
+entry_barred barred left name size rest bar named sized enough =
+    let both : length (name ++ size) ≡ 8 = omega (arith, named, sized, length-append name size) in
+    let some : (left == 0) ≡ false = ne_eqb _ _ (λ e. omega (arith, enough, e)) in
+    let room : nat_lt left 8 ≡ false = le-ltb _ _ enough in
+    let there : nat_lt (length ((name ++ size) ++ rest)) 8 ≡ false = le-ltb _ _ (omega (arith, both, length-append (name ++ size) rest)) in
+    let front : take 8 ((name ++ size) ++ rest) ≡ name ++ size = cut_front 8 (name ++ size) rest both in
+    let behind : drop 8 ((name ++ size) ++ rest) ≡ rest = cut_back 8 (name ++ size) rest both in
+    let first : take 4 (name ++ size) ≡ name = cut_front 4 name size named in
+    rw (some, room, there, front, behind, first, bar) refl
 
 pub chunk_long : (chunks : List Chunk) (left : ℕ) (name size rest : List ℕ) → AreChunks chunks → those (is_named (codes "LIST")) chunks ≡ [] → those (is_named (codes "00dc")) chunks ≡ [] →
     length name ≡ 4 → length size ≡ 4 → 8 ≤ left → left < 8 + padded (little_number 4 size) →

@@ -25,12 +25,12 @@ use Rattle.ffv1_avi.specs.Internal.Offsets.{FrameBegins, MovesTo}
 use Rattle.ffv1_avi.specs.Names.{is_frame}
 use Rattle.ffv1_avi.specs.Padding.{padded}
 use Rattle.ffv1_avi.specs.Places.{frame_at, movi_at, riff_at}
-use Rattle.ffv1_avi.specs.Walk.{entry_read, is_name}
+use Rattle.ffv1_avi.specs.Walk.{bars_none, entry_in, entry_read, is_name}
 use Rattle.ffv1_avi.proofs.ChunkReadings.{chunk_framed, entry_counted}
 
 -- where movi has nothing left, and more RIFFs are read, a chunk of RIFF comes next
 riff_chunk : (place : Place) (left : ℕ) → 0 < place.input → (text : List ℕ) → chunk_taken (riff_left place left) text ≡ (entry_read left >>= riff_taken (riff_left place left)) text
-unfolding chunk_taken entry_read
+unfolding chunk_taken entry_in
 riff_chunk place left more text = let some : (place.input == 0) ≡ false = ne_eqb place.input 0 (λ e. omega (arith, e, more)) in rw some refl
 
 -- a chunk of RIFF
@@ -63,14 +63,14 @@ module _ (place : Place) (left : ℕ) (more : 0 < place.input) where
   pub riff_passed : (e : Entry) {a b c : Option (List ℕ)} → Listed e → Read (entry_read left) a b (Some e) → Read (visit_riff place.names tt e) b c (tt, None) → ReadsCounted (chunk_taken here) a c (riff_left place e.left) (8 + (padded e.size + 0))
   riff_passed e {c = c} listed header visit =
       counted_same (entry_read left >>= riff_taken here) _ (λ text. sym (riff_chunk place left more text))
-      (counted_then (entry_read left) (riff_taken here) (entry_counted left e header)
+      (counted_then (entry_read left) (riff_taken here) (entry_counted bars_none left e header)
       (counted_then (visit_riff place.names tt e) (λ p. movi_entered here e.left p.1) (reads_counted (padded e.size) (visit_takes place.names e listed) (omega arith) visit) (counted_given (riff_left place e.left) c)))
 
   pub riff_movi : (e : Entry) (movi : ℕ × ℕ) {a b c : Option (List ℕ)} → Listed e → Read (entry_read left) a b (Some e) → Read (visit_riff place.names tt e) b c (tt, Some movi) → ReadsCounted (chunk_taken here) a c (movi_at place movi) (8 + (4 + 0))
   riff_movi e movi {c = c} listed header visit =
       let four : 4 ≤ e.size = ((visit_takes place.names e listed).only _ _ _ (visit.is [])).0 in
       counted_same (entry_read left >>= riff_taken here) _ (λ text. sym (riff_chunk place left more text))
-      (counted_then (entry_read left) (riff_taken here) (entry_counted left e header)
+      (counted_then (entry_read left) (riff_taken here) (entry_counted bars_none left e header)
       (counted_then (visit_riff place.names tt e) (λ p. movi_entered here e.left p.1) (reads_counted {x = (tt {0}, Some movi)} 4 (visit_takes place.names e listed) (omega (arith, four)) visit) (counted_given (movi_at place movi) c)))
 
   reached : (old : Option (List ℕ)) (before : ℕ) → Goes (chunk_taken here) old before (entry_read left >>= riff_taken here) old before
@@ -97,7 +97,7 @@ begun_same place text = on_name (name_or_end place.owed text)
     on_name (Err why) = refl
 
 riff_next_chunk : (place : Place) → 0 < place.input → (text : List ℕ) → chunk_taken (riff_left place 0) text ≡ (riff_begun place >>= riff_next (riff_left place 0)) text
-unfolding entry_read
+unfolding entry_in
 riff_next_chunk place more text = riff_chunk place 0 more text ∙ ap (λ z. read_on z (riff_next (riff_left place 0))) (begun_same place text)
 
 abbrev name_left : Option (List ℕ) → ℕ

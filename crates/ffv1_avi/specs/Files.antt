@@ -12,10 +12,10 @@ use Rattle.ffv1_avi.specs.declared.place.Place.{Place}
 use Rattle.ffv1_reads.specs.Head.{Head, limit}
 use Rattle.ffv1_avi.specs.Places.{amount, extent_of, first_place, frame_at, movi_at, riff_at}
 use Rattle.ffv1_reads.specs.Reads.{Kept, Reading, given, refused, taken, passed}
-use Rattle.ffv1_avi.specs.Names.{is_barred, is_frame}
+use Rattle.ffv1_avi.specs.Names.{bars, is_barred, is_frame}
 use Rattle.ffv1_avi.specs.Padding.{padded, content}
 use Rattle.ffv1_reads.specs.Reads.{◌>>=◌}
-use Rattle.ffv1_avi.specs.Walk.{is_name, Visit, walk}
+use Rattle.ffv1_avi.specs.Walk.{is_name, Visit, walk, walk_in}
 use Rattle.ffv1_avi.specs.Streams.{skipped, stream_read}
 
 -- what is known before the first movi: how many streams came that do not count, the head of the one
@@ -180,7 +180,7 @@ visit_movi names s e =
 -- the size of the next frame, and what movi has left after it, where it has so many bytes left;
 -- none at its end
 unfoldable pub movi_found : Names → ℕ → Reading (Option (ℕ × ℕ))
-movi_found names left = walk (visit_movi names) left tt >>= λ p. given p.1
+movi_found names left = walk_in (bars names) (visit_movi names) left tt >>= λ p. given p.1
 
 -- a list of RIFF after a movi, by its own name
 abbrev pub riff_list : ℕ → ℕ → List ℕ → Reading (Unit {0} × Option (ℕ × ℕ))

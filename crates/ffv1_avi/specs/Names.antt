@@ -7,7 +7,7 @@ use Rattle.std.specs.Prelude.{if◌then◌else◌, nat_le, nat_lt, List, [], ◌
 use Rattle.std.specs.Prelude.{slice_index}
 use Rattle.ffv1_avi.specs.declared.place.Names.{Names}
 use Rattle.ffv1_avi.specs.declared.place.Names.TheVariants.{Any, Closed}
-use Rattle.ffv1_avi.specs.Walk.{is_name}
+use Rattle.ffv1_avi.specs.Walk.{is_name, bars_none}
 
 -- the names of a stream's frames: compressed, NNdc, or not, NNdb. Both have FFV1
 abbrev pub frame_name : ℕ → List ℕ
@@ -65,6 +65,13 @@ abbrev pub is_barred : Names → List ℕ → Bool
 is_barred Any name = is_name name (codes "LIST")
 is_barred (Closed stream streams) name =
     if is_stream_frame stream name || stands_beside stream streams name then false else true
+
+-- a chunk of this name may not stand in movi, whatever size it says; the size of a list is judged
+-- before, and that of every chunk where the first movi is read alone
+abbrev pub bars : Names → List ℕ → Bool
+bars Any = bars_none
+bars (Closed stream streams) = λ name. if is_name name (codes "LIST") then false
+    else is_barred (Closed stream streams) name
 
 -- the same in words: the name of a frame of a stream
 abbrev pub IsFrameName : ℕ → List ℕ → Type 0

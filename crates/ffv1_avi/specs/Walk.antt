@@ -1,7 +1,7 @@
 -- Walking the chunks of a list one by one: the list's budget counts them down, header, bytes and
 -- padding.
-use Rattle.std.specs.Prelude.{ℕ, suc, zero, ◌+◌, ◌-◌, ◌==◌, ◌&&◌, Bool, if◌then◌else◌, nat_eq}
-use Rattle.std.specs.Prelude.{nat_lt, List, take, drop, codes, Option, Some, None}
+use Rattle.std.specs.Prelude.{ℕ, suc, zero, ◌+◌, ◌-◌, ◌==◌, ◌&&◌, Bool, false, if◌then◌else◌}
+use Rattle.std.specs.Prelude.{nat_eq, nat_lt, List, take, drop, codes, Option, Some, None}
 use lib.Pointwise.{pointwise}
 use Rattle.byteorder.specs.Endian.{little_number}
 use Rattle.ffv1_avi.specs.declared.chunk.Entry.{Entry}
@@ -13,21 +13,31 @@ use Rattle.ffv1_avi.specs.Padding.{padded}
 abbrev pub is_name : List ℕ → List ℕ → Bool
 is_name bytes name = pointwise nat_eq bytes name
 
--- a header that was read in a list with so many bytes left: its chunk fits with its padding, and a
--- list has room for its own name
-abbrev pub entry_judged : ℕ → List ℕ → ℕ → Reading (Option Entry)
-entry_judged left name size =
-    if nat_lt left (8 + padded size) then refused fault.Truncated
+-- names of chunks that a list bars: none
+abbrev pub bars_none : List ℕ → Bool
+bars_none name = false
+
+-- a header that was read in a list with so many bytes left: the list does not bar its name; then
+-- its chunk fits with its padding, and a list has room for its own name
+abbrev pub entry_judged : (List ℕ → Bool) → ℕ → List ℕ → ℕ → Reading (Option Entry)
+entry_judged barred left name size =
+    if barred name then refused fault.NotAvi
+    else if nat_lt left (8 + padded size) then refused fault.Truncated
     else if is_name name (codes "LIST") && nat_lt size 4 then refused fault.NotAvi
     else given (Some (record { name = name; size = size; left = left - (8 + padded size) }))
 
--- the next header of a list with so many bytes left, and what the list has left after its chunk;
--- none at the list's end
-unfoldable pub entry_read : ℕ → Reading (Option Entry)
-entry_read left =
+-- the next header of a list that bars some names and has so many bytes left, and what the list has
+-- left after its chunk; none at the list's end
+unfoldable pub entry_in : (List ℕ → Bool) → ℕ → Reading (Option Entry)
+entry_in barred left =
     if left == 0 then given None
     else if nat_lt left 8 then refused fault.Truncated
-    else (taken 8 >>= λ head. entry_judged left (take 4 head) (little_number 4 (drop 4 head)))
+    else (taken 8 >>= λ head.
+    entry_judged barred left (take 4 head) (little_number 4 (drop 4 head)))
+
+-- the same of a list that bars none
+abbrev pub entry_read : ℕ → Reading (Option Entry)
+entry_read left = entry_in bars_none left
 
 -- what is made of a chunk after its header: the state that it leads to, and, where the walk stops,
 -- an outcome
@@ -46,12 +56,19 @@ abbrev pub visited : {S Y : Type 0} → Visit S Y → (ℕ → S → Reading (S 
 visited visit on s None = given (s, None)
 visited visit on s (Some e) = visit s e >>= λ p. resumed (on e.left) p.0 p.1
 
--- at most so many chunks of a list with so many bytes left are walked
-unfoldable pub walk_up_to : {S Y : Type 0} → Visit S Y → ℕ → ℕ → S → Reading (S × Option Y)
-walk_up_to visit zero left s = given (s, None)
-walk_up_to visit (suc most) left s = entry_read left >>= visited visit (walk_up_to visit most) s
+-- at most so many chunks of a list that bars some names and has so many bytes left are walked
+unfoldable pub walk_up_to : {S Y : Type 0} → (List ℕ → Bool) → Visit S Y → ℕ → ℕ → S →
+    Reading (S × Option Y)
+walk_up_to barred visit zero left s = given (s, None)
+walk_up_to barred visit (suc most) left s =
+    entry_in barred left >>= visited visit (walk_up_to barred visit most) s
 
--- the chunks of a list with so many bytes left are walked, to its end or to where a visit stops;
--- each takes at least 8 bytes
+-- the chunks of such a list are walked, to its end or to where a visit stops; each takes at least 8
+-- bytes
+abbrev pub walk_in : {S Y : Type 0} → (List ℕ → Bool) → Visit S Y → ℕ → S →
+    Reading (S × Option Y)
+walk_in barred visit left s = walk_up_to barred visit left left s
+
+-- the same of a list that bars none
 abbrev pub walk : {S Y : Type 0} → Visit S Y → ℕ → S → Reading (S × Option Y)
-walk visit left s = walk_up_to visit left left s
+walk visit left s = walk_in bars_none visit left s

@@ -4,9 +4,12 @@ ghost use Rattle.std.specs.Prelude.{◌≡◌, ◌+◌, ◌≤◌, IfOk, IfSome,
 ghost use Rattle.ffv1_wire.specs.Passage.{passage};
 ghost use Rattle.ffv1_reads.specs.Reads.{Answers};
 ghost use Rattle.ffv1_avi.specs.Padding.{padded};
-ghost use Rattle.ffv1_avi.specs.Walk.{entry_read, is_name};
+ghost use Rattle.ffv1_avi.specs.Names.{bars};
+ghost use Rattle.ffv1_avi.specs.Walk.{entry_in, entry_read, is_name};
 ghost use Rattle.ffv1_avi.specs.declared.chunk.Entry.{Entry};
 
+use crate::names::bars;
+use crate::place::Names;
 use byteorder::{ByteOrder, LittleEndian};
 use ffv1_reads::{FileFault, take};
 use ffv1_wire::ByteIn;
@@ -35,11 +38,16 @@ pub(crate) fn padded(size: u32) -> u64
 
 /// The header of the next chunk of a list that has so many bytes left, or None at its end.
 ///
-/// `Truncated` where the chunk does not fit in the list, or the input ends before; then `NotAvi`
-/// where it is a list without room for its own name.
-#[tactic(auto, unfolding(crate::specs::Walk::entry_read))]
-pub(crate) fn next_entry<R: ByteIn>(input: &mut R, left: u32) -> Result<Option<Entry>, FileFault>
-    ensures answer { Answers (λ (e : Option Entry). e) (entry_read left)
+/// `Truncated` where the input ends before; then `NotAvi` where the list bars the chunk's name;
+/// `Truncated` where the chunk does not fit in the list; `NotAvi` where it is a list without room
+/// for its own name.
+#[tactic(auto, unfolding(crate::specs::Walk::entry_in))]
+pub(crate) fn next_entry_in<R: ByteIn>(
+    input: &mut R,
+    names: Names,
+    left: u32,
+) -> Result<Option<Entry>, FileFault>
+    ensures answer { Answers (λ (e : Option Entry). e) (entry_in (bars names) left)
         (passage R.remaining R.failures input.old input.new) result }
     ensures less { IfOk result (λ o. IfSome o (λ e. e.left + 8 ≤ left)) }
     ensures listed { IfOk result (λ o. IfSome o (λ e. is_name e.name (codes "LIST") ≡ true →
@@ -56,6 +64,9 @@ pub(crate) fn next_entry<R: ByteIn>(input: &mut R, left: u32) -> Result<Option<E
     let size = LittleEndian::read_u32(&head[4..]);
     let mut name = [0u8; 4];
     name.copy_from_slice(&head[..4]);
+    if bars(names, name) {
+        return Err(FileFault::NotAvi);
+    }
     let whole = 8 + padded(size);
     if u64::from(left) < whole {
         return Err(FileFault::Truncated);
@@ -68,4 +79,15 @@ pub(crate) fn next_entry<R: ByteIn>(input: &mut R, left: u32) -> Result<Option<E
         size,
         left: left - whole as u32,
     }))
+}
+
+/// The same of a list that bars no name.
+pub(crate) fn next_entry<R: ByteIn>(input: &mut R, left: u32) -> Result<Option<Entry>, FileFault>
+    ensures answer { Answers (λ (e : Option Entry). e) (entry_read left)
+        (passage R.remaining R.failures input.old input.new) result }
+    ensures less { IfOk result (λ o. IfSome o (λ e. e.left + 8 ≤ left)) }
+    ensures listed { IfOk result (λ o. IfSome o (λ e. is_name e.name (codes "LIST") ≡ true →
+        4 ≤ e.size)) }
+{
+    next_entry_in(input, Names::Any, left)
 }

@@ -14,7 +14,7 @@ ghost use Rattle.ffv1_avi.specs.Begun.{StreamBegins, streams_of};
 ghost use Rattle.ffv1_avi.specs.Files.{file_read, open_read, frame_read, frames_read, more_frames};
 ghost use Rattle.ffv1_reads.specs.Ends.{Ends, Stops};
 ghost use Rattle.ffv1_reads.specs.Head.{Head};
-ghost use Rattle.ffv1_avi.specs.Names.{IsFrameName, IsListed, is_barred, is_frame};
+ghost use Rattle.ffv1_avi.specs.Names.{IsFrameName, IsListed, bars, is_barred, is_frame};
 ghost use Rattle.ffv1_avi.specs.Padding.{padded};
 ghost use Rattle.ffv1_avi.specs.Places.{ended, extent_of, first_place};
 ghost use Rattle.ffv1_reads.specs.Reads.{EndsEarly, Faults, Lacks, Met, Read, Reading, Short, Want};
@@ -147,7 +147,8 @@ pub fn movi_after_other_streams_is_refused()
 /// Where every RIFF is read, a chunk that passes its list is truncated, and nothing after its
 /// header is read: in RIFF, in `hdrl` and in `odml` after chunks whose streams can be read, up to
 /// the one that counts; in a stream's list where none before it counts, after chunks of which no
-/// format is too long; in any `movi` after chunks that may stand there and are no frames;
+/// format is too long; in any `movi` after chunks that may stand there and are no frames, where it
+/// may stand there itself or is a list;
 /// and in RIFF after a `movi`, or in the next RIFF, after chunks that are no `movi` and no frames.
 pub fn long_chunk_in_riffs_is_truncated()
     ensures riff { (file : List ℕ) (parts : List Part) (left : ℕ) (name size rest : List ℕ) →
@@ -177,6 +178,7 @@ pub fn long_chunk_in_riffs_is_truncated()
         place.movi ≡ length (chunks_text chunks) + left → AreChunks chunks →
         those (barred_in place.names) chunks ≡ [] →
         those (frame_in place.names) chunks ≡ [] → Passes left name size →
+        bars place.names name ≡ false →
         frame_read place (chunks_text chunks ++ ((name ++ size) ++ rest))
         ≡ Err (Met fault.Truncated rest) }
     ensures after { (place : Place) (chunks : List Chunk) (left : ℕ) (name size rest : List ℕ) →
@@ -215,7 +217,7 @@ pub fn file_is_read_as_its_frames()
 /// Where every RIFF is read, a movi holds only what a name lists: a name of four bytes may stand
 /// there exactly where it is that of a frame of the stream, compressed or not, of its palette, of
 /// another one of the streams, of an index, or JUNK. Any other is refused behind its header, and
-/// nothing after that is read.
+/// nothing after that is read; but for a list its size is not looked at.
 pub fn movi_holds_listed_chunks()
     ensures frames { (stream streams : ℕ) (name : List ℕ) → stream < 100 →
         is_frame (Closed stream streams) name ≡ true → IsFrameName stream name }
@@ -227,6 +229,9 @@ pub fn movi_holds_listed_chunks()
         length size ≡ 4 → 8 + padded (little_number 4 size) ≤ place.movi →
         (is_name name (codes "LIST") ≡ true → 4 ≤ little_number 4 size) →
         is_barred place.names name ≡ true →
+        frame_read place ((name ++ size) ++ rest) ≡ Err (Met fault.NotAvi rest) }
+    ensures any_size { (place : Place) (name size rest : List ℕ) → length name ≡ 4 →
+        length size ≡ 4 → 8 ≤ place.movi → bars place.names name ≡ true →
         frame_read place ((name ++ size) ++ rest) ≡ Err (Met fault.NotAvi rest) }
 {}
 

@@ -1,7 +1,8 @@
 //! Which chunks a movi has, by their names.
 
 ghost use Rattle.std.specs.Prelude.{◌≡◌, ◌+◌, ◌/◌, ◌%◌, ◌∷◌, []};
-ghost use Rattle.ffv1_avi.specs.Names.{are_digits, bitmap_name, frame_name, is_barred, is_digit};
+ghost use Rattle.ffv1_avi.specs.Names.{are_digits, bars, bitmap_name, frame_name, is_barred};
+ghost use Rattle.ffv1_avi.specs.Names.{is_digit};
 ghost use Rattle.ffv1_avi.specs.Names.{is_frame, is_index, is_of_other, is_stream_frame};
 ghost use Rattle.ffv1_avi.specs.Names.{palette_name, stands_beside};
 
@@ -88,5 +89,15 @@ pub(crate) fn is_barred(names: Names, name: [u8; 4]) -> bool
         Names::Closed(stream, streams) => {
             !is_stream_frame(stream, name) && !stands_beside(stream, streams, name)
         }
+    }
+}
+
+/// Whether a chunk of this name may not stand in movi, whatever size it says.
+pub(crate) fn bars(names: Names, name: [u8; 4]) -> bool
+    ensures { result ≡ bars names name }
+{
+    match names {
+        Names::Any => false,
+        Names::Closed(_, _) => !is_name(&name, b"LIST") && is_barred(names, name),
     }
 }

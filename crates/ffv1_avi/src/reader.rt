@@ -24,7 +24,7 @@ ghost use Rattle.ffv1_reads.specs.declared.fault.FileFault.{FileFault};
 ghost use Rattle.ffv1_avi.specs.declared.place.Extent.TheVariants.{FirstMovi, EveryRiff};
 ghost use Rattle.ffv1_avi.specs.declared.place.Place.{Place};
 
-use crate::chunk::{Entry, is_name, next_entry, padded};
+use crate::chunk::{Entry, is_name, next_entry_in, padded};
 use crate::names::{is_barred, is_frame};
 use crate::open::read_opening;
 use crate::place::{Extent, Names, Place, ended};
@@ -76,7 +76,7 @@ fn find_in_movi<R: ByteIn>(
         offset.old offset.new }
 {
     let mut left = place.movi;
-    while let Some(entry) = next_entry(input, left)? {
+    while let Some(entry) = next_entry_in(input, place.names, left)? {
         if let Some(size) = visit_movi(input, place.names, entry)? {
             return Ok(Some((size, entry.left)));
         }
@@ -305,7 +305,7 @@ impl<A: Allocator> AviReader<A> {
     /// `NotAvi` where a list stands in `movi`, a list has no room for its own name, or no RIFF
     /// `AVIX` stands after a RIFF; of a reader that `open_all` made, after its header, also where a
     /// chunk stands in `movi` that is no frame `NNdc` or `NNdb` of the stream, its `NNpc`, a chunk
-    /// of another of the streams, `ixNN` or `JUNK`, or where a frame's chunk stands in RIFF after
+    /// of another of the streams, `ixNN` or `JUNK`, whatever its size; or a frame in RIFF after
     /// a `movi`; `ChunkTooLong` for a frame above 67108864 bytes, of which no
     /// byte is read, `EmptyFrame` for one of none, `Read` where a read failed, `OutOfMemory`. After
     /// a fault the vector holds a beginning of the frame, and each further call answers the fault

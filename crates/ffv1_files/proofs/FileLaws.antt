@@ -18,17 +18,18 @@ use Rattle.ffv1_files.specs.declared.container.Scope.TheVariants as scope
 use Rattle.ffv1_files.specs.Files.{avi_opened, avi_place, file_read, frame_read, frames_read, is_matroska, matroska_opened, matroska_place, more_frames, open_read}
 use Rattle.ffv1_files.specs.Places.{InAvi, InMatroska, Place}
 use Rattle.ffv1_files.specs.Whole.{IsWhole}
+use Rattle.ffv1_matroska.specs.declared.track.TrackNumbers.{TrackNumbers}
 
 -- frames in turn
 module _ (next : (place : AviPlace) (text : List ℕ) → avi.frames_read place text ≡ read_on (avi.frame_read place text) (avi.more_frames avi.frames_read))
-    (on : (track : ℕ) (place : MatroskaPlace) (text : List ℕ) → matroska.frames_read track place text ≡ read_on (matroska.frame_read track place text) (matroska.more_frames (matroska.frames_read track))) where
+    (on : (track : TrackNumbers) (place : MatroskaPlace) (text : List ℕ) → matroska.frames_read track place text ≡ read_on (matroska.frame_read track place text) (matroska.more_frames (matroska.frames_read track))) where
   avi_turn : (r : Result (Option (List ℕ × AviPlace) × List ℕ) Stop) → read_on r (avi.more_frames avi.frames_read) ≡ read_on (read_on r (λ o. given (avi_place o))) (more_frames frames_read)
   unfolding frames_read
   avi_turn (Err why) = refl
   avi_turn (Ok (None, text)) = refl
   avi_turn (Ok (Some p, text)) = refl
 
-  matroska_turn : (segment : Option ℕ) (track : ℕ) (r : Result (Option (List ℕ × MatroskaPlace) × List ℕ) Stop) →
+  matroska_turn : (segment : Option ℕ) (track : TrackNumbers) (r : Result (Option (List ℕ × MatroskaPlace) × List ℕ) Stop) →
       read_on r (matroska.more_frames (matroska.frames_read track)) ≡ read_on (read_on r (λ o. given (matroska_place segment track o))) (more_frames frames_read)
   unfolding frames_read
   matroska_turn segment track (Err why) = refl
@@ -59,9 +60,9 @@ avi_same : (extent : Extent) (text : List ℕ) → read_on (avi_opened extent te
 avi_same extent text = avi_open (avi.open_read extent text)
 
 abbrev matroska_pairs : Result (opened.Opened × List ℕ) Stop → Result (Pair × List ℕ) Stop
-matroska_pairs r = read_on {Y = Pair} r (λ o text. read_on (matroska.frames_read o.track.number o.place text) (λ frames. given (o.track.head, frames)))
+matroska_pairs r = read_on {Y = Pair} r (λ o text. read_on (matroska.frames_read o.track.numbers o.place text) (λ frames. given (o.track.head, frames)))
 
-matroska_open : (r : Result (opened.Opened × List ℕ) Stop) → read_on {Y = Pair} (read_on r (λ o. given (o.track.head, InMatroska o.segment o.track.number o.place))) with_frames ≡ matroska_pairs r
+matroska_open : (r : Result (opened.Opened × List ℕ) Stop) → read_on {Y = Pair} (read_on r (λ o. given (o.track.head, InMatroska o.segment o.track.numbers o.place))) with_frames ≡ matroska_pairs r
 unfolding frames_read
 matroska_open (Err why) = refl
 matroska_open (Ok p) = refl

@@ -46,7 +46,7 @@ abbrev pub in_avi : avi_reader.Standing → Standing
 in_avi r = record { head = r.head; place = InAvi r.place; offset = r.offset; fault = r.fault; room = r.room }
 
 abbrev pub in_matroska : matroska_reader.Standing → Standing
-in_matroska r = record { head = r.track.head; place = InMatroska r.segment r.track.number r.place; offset = r.offset; fault = r.fault; room = r.room }
+in_matroska r = record { head = r.track.head; place = InMatroska r.segment r.track.numbers r.place; offset = r.offset; fault = r.fault; room = r.room }
 
 -- that were opened
 avi_begins : (extent : Extent) (text left : Option (List ℕ)) (r : avi_reader.Standing) (count : ℕ) → ReadsWhole (avi.spot_taken extent) avi.Start text left (avi.BeforeFrames r.head r.place) count → r.offset ≡ offset_after 0 count → AviReached extent text left r.head r.place r.offset
@@ -74,7 +74,7 @@ module _ (first : Option ℕ) (old mid new : Option (List ℕ)) (before now afte
 
   pub matroska_reached : (r : matroska_reader.Standing) (offset : ℕ) → matroska.OffsetOpened handed (Ok r) offset → Reached scope.Whole old new (in_matroska r)
   matroska_reached r offset (count, inl whole, is) =
-      record { whole = inl (r.track.head, record { first = r.place; between = new; before = count; after = 0; opened = whole_with first old mid new gives whole; framed = reads_none (matroska.element_taken r.track.number) r.place new; offset_is = is ∙ offset_same 0 count (2 ^ 64 - 1) }) }
+      record { whole = inl (r.track.head, record { first = r.place; between = new; before = count; after = 0; opened = whole_with first old mid new gives whole; framed = reads_none (matroska.element_taken r.track.numbers) r.place new; offset_is = is ∙ offset_same 0 count (2 ^ 64 - 1) }) }
   matroska_reached r offset (count, inr ends, is) = record { whole = inr ends }
 
   pub matroska_stopped : (f : FileFault) (offset : ℕ) → matroska.OffsetOpened handed (Err f) offset → StopsAt scope.Whole all f offset
@@ -140,15 +140,15 @@ not_false e = cc
 not_over : (f : FileFault) → ◌≡◌ {A = Result Bool FileFault} (Err f) (Ok false) → ⊥
 not_over f e = cc
 
-matroska_on : (text : Option (List ℕ)) (old new : matroska_reader.Standing) (p : Passage) → new.track ≡ old.track → Over old (Ok true) → matroska.OffsetAfter old p (Ok true) new → MatroskaReached text p.old old.track.number old.place old.offset → MatroskaReached text p.new new.track.number new.place new.offset
+matroska_on : (text : Option (List ℕ)) (old new : matroska_reader.Standing) (p : Passage) → new.track ≡ old.track → Over old (Ok true) → matroska.OffsetAfter old p (Ok true) new → MatroskaReached text p.old old.track.numbers old.place old.offset → MatroskaReached text p.new new.track.numbers new.place new.offset
 matroska_on text old new p same over h (inr ends) = absurd (not_false (over ends))
 matroska_on text old new p same over (n, whole, is) (inl (head, h)) =
-    subst (λ (t : Track). MatroskaReached text p.new t.number new.place new.offset) (sym same)
+    subst (λ (t : Track). MatroskaReached text p.new t.numbers new.place new.offset) (sym same)
     (inl (head, through_on n h whole (is ∙ rw h.offset_is (goes_on h.before h.after n (2 ^ 64 - 1)))))
 
-matroska_stops_on : (text : Option (List ℕ)) (old new : matroska_reader.Standing) (p : Passage) (f : FileFault) → Over old (Err f) → matroska.OffsetAfter old p (Err f) new → MatroskaReached text p.old old.track.number old.place old.offset → MatroskaStops (record p { old = text }) f new.offset
+matroska_stops_on : (text : Option (List ℕ)) (old new : matroska_reader.Standing) (p : Passage) (f : FileFault) → Over old (Err f) → matroska.OffsetAfter old p (Err f) new → MatroskaReached text p.old old.track.numbers old.place old.offset → MatroskaStops (record p { old = text }) f new.offset
 matroska_stops_on text old new p f over h (inr ends) = absurd (not_over f (over ends))
-matroska_stops_on text old new p f over (to, n, stops, is) (inl (head, h)) = inr (record { number = old.track.number; head = head }, stops_on p f n h stops (is ∙ rw h.offset_is (goes_on h.before h.after n (2 ^ 64 - 1))))
+matroska_stops_on text old new p f over (to, n, stops, is) (inl (head, h)) = inr (record { numbers = old.track.numbers; head = head }, stops_on p f n h stops (is ∙ rw h.offset_is (goes_on h.before h.after n (2 ^ 64 - 1))))
 
 pub matroska_located : (s : Scope) (text : Option (List ℕ)) (old new : matroska_reader.Standing) (p : Passage) (r : Result Bool FileFault) → matroska_reader.StandsAfter old r new → matroska.OffsetAfter old p r new → Over old r → Reached s text p.old (in_matroska old) → LocatedNext s text p r (in_matroska new)
 matroska_located scope.FirstMovi text old new p r stands h over reached = absurd reached.whole

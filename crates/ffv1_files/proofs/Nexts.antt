@@ -20,6 +20,7 @@ use Rattle.ffv1_files.specs.Files.{avi_place, frame_read, matroska_place}
 use Rattle.ffv1_files.specs.Places.{InAvi, InMatroska, ends_by, may_end}
 use Rattle.ffv1_files.specs.Readers.{next_of}
 use Rattle.ffv1_files.proofs.Answering.{ends_stops, just_read, made_reads, made_stops, refused_stops, value_known}
+use Rattle.ffv1_matroska.specs.declared.track.TrackNumbers.{TrackNumbers}
 
 module _ {X Y : Type 0} (reading : Reading X) (view : Y → X) (p : Passage) where
   by_reads : (e : Extent) (y : Y) → AnswersBy e view reading p (Ok y) → ReadsAs reading p (view y)
@@ -38,7 +39,7 @@ avi_next place after bytes p (Ok false) h = made_reads (avi.frame_read place) av
 avi_next place after bytes p (Err f) h =
     made_stops (avi.frame_read place) avi_place p (may_end (InAvi place)) f (by_stops (avi.frame_read place) (λ (more : Bool). avi_reader.next_of more bytes after) p (extent_of place) f h)
 
-pub matroska_next : (segment : Option ℕ) (track : ℕ) (place after : MatroskaPlace) (bytes : List ℕ) (p : Passage) (r : Result Bool FileFault) →
+pub matroska_next : (segment : Option ℕ) (track : TrackNumbers) (place after : MatroskaPlace) (bytes : List ℕ) (p : Passage) (r : Result Bool FileFault) →
     AnswersOrEnds (λ more. matroska_reader.next_of more bytes after) (matroska.frame_read track place) p r →
     FileAnswers (may_end (InMatroska segment track place)) (λ more. next_of more bytes (InMatroska segment track after)) (frame_read (InMatroska segment track place)) p r
 unfolding frame_read
@@ -50,11 +51,11 @@ matroska_next segment track place after bytes p (Err f) h = made_stops (matroska
 
 -- the same of a reader, which stays in its Segment and at its track
 pub matroska_stands : (old new : matroska_reader.Standing) (bytes : List ℕ) (p : Passage) (r : Result Bool FileFault) → matroska_reader.StandsAfter old r new →
-    AnswersOrEnds (λ more. matroska_reader.next_of more bytes new.place) (matroska.frame_read old.track.number old.place) p r →
-    FileAnswers true (λ more. next_of more bytes (InMatroska new.segment new.track.number new.place)) (frame_read (InMatroska old.segment old.track.number old.place)) p r
+    AnswersOrEnds (λ more. matroska_reader.next_of more bytes new.place) (matroska.frame_read old.track.numbers old.place) p r →
+    FileAnswers true (λ more. next_of more bytes (InMatroska new.segment new.track.numbers new.place)) (frame_read (InMatroska old.segment old.track.numbers old.place)) p r
 matroska_stands old new bytes p (Ok more) stands h =
-    let reading = frame_read (InMatroska old.segment old.track.number old.place) in
-    subst (λ s. FileAnswers true (λ more. next_of more bytes (InMatroska s new.track.number new.place)) reading p (Ok more)) (sym stands.3)
-    (subst (λ (t : Track). FileAnswers true (λ more. next_of more bytes (InMatroska old.segment t.number new.place)) reading p (Ok more)) (sym stands.2)
-    (matroska_next old.segment old.track.number old.place new.place bytes p (Ok more) h))
-matroska_stands old new bytes p (Err f) stands h = matroska_next old.segment old.track.number old.place new.place bytes p (Err f) h
+    let reading = frame_read (InMatroska old.segment old.track.numbers old.place) in
+    subst (λ s. FileAnswers true (λ more. next_of more bytes (InMatroska s new.track.numbers new.place)) reading p (Ok more)) (sym stands.3)
+    (subst (λ (t : Track). FileAnswers true (λ more. next_of more bytes (InMatroska old.segment t.numbers new.place)) reading p (Ok more)) (sym stands.2)
+    (matroska_next old.segment old.track.numbers old.place new.place bytes p (Ok more) h))
+matroska_stands old new bytes p (Err f) stands h = matroska_next old.segment old.track.numbers old.place new.place bytes p (Err f) h

@@ -26,7 +26,7 @@ abbrev in_avi : Head × AviPlace → Head × Place
 in_avi p = (p.0, InAvi p.1)
 
 abbrev in_matroska : beginning.Opened → Head × Place
-in_matroska o = (o.track.head, InMatroska o.segment o.track.number o.place)
+in_matroska o = (o.track.head, InMatroska o.segment o.track.numbers o.place)
 
 -- up to the first movi
 pub movi_opens : (p : Passage) (x : Head × AviPlace) → (p.after ≡ p.before) × Read (avi.open_read FirstMovi) p.old p.new x → ReadsAs (open_read scope.FirstMovi) p (in_avi x)

@@ -13,6 +13,7 @@ use Rattle.ffv1_matroska.specs.Opened as beginning
 use Rattle.ffv1_files.specs.declared.container.Scope.{Scope}
 use Rattle.ffv1_files.specs.declared.container.Scope.TheVariants as scope
 use Rattle.ffv1_files.specs.Places.{InAvi, InMatroska, Place}
+use Rattle.ffv1_matroska.specs.declared.track.TrackNumbers.{TrackNumbers}
 
 -- an AVI up to its frames
 abbrev pub avi_opened : Extent → Reading (Head × Place)
@@ -21,7 +22,7 @@ avi_opened extent = avi.open_read extent >>= λ p. given (p.0, InAvi p.1)
 -- a Matroska file up to its frames
 abbrev pub matroska_opened : Reading (Head × Place)
 matroska_opened = beginning.open_read >>= λ o.
-    given (o.track.head, InMatroska o.segment o.track.number o.place)
+    given (o.track.head, InMatroska o.segment o.track.numbers o.place)
 
 -- the first byte of an ID of EBML, with which a Matroska file begins (RFC 8794, 11.2.1)
 abbrev pub is_matroska : List ℕ → Bool
@@ -41,7 +42,7 @@ avi_place None = None
 avi_place (Some p) = Some (p.0, InAvi p.1)
 
 -- of a Segment
-abbrev pub matroska_place : Option ℕ → ℕ → Option (List ℕ × MatroskaPlace) →
+abbrev pub matroska_place : Option ℕ → TrackNumbers → Option (List ℕ × MatroskaPlace) →
     Option (List ℕ × Place)
 matroska_place segment track None = None
 matroska_place segment track (Some p) = Some (p.0, InMatroska segment track p.1)

@@ -15,6 +15,7 @@ use Rattle.ffv1_matroska.specs.Offsets as matroska
 use Rattle.ffv1_matroska.specs.Places.{ended}
 use Rattle.ffv1_matroska.specs.Tracks.{Track}
 use Rattle.ffv1_matroska.specs.declared.place.Place.{Place as MatroskaPlace}
+use Rattle.ffv1_matroska.specs.declared.track.TrackNumbers.{TrackNumbers}
 use Rattle.ffv1_files.specs.declared.container.Scope.{Scope}
 use Rattle.ffv1_files.specs.declared.container.Scope.TheVariants as scope
 use Rattle.ffv1_files.specs.Places.{InAvi, InMatroska, Place}
@@ -77,14 +78,15 @@ abbrev pub matroska_layout : Track → Layout matroska.Spot MatroskaPlace
 matroska_layout track = record {
   opening = matroska.spot_taken;
   start = matroska.Start;
-  frames = matroska.element_taken track.number;
+  frames = matroska.element_taken track.numbers;
   begun = λ first. matroska.BeforeFrames track first;
 }
 
-abbrev pub MatroskaReached : Option (List ℕ) → Option (List ℕ) → ℕ → MatroskaPlace → ℕ → Type 0
-MatroskaReached text left number place offset =
+abbrev pub MatroskaReached : Option (List ℕ) → Option (List ℕ) → TrackNumbers → MatroskaPlace → ℕ →
+    Type 0
+MatroskaReached text left numbers place offset =
     ((head : Head)
-    × ReadsThrough (matroska_layout (record { number = number; head = head })) text left place
+    × ReadsThrough (matroska_layout (record { numbers = numbers; head = head })) text left place
     offset)
     ⊎ (place ≡ ended)
 

@@ -10,11 +10,12 @@ use Rattle.ffv1_files.specs.declared.container.Scope.{Scope}
 use Rattle.ffv1_files.specs.declared.container.Scope.TheVariants as scope
 use Rattle.ffv1_matroska.specs.declared.place.Place.{Place as MatroskaPlace}
 use Rattle.ffv1_matroska.specs.Places as matroska
+use Rattle.ffv1_matroska.specs.declared.track.TrackNumbers.{TrackNumbers}
 
 -- in an AVI; or in a Segment of this size, before blocks of a track
 pub data Place : Type 0 where
   InAvi : AviPlace → Place
-  InMatroska : Option ℕ → ℕ → MatroskaPlace → Place
+  InMatroska : Option ℕ → TrackNumbers → MatroskaPlace → Place
 
 -- a number of bytes that no reading from here passes
 abbrev pub amount : Place → ℕ

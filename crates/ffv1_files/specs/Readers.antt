@@ -55,7 +55,7 @@ standing_of (inner.Avi r) = record {
 }
 standing_of (inner.Matroska r) = record {
   head = r.track.head;
-  place = InMatroska r.segment r.track.number r.place;
+  place = InMatroska r.segment r.track.numbers r.place;
   offset = r.offset;
   fault = r.fault;
   room = r.room;

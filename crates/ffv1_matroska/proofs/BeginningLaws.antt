@@ -147,7 +147,7 @@ file_cut file head frames is a b parts some = elim (cases_lt (length a) (length 
                 on_before (subst P size (before_cut start.most base is.before is.tracks track (length back + m) d (drop (length d) front) is.before_are is.first is.tracks_is split.0 more (omega (arith, size, start.fits))))
 
             in_back : length front ≤ length d → FileCut is.size head frames a
-            in_back more = on_frames (frames_cut (suc (amount place)) track.number place (back ++ is.rest) (parts_frames is.parts, is.rest) e b (omega arith) all (ap (λ z. z ++ is.rest) split.1 ∙ append_assoc e b is.rest) some)
+            in_back more = on_frames (frames_cut (suc (amount place)) track.numbers place (back ++ is.rest) (parts_frames is.parts, is.rest) e b (omega arith) all (ap (λ z. z ++ is.rest) split.1 ∙ append_assoc e b is.rest) some)
               where
                 e : List ℕ
                 e = drop (length front) d
@@ -184,13 +184,13 @@ file_cut file head frames is a b parts some = elim (cases_lt (length a) (length 
                 has_ended : HasEnded reached.base m is.rest
                 has_ended = let P : Place → Type 0 = λ p. HasEnded p m is.rest in subst P (sym reached.base_is) (start.ended long m is.rest counted is.ends)
 
-                all : frames_read track.number place (back ++ is.rest) ≡ Ok (parts_frames is.parts, is.rest)
+                all : frames_read track.numbers place (back ++ is.rest) ≡ Ok (parts_frames is.parts, is.rest)
                 all =
-                    let parts = parts_complete track.number reached.base reached.loose is.parts m is.rest is.parts_are in
-                    parts.1 ∙ ap (led (parts_frames is.parts)) (ended_complete track.number reached.base parts.0 m is.rest has_ended)
+                    let parts = parts_complete track.numbers reached.base reached.loose is.parts m is.rest is.parts_are in
+                    parts.1 ∙ ap (led (parts_frames is.parts)) (ended_complete track.numbers reached.base parts.0 m is.rest has_ended)
                     ∙ ap answer (append-nil (parts_frames is.parts))
 
-                on_frames : Cut track.number place e (parts_frames is.parts) → FileCut is.size head frames a
+                on_frames : Cut track.numbers place e (parts_frames is.parts) → FileCut is.size head frames a
                 on_frames (found, others, same, inl (w, ran)) =
                     let P : Head → Type 0 = λ h. GivesThen a h found (Short w) in
                     inl (w, found, others, sym is.frames_are ∙ same, subst P is.head_is (stops_there a track [] found place e (Short w) reached.at ran))

@@ -1,7 +1,8 @@
 -- What an element holds that is not divided, a block or none: what is read is that, and that is read.
-use Rattle.std.proofs.Common.{◌≡◌, ◌≤◌, ◌+◌, ◌-◌, ◌==◌, ◌∙◌, ◌++◌, ◌∷◌, [], ℕ, List, Bool, true, false, if◌then◌else◌, nat_lt, Some, Ok, length, slice_index, refl, ap, arith, append_assoc, length-append}
+use Rattle.std.proofs.Common.{◌≡◌, ◌≤◌, ◌+◌, ◌-◌, ◌==◌, ◌∙◌, ◌++◌, ◌∷◌, [], ℕ, List, Bool, true, false, if◌then◌else◌, nat_lt, Some, Ok, Err, length, slice_index, refl, ap, arith, append_assoc, length-append}
 use Rattle.std.proofs.lemmas.Bool.{eq-eqb, le-ltb, ne_eqb}
-use Rattle.ffv1_reads.specs.Reads.{Kept, Reading, given, read_on, ◌>>=◌}
+use Rattle.ffv1_reads.specs.declared.fault.FileFault.TheVariants as fault
+use Rattle.ffv1_reads.specs.Reads.{Kept, Met, Reading, given, read_on, ◌>>=◌}
 use Rattle.ffv1_reads.proofs.WantedBytes.{taken_complete, wanted_complete}
 use Rattle.ffv1_ebml.specs.Elements.{data_read}
 use Rattle.ffv1_ebml.specs.Sums.{summed}
@@ -9,14 +10,15 @@ use Rattle.ffv1_ebml.specs.Vints.{IsVint, data_of}
 use Rattle.ffv1_ebml.specs.declared.sum.Sum.{Sum}
 use Rattle.ffv1_ebml.proofs.ElementLaws.{summed_twice}
 use Rattle.ffv1_ebml.proofs.VintLaws.{vint_complete}
-use Rattle.ffv1_matroska.specs.Blocks.{block_read, block_rest, fields_read, lacing_of, passed_on}
+use Rattle.ffv1_matroska.specs.Blocks.{block_read, block_rest, fields_read, is_unknown, lacing_of, passed_on}
 use Rattle.ffv1_matroska.specs.Elements.{Content, IsContent, IsOwn, Plain, Other, Own, content_frames, content_text}
 use Rattle.ffv1_matroska.specs.Places.{closed, frame_at, is_sound, step_to, summed_at}
 use Rattle.ffv1_matroska.specs.declared.place.Place.{Place}
 use Rattle.ffv1_matroska.proofs.FrameTurns.{Turn, kept_by, step_kept}
+use Rattle.ffv1_matroska.specs.declared.track.TrackNumbers.{TrackNumbers}
 
 -- content of so many bytes, a block or none
-abbrev pub content_read : ℕ → Bool → ℕ → Place → Reading Turn
+abbrev pub content_read : TrackNumbers → Bool → ℕ → Place → Reading Turn
 content_read track is_block size place = (if is_block then block_read track size place else passed_on size place) >>= step_kept
 
 -- the place after some bytes
@@ -41,24 +43,33 @@ index_last (a ∷ b ∷ c ∷ cs) flags long = absurd (omega (arith, long))
 data_complete : (size : ℕ) (sum : Sum) (number rest : List ℕ) → IsVint number → length number ≤ 8 → length number ≤ size → data_read size sum (number ++ rest) ≡ Ok ((record { value = data_of number; left = size - length number }, summed sum number), rest)
 data_complete size sum number rest is few fits = ap (λ z. read_on z (λ bytes. given (record { value = data_of bytes; left = size - length bytes }, summed sum bytes))) (vint_complete 8 size number rest is few fits)
 
-other_complete : (track : ℕ) (place : Place) (number bytes rest : List ℕ) → IsVint number → length number ≤ 8 → (data_of number ≡ track → ⊥) → is_sound (after_bytes place (number ++ bytes)) ≡ true →
+other_complete : (track : TrackNumbers) (place : Place) (number bytes rest : List ℕ) → IsVint number → length number ≤ 8 → (data_of number ≡ track.number → ⊥) → is_unknown track.known (data_of number) ≡ false → is_sound (after_bytes place (number ++ bytes)) ≡ true →
     block_read track (length (number ++ bytes)) place ((number ++ bytes) ++ rest) ≡ Ok (Some (step_to (after_bytes place (number ++ bytes))), rest)
 unfolding block_read
-other_complete track place number bytes rest is few differ sound =
+other_complete track place number bytes rest is few differ named sound =
     let size = length (number ++ bytes) in
     let parts : size ≡ length number + length bytes = length-append number bytes in
     let fits : length number ≤ size = omega (arith, parts) in
     let left : length bytes ≡ size - length number = omega (arith, parts) in
-    let test : (data_of number == track) ≡ false = ne_eqb _ _ differ in
+    let test : (data_of number == track.number) ≡ false = ne_eqb _ _ differ in
     let sums : summed (summed place.sum number) bytes ≡ summed place.sum (number ++ bytes) = summed_twice place.sum number bytes in
     let now : Place = summed_at place (summed place.sum number) in
     let there : is_sound (after_bytes now bytes) ≡ true = rw sums sound in
     ap (block_read track size place) (append_assoc number bytes rest)
     ∙ ap (λ z. read_on z (block_rest track place)) (data_complete size place.sum number (bytes ++ rest) is few fits)
-    ∙ rw test (passed_complete now bytes rest (size - length number) left there)
+    ∙ rw (test, named) (passed_complete now bytes rest (size - length number) left there)
     ∙ ap (λ s. Ok (Some (step_to (summed_at place s)), rest)) sums
 
-own_complete : (track : ℕ) (place : Place) (number time : List ℕ) (flags : ℕ) (frame rest : List ℕ) → IsOwn track number time flags frame →
+-- one of a number that no track has is refused behind that
+pub unknown_refused : (track : TrackNumbers) (size : ℕ) (place : Place) (number rest : List ℕ) → IsVint number → length number ≤ 8 → length number ≤ size → (data_of number ≡ track.number → ⊥) → is_unknown track.known (data_of number) ≡ true →
+    block_read track size place (number ++ rest) ≡ Err (Met fault.BadElement rest)
+unfolding block_read
+unknown_refused track size place number rest is few fits differ unknown =
+    let test : (data_of number == track.number) ≡ false = ne_eqb _ _ differ in
+    ap (λ z. read_on z (block_rest track place)) (data_complete size place.sum number rest is few fits)
+    ∙ rw (test, unknown) refl
+
+own_complete : (track : TrackNumbers) (place : Place) (number time : List ℕ) (flags : ℕ) (frame rest : List ℕ) → IsOwn track number time flags frame →
     block_read track (length (number ++ ((time ++ flags ∷ []) ++ frame))) place ((number ++ ((time ++ flags ∷ []) ++ frame)) ++ rest)
     ≡ Ok (Some (frame_at (length frame) (after_bytes place (number ++ (time ++ flags ∷ [])))), frame ++ rest)
 unfolding block_read fields_read
@@ -70,7 +81,7 @@ own_complete track place number time flags frame rest is =
     let fits : length number ≤ size = omega (arith, parts) in
     let left : size - length number ≡ 3 + length frame = omega (arith, parts) in
     let end : 3 + length frame - 3 ≡ length frame = omega arith in
-    let test : (data_of number == track) ≡ true = eq-eqb _ _ is.own.2 in
+    let test : (data_of number == track.number) ≡ true = eq-eqb _ _ is.own.2 in
     let sums : summed (summed place.sum number) fields ≡ summed place.sum (number ++ fields) = summed_twice place.sum number fields in
     let lacing : (lacing_of flags == 0) ≡ true = eq-eqb _ _ is.unlaced in
     let some : (length frame == 0) ≡ false = ne_eqb _ _ (λ e. omega (arith, e, is.some)) in
@@ -87,10 +98,10 @@ kept_complete place frame rest sound =
     ap (λ z. read_on {X = List ℕ × Sum} (read_on z (λ bytes. given (bytes, summed place.sum bytes))) (λ q. closed (Some (q.0 ∷ [], summed_at place q.1)) (summed_at place q.1))) (wanted_complete Kept (length frame) frame rest refl)
     ∙ rw sound refl
 
-pub content_complete : (track : ℕ) (is_block : Bool) (c : Content) (place : Place) (rest : List ℕ) → IsContent track is_block c → is_sound (after_bytes place (content_text c)) ≡ true →
+pub content_complete : (track : TrackNumbers) (is_block : Bool) (c : Content) (place : Place) (rest : List ℕ) → IsContent track is_block c → is_sound (after_bytes place (content_text c)) ≡ true →
     content_read track is_block (length (content_text c)) place (content_text c ++ rest) ≡ Ok (Some (content_frames c, after_bytes place (content_text c)), rest)
 content_complete track is_block (Plain bytes) place rest is sound = rw is (ap (λ z. read_on z step_kept) (passed_complete place bytes rest (length bytes) refl sound))
-content_complete track is_block (Other number bytes) place rest is sound = rw is.0 (ap (λ z. read_on z step_kept) (other_complete track place number bytes rest is.1 is.2 is.3 sound))
+content_complete track is_block (Other number bytes) place rest is sound = rw is.0 (ap (λ z. read_on z step_kept) (other_complete track place number bytes rest is.1 is.2 is.3 is.4 sound))
 content_complete track is_block (Own number time flags frame) place rest is sound =
     let head = number ++ (time ++ flags ∷ []) in
     let now : Place = after_bytes place head in

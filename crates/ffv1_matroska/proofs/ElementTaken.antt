@@ -15,7 +15,7 @@ use Rattle.ffv1_ebml.specs.declared.element.Element.{Element}
 use Rattle.ffv1_ebml.specs.declared.sum.Sum.{Sum}
 use Rattle.ffv1_ebml.specs.declared.sum.Sum.TheVariants.{Absent, Begins, Awaits}
 use Rattle.ffv1_ebml.proofs.VintLaws.{vint_sound}
-use Rattle.ffv1_matroska.specs.Blocks.{block_read, block_rest, fields_read, frame_judged, lacing_of, passed_on}
+use Rattle.ffv1_matroska.specs.Blocks.{block_read, block_rest, fields_read, frame_judged, is_unknown, lacing_of, passed_on}
 use Rattle.ffv1_matroska.specs.Internal.{bytes_of}
 use Rattle.ffv1_matroska.specs.Offsets.{element_taken, frame_taken, step_taken}
 use Rattle.ffv1_matroska.specs.Places.{amount, closed, cluster_at, group_at, is_sound, segment_at, step_to, summed_at}
@@ -24,6 +24,7 @@ use Rattle.ffv1_matroska.specs.declared.place.Place.{Place}
 use Rattle.ffv1_matroska.specs.declared.place.Step.{Step}
 use Rattle.ffv1_reads.specs.Head.{limit}
 use Rattle.ffv1_matroska.specs.Segments.{is_beside}
+use Rattle.ffv1_matroska.specs.declared.track.TrackNumbers.{TrackNumbers}
 
 -- a variable-size integer
 vint_takes : (most left : ℕ) → Takes (λ (i : List ℕ). length i ≤ left) left (λ i. left - length i) (vint_read most left)
@@ -101,14 +102,15 @@ data_takes left more sum = takes_then (vint_read 8 left) _ (vint_more 8 left mor
     vint_more : (most left more : ℕ) → Takes (λ (i : List ℕ). length i ≤ left) (left + more) (λ i. left + more - length i) (vint_read most left)
     vint_more most left more = record { only = λ text rest i h. (let v = vint_sound most left text (i, rest) h in (v.fits, rw v.text_is (omega (arith, v.fits, length-append i rest)))) }
 
-block_takes : (place : Place) (track size : ℕ) (now : Place) → Takes Any (size + amount now) (left_after place) (block_read track size now)
+block_takes : (place : Place) (track : TrackNumbers) (size : ℕ) (now : Place) → Takes Any (size + amount now) (left_after place) (block_read track size now)
 unfolding block_read
 block_takes place track size now =
     takes_then (data_read size now.sum) (block_rest track now) (data_takes size (amount now) now.sum) (λ p _.
-    takes_if (p.0.value == track) _ _ (λ _. fields_takes place p.0.left (summed_at now p.1)) (λ _. on_takes place p.0.left (summed_at now p.1)))
+    takes_if (p.0.value == track.number) _ _ (λ _. fields_takes place p.0.left (summed_at now p.1))
+    (λ _. takes_if (is_unknown track.known p.0.value) (refused fault.BadElement) _ (λ _. takes_refused fault.BadElement) (λ _. on_takes place p.0.left (summed_at now p.1))))
 
 -- an element of a BlockGroup
-group_takes : (track : ℕ) (place : Place) → Takes Any (amount place) (left_after place) (group_read track place)
+group_takes : (track : TrackNumbers) (place : Place) → Takes Any (amount place) (left_after place) (group_read track place)
 unfolding group_read group_child
 group_takes track place =
     takes_then (element_read place.group place.sum) (group_rest track place) (more (element_takes place.group place.sum)) (λ p _. child p.0.ident (group_at place p.0.left p.1) p.0.size)
@@ -122,7 +124,7 @@ group_takes track place =
     child ident now (Some n) = takes_if (ident == block) _ _ (λ _. block_takes place track n now) (λ _. on_takes place n now)
 
 -- an element of a Cluster
-child_takes : (place : Place) (track ident size : ℕ) (now : Place) → now.group ≡ 0 → Takes Any (size + amount now) (left_after place) (cluster_child track ident size now)
+child_takes : (place : Place) (track : TrackNumbers) (ident size : ℕ) (now : Place) → now.group ≡ 0 → Takes Any (size + amount now) (left_after place) (cluster_child track ident size now)
 unfolding cluster_child
 child_takes place track ident size now none =
     takes_if (ident == simple_block) _ _ (λ _. block_takes place track size now)
@@ -130,7 +132,7 @@ child_takes place track ident size now none =
     (λ _. takes_same _ _ (closed (Some (step_to (group_at now size now.sum))) (group_at now size now.sum)) (omega (arith, none)) (closed_takes place (group_at now size now.sum)))
     (λ _. takes_if (is_beside ident size) _ _ (λ _. on_takes place size now) (λ _. takes_refused fault.BadElement)))
 
-cluster_takes : (track : ℕ) (place : Place) → place.group ≡ 0 → Takes Any (amount place) (left_after place) (cluster_read track place)
+cluster_takes : (track : TrackNumbers) (place : Place) → place.group ≡ 0 → Takes Any (amount place) (left_after place) (cluster_read track place)
 unfolding cluster_read known_child first_child
 cluster_takes track place none =
     takes_then (element_read place.cluster place.sum) (cluster_rest track place) (more (element_takes place.cluster place.sum)) (λ p _. child p.0.ident (cluster_at place p.0.left p.1) p.0.size refl)
@@ -174,7 +176,7 @@ header_takes place =
     or_end [] rest x h = (takes_given {P = Any} {after = left_behind place} None tt refl).only [] rest x h
     or_end (b ∷ bs) rest x h = some.only (b ∷ bs) rest x h
 
-segment_takes : (track : ℕ) (place : Place) → place.group ≡ 0 → place.cluster ≡ 0 → Takes Any (amount place) (left_after place) (segment_read track place)
+segment_takes : (track : TrackNumbers) (place : Place) → place.group ≡ 0 → place.cluster ≡ 0 → Takes Any (amount place) (left_after place) (segment_read track place)
 unfolding segment_read segment_child other_read
 segment_takes track place group none = takes_then (header_read place) (segment_rest track place) (more (header_takes place)) (λ o _. on_header o)
   where
@@ -205,7 +207,7 @@ segment_takes track place group none = takes_then (header_read place) (segment_r
     on_header None = takes_given None tt refl
     on_header (Some e) = child e.ident (segment_at place place.loose e.left) e.size refl refl
 
-step_takes : (track : ℕ) (place : Place) → Takes Any (amount place) (left_after place) (step_read track place)
+step_takes : (track : TrackNumbers) (place : Place) → Takes Any (amount place) (left_after place) (step_read track place)
 unfolding step_read
 step_takes track place =
     takes_if (nat_lt 0 place.group) _ _ (λ _. group_takes track place)
@@ -214,7 +216,7 @@ step_takes track place =
     (λ cluster. (let empty : place.cluster ≡ 0 = grind (arith, nat_tests, cluster) in segment_takes track place none empty))))
 
 -- an element takes the bytes that its parents have less of after it
-pub element_taken_takes : (track : ℕ) (place : Place) → Takes Any (amount place) amount (element_taken track place)
+pub element_taken_takes : (track : TrackNumbers) (place : Place) → Takes Any (amount place) amount (element_taken track place)
 unfolding element_taken
 element_taken_takes track place = takes_then (step_read track place) (step_taken place) (step_takes track place) (λ o _. on_step o)
   where

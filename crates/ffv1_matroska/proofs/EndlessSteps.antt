@@ -9,7 +9,7 @@ use Rattle.ffv1_ebml.specs.declared.element.Data.{Data}
 use Rattle.ffv1_ebml.specs.declared.element.Element.{Element}
 use Rattle.ffv1_ebml.specs.declared.sum.Sum.{Sum}
 use Rattle.ffv1_ebml.specs.declared.sum.Sum.TheVariants.{Absent, Begins, Awaits}
-use Rattle.ffv1_matroska.specs.Blocks.{block_read, block_rest, fields_read, frame_judged, lacing_of, passed_on}
+use Rattle.ffv1_matroska.specs.Blocks.{block_read, block_rest, fields_read, frame_judged, is_unknown, lacing_of, passed_on}
 use Rattle.ffv1_matroska.specs.Places.{amount, closed, cluster_at, cluster_entered, frame_at, group_at, is_sound, segment_at, step_to, summed_at}
 use Rattle.ffv1_matroska.specs.Segments.{block, block_group, child_by, cluster, cluster_child, cluster_read, cluster_rest, crc_read, first_child, group_child, group_read, group_rest, header_read, is_filler, is_of_cluster, is_section, known_child, other_read, segment_child, segment_read, segment_rest, simple_block, step_read}
 use Rattle.ffv1_matroska.specs.declared.place.Place.{Place}
@@ -18,6 +18,7 @@ use Rattle.ffv1_matroska.proofs.StepBounds.{Gives, Lessens, gives_any, gives_giv
 use Rattle.ffv1_matroska.proofs.FrameTurns.{Turn, kept_by, step_kept, turn_read}
 use Rattle.ffv1_reads.specs.Head.{limit}
 use Rattle.ffv1_matroska.specs.Segments.{is_beside}
+use Rattle.ffv1_matroska.specs.declared.track.TrackNumbers.{TrackNumbers}
 
 -- the size of the Segment is known, or it is not
 abbrev Stays : Bool → Option Step → Type 0
@@ -31,9 +32,9 @@ passed_stays : (size : ℕ) (place : Place) → Gives (Stays place.endless) (pas
 unfolding passed_on
 passed_stays size place = gives_any (Stays place.endless) (passed_summed size place.sum) _ (λ sum. closed_stays place.endless (Some (step_to (summed_at place sum))) (summed_at place sum) refl)
 
-block_stays : (track size : ℕ) (place : Place) → Gives (Stays place.endless) (block_read track size place)
+block_stays : (track : TrackNumbers) (size : ℕ) (place : Place) → Gives (Stays place.endless) (block_read track size place)
 unfolding block_read fields_read
-block_stays track size place = gives_any {X = Data × Sum} P (data_read size place.sum) (block_rest track place) (λ p. gives_if P (p.0.value == track) (fields_read p.0.left (summed_at place p.1)) (passed_on p.0.left (summed_at place p.1)) (fields p.0.left p.1) (passed_stays p.0.left (summed_at place p.1)))
+block_stays track size place = gives_any {X = Data × Sum} P (data_read size place.sum) (block_rest track place) (λ p. gives_if P (p.0.value == track.number) (fields_read p.0.left (summed_at place p.1)) _ (fields p.0.left p.1) (gives_if P (is_unknown track.known p.0.value) (refused fault.BadElement) (passed_on p.0.left (summed_at place p.1)) (gives_refused P fault.BadElement) (passed_stays p.0.left (summed_at place p.1))))
   where
     P : Option Step → Type 0
     P = Stays place.endless
@@ -50,7 +51,7 @@ block_stays track size place = gives_any {X = Data × Sum} P (data_read size pla
         gives_if P (nat_lt left 3) (refused fault.Truncated) _ (gives_refused P fault.Truncated)
         (gives_any P (taken_summed 3 s) (λ p. frame_judged (slice_index p.0 2) (left - 3) (summed_at (summed_at place s) p.1)) (λ p. judged (slice_index p.0 2) (left - 3) p.1))
 
-group_stays : (track : ℕ) (place : Place) → Gives (Stays place.endless) (group_read track place)
+group_stays : (track : TrackNumbers) (place : Place) → Gives (Stays place.endless) (group_read track place)
 unfolding group_read group_child
 group_stays track place = gives_any P (element_read place.group place.sum) (group_rest track place) (λ p. child p.0.ident (group_at place p.0.left p.1) p.0.size)
   where
@@ -61,14 +62,14 @@ group_stays track place = gives_any P (element_read place.group place.sum) (grou
     child ident now None = gives_refused (Stays now.endless) fault.BadElement
     child ident now (Some n) = gives_if (Stays now.endless) (ident == block) (block_read track n now) (passed_on n now) (block_stays track n now) (passed_stays n now)
 
-child_stays : (track ident size : ℕ) (place : Place) → Gives (Stays place.endless) (cluster_child track ident size place)
+child_stays : (track : TrackNumbers) (ident size : ℕ) (place : Place) → Gives (Stays place.endless) (cluster_child track ident size place)
 unfolding cluster_child
 child_stays track ident size place =
     gives_if (Stays place.endless) (ident == simple_block) (block_read track size place) _ (block_stays track size place)
     (gives_if (Stays place.endless) (ident == block_group) _ _ (closed_stays place.endless (Some (step_to (group_at place size place.sum))) (group_at place size place.sum) refl)
     (gives_if (Stays place.endless) (is_beside ident size) (passed_on size place) _ (passed_stays size place) (gives_refused (Stays place.endless) fault.BadElement)))
 
-cluster_stays : (track : ℕ) (place : Place) → Gives (Stays place.endless) (cluster_read track place)
+cluster_stays : (track : TrackNumbers) (place : Place) → Gives (Stays place.endless) (cluster_read track place)
 unfolding cluster_read known_child first_child
 cluster_stays track place = gives_any (Stays place.endless) (element_read place.cluster place.sum) (cluster_rest track place) (λ p. child p.0.ident (cluster_at place p.0.left p.1) p.0.size)
   where
@@ -84,7 +85,7 @@ cluster_stays track place = gives_any (Stays place.endless) (element_read place.
     child ident now None = gives_refused (Stays now.endless) fault.BadElement
     child ident now (Some n) = by_sum ident n now now.sum
 
-segment_stays : (track : ℕ) (place : Place) → Gives (Stays place.endless) (segment_read track place)
+segment_stays : (track : TrackNumbers) (place : Place) → Gives (Stays place.endless) (segment_read track place)
 unfolding segment_read segment_child other_read
 segment_stays track place = gives_any (Stays place.endless) (header_read place) (segment_rest track place) on_header
   where
@@ -100,7 +101,7 @@ segment_stays track place = gives_any (Stays place.endless) (header_read place) 
     on_header None = gives_given (Stays place.endless) None tt
     on_header (Some e) = child e.ident (segment_at place place.loose e.left) e.size
 
-step_stays : (track : ℕ) (place : Place) → Gives (Stays place.endless) (step_read track place)
+step_stays : (track : TrackNumbers) (place : Place) → Gives (Stays place.endless) (step_read track place)
 unfolding step_read
 step_stays track place = gives_if (Stays place.endless) (nat_lt 0 place.group) (group_read track place) _ (group_stays track place) (gives_if (Stays place.endless) (nat_lt 0 place.cluster) (cluster_read track place) (segment_read track place) (cluster_stays track place) (segment_stays track place))
 
@@ -121,7 +122,7 @@ kept_both e n (Some s) h = on_frame s.frame s.place h
     on_frame None p h = gives_given (TurnLessens e n) (Some ([], p)) h
     on_frame (Some size) p h = gives_any (TurnLessens e n) (kept_summed size p.sum) _ (λ q. gives_if (TurnLessens e n) (is_sound (summed_at p q.1)) _ _ (gives_given (TurnLessens e n) (Some (q.0 ∷ [], summed_at p q.1)) h) (gives_refused (TurnLessens e n) fault.Checksum))
 
-pub turn_less : (track : ℕ) (place : Place) → Gives (TurnLessens place.endless (amount place)) (turn_read track place)
+pub turn_less : (track : TrackNumbers) (place : Place) → Gives (TurnLessens place.endless (amount place)) (turn_read track place)
 turn_less track place = gives_then (Both place.endless (amount place)) (TurnLessens place.endless (amount place)) (step_read track place) step_kept (record { only = λ text rest o h. both o ((step_stays track place).only text rest o h) ((step_less track place).only text rest o h) }) (kept_both place.endless (amount place))
   where
     both : (o : Option Step) → Stays place.endless o → Lessens (amount place) o → Both place.endless (amount place) o

@@ -10,8 +10,9 @@ use Rattle.ffv1_matroska.specs.Places.{amount}
 use Rattle.ffv1_matroska.specs.Segments.{header_read, segment_read, step_read}
 use Rattle.ffv1_matroska.specs.Readers.{Leaves}
 use Rattle.ffv1_matroska.specs.declared.place.Place.{Place}
+use Rattle.ffv1_matroska.specs.declared.track.TrackNumbers.{TrackNumbers}
 
-pub leaves_begun : (track : ℕ) (place : Place) (old now : Option (List ℕ)) (size : ℕ) (after : Place) (bytes : List ℕ) → Read (frame_found track place) old now (Some (size, after)) → Begins now size bytes → Leaves track place old bytes
+pub leaves_begun : (track : TrackNumbers) (place : Place) (old now : Option (List ℕ)) (size : ℕ) (after : Place) (bytes : List ℕ) → Read (frame_found track place) old now (Some (size, after)) → Begins now size bytes → Leaves track place old bytes
 leaves_begun track place None now size after bytes read begins = tt
 leaves_begun track place (Some text) None size after bytes read begins = absurd read.consumed
 leaves_begun track place (Some text) (Some more) size after bytes read begins = inr (size, after, more, ap (frame_found track place) read.consumed ∙ read.is more, begins.0, begins.1, begins.2)
@@ -27,11 +28,11 @@ begins_all (Some text) (Some left) size sum q read =
     (size, omega arith, sym bytes ∙ sym (cut_front size first.0.0 first.0.1 all.1) ∙ ap (λ z. take size z) (sym (read.consumed ∙ all.0)))
 
 -- where nothing is left there is no step, and no frame
-step_none : (track : ℕ) (place : Place) → place.segment ≡ 0 → place.cluster ≡ 0 → place.group ≡ 0 → (text : List ℕ) → step_read track place text ≡ Ok (None, text)
+step_none : (track : TrackNumbers) (place : Place) → place.segment ≡ 0 → place.cluster ≡ 0 → place.group ≡ 0 → (text : List ℕ) → step_read track place text ≡ Ok (None, text)
 unfolding step_read segment_read header_read
 step_none track place segment cluster group text = rw (group, cluster, segment) refl
 
-pub frame_ends : (track : ℕ) (place : Place) → place.segment ≡ 0 → place.cluster ≡ 0 → place.group ≡ 0 → (text : List ℕ) → frame_read track place text ≡ Ok (None, text)
+pub frame_ends : (track : TrackNumbers) (place : Place) → place.segment ≡ 0 → place.cluster ≡ 0 → place.group ≡ 0 → (text : List ℕ) → frame_read track place text ≡ Ok (None, text)
 unfolding frame_found_up_to
 frame_ends track place segment cluster group text =
     ap (λ z. read_on (read_on z (found_or_on (frame_found_up_to (amount place) track))) found_read) (step_none track place segment cluster group text)

@@ -9,6 +9,7 @@ use Rattle.ffv1_matroska.specs.Segments.{step_read}
 use Rattle.ffv1_matroska.specs.declared.place.Place.{Place}
 use Rattle.ffv1_matroska.specs.declared.place.Step.{Step}
 use Rattle.ffv1_matroska.proofs.StepBounds.{Gives, Lessens, gives_any, gives_given, gives_if, gives_refused, gives_then, step_less}
+use Rattle.ffv1_matroska.specs.declared.track.TrackNumbers.{TrackNumbers}
 
 -- the frames of some bytes and those after them
 abbrev pub led : List (List ℕ) → Result (List (List ℕ) × List ℕ) Stop → Result (List (List ℕ) × List ℕ) Stop
@@ -30,15 +31,15 @@ abbrev pub step_kept : Option Step → Reading Turn
 step_kept None = given None
 step_kept (Some s) = kept_by s.frame s.place
 
-abbrev pub turn_read : ℕ → Place → Reading Turn
+abbrev pub turn_read : TrackNumbers → Place → Reading Turn
 turn_read track place = step_read track place >>= step_kept
 
-abbrev pub turns_on : ℕ → Turn → Reading (List (List ℕ))
+abbrev pub turns_on : TrackNumbers → Turn → Reading (List (List ℕ))
 turns_on track None = given []
 turns_on track (Some p) = frames_read track p.1 >>= λ more. given (p.0 ++ more)
 
 -- more steps than are needed find nothing else
-found_enough : (m n track : ℕ) (place : Place) (text : List ℕ) → amount place < m → amount place < n → frame_found_up_to m track place text ≡ frame_found_up_to n track place text
+found_enough : (m n : ℕ) (track : TrackNumbers) (place : Place) (text : List ℕ) → amount place < m → amount place < n → frame_found_up_to m track place text ≡ frame_found_up_to n track place text
 unfolding frame_found_up_to
 found_enough zero n track place text h k = absurd (omega (arith, h))
 found_enough (suc m) zero track place text h k = absurd (omega (arith, k))
@@ -56,7 +57,7 @@ found_enough (suc m) (suc n) track place text h k = on_step (λ p more. found_en
     on_step same (Ok (None, rest)) is = refl
     on_step same (Ok (Some s, rest)) is = on_frame same s.frame s.place rest ((step_less track place).only text rest (Some s) is)
 
-found_step : (track : ℕ) (place : Place) (text : List ℕ) → frame_found track place text ≡ read_on (step_read track place text) (found_or_on (frame_found track))
+found_step : (track : TrackNumbers) (place : Place) (text : List ℕ) → frame_found track place text ≡ read_on (step_read track place text) (found_or_on (frame_found track))
 unfolding frame_found_up_to
 found_step track place text = on_step (step_read track place text) refl
   where
@@ -78,7 +79,7 @@ abbrev NextLess : ℕ → Option (List ℕ × Place) → Type 0
 NextLess n None = Unit {0}
 NextLess n (Some p) = amount p.1 < n
 
-found_less : (m track n : ℕ) (place : Place) → amount place ≤ n → Gives (FoundLess n) (frame_found_up_to m track place)
+found_less : (m : ℕ) (track : TrackNumbers) (n : ℕ) (place : Place) → amount place ≤ n → Gives (FoundLess n) (frame_found_up_to m track place)
 unfolding frame_found_up_to
 found_less zero track n place h = gives_given (FoundLess n) None tt
 found_less (suc m) track n place h = gives_then (Lessens (amount place)) (FoundLess n) (step_read track place) (found_or_on (frame_found_up_to m track)) (step_less track place) (on_step (λ p. found_less m track n p))
@@ -91,7 +92,7 @@ found_less (suc m) track n place h = gives_then (Lessens (amount place)) (FoundL
     on_step again None less = gives_given (FoundLess n) None tt
     on_step again (Some s) less = on_frame again s.frame s.place (omega (arith, less, h))
 
-frame_less : (track : ℕ) (place : Place) → Gives (NextLess (amount place)) (frame_read track place)
+frame_less : (track : TrackNumbers) (place : Place) → Gives (NextLess (amount place)) (frame_read track place)
 frame_less track place = gives_then (FoundLess (amount place)) (NextLess (amount place)) (frame_found track place) found_read (found_less (suc (amount place)) track (amount place) place (omega arith)) on_found
   where
     on_found : (o : Option (ℕ × Place)) → FoundLess (amount place) o → Gives (NextLess (amount place)) (found_read o)
@@ -99,7 +100,7 @@ frame_less track place = gives_then (FoundLess (amount place)) (NextLess (amount
     on_found (Some p) less = gives_any (NextLess (amount place)) (kept_summed p.0 p.1.sum) (λ q. closed (Some (q.0, summed_at p.1 q.1)) (summed_at p.1 q.1)) (λ q.
         gives_if (NextLess (amount place)) (is_sound (summed_at p.1 q.1)) _ _ (gives_given (NextLess (amount place)) (Some (q.0, summed_at p.1 q.1)) less) (gives_refused (NextLess (amount place)) _))
 
-frames_enough : (m n track : ℕ) (place : Place) (text : List ℕ) → amount place < m → amount place < n → frames_up_to m track place text ≡ frames_up_to n track place text
+frames_enough : (m n : ℕ) (track : TrackNumbers) (place : Place) (text : List ℕ) → amount place < m → amount place < n → frames_up_to m track place text ≡ frames_up_to n track place text
 unfolding frames_up_to
 frames_enough zero n track place text h k = absurd (omega (arith, h))
 frames_enough (suc m) zero track place text h k = absurd (omega (arith, k))
@@ -116,7 +117,7 @@ frames_enough (suc m) (suc n) track place text h k = on_frame (λ p more. frames
         ap (λ z. read_on z (λ frames. given (p.0 ∷ frames))) (same p.1 rest (omega (arith, less, h)) (omega (arith, less, k)))
 
 -- the frames are the next one and those after it
-pub frames_next : (track : ℕ) (place : Place) (text : List ℕ) → frames_read track place text ≡ read_on (frame_read track place text) (more_frames (frames_read track))
+pub frames_next : (track : TrackNumbers) (place : Place) (text : List ℕ) → frames_read track place text ≡ read_on (frame_read track place text) (more_frames (frames_read track))
 unfolding frames_up_to
 frames_next track place text = on_frame (frame_read track place text) refl
   where
@@ -128,7 +129,7 @@ frames_next track place text = on_frame (frame_read track place text) refl
         ap (λ z. read_on z (λ frames. given (p.0 ∷ frames))) (frames_enough (amount place) (suc (amount p.1)) track p.1 rest less (omega arith))
 
 -- the frames are those of the next turn and those after it
-pub frames_turn : (track : ℕ) (place : Place) (text : List ℕ) → frames_read track place text ≡ read_on (turn_read track place text) (turns_on track)
+pub frames_turn : (track : TrackNumbers) (place : Place) (text : List ℕ) → frames_read track place text ≡ read_on (turn_read track place text) (turns_on track)
 frames_turn track place text =
     frames_next track place text ∙ ap (λ z. read_on (read_on z found_read) (more_frames (frames_read track))) (found_step track place text) ∙ on_step (step_read track place text)
   where
@@ -157,12 +158,12 @@ frames_turn track place text =
     on_step (Ok (Some s, rest)) = on_frame s.frame s.place rest
 
 -- the next frame is that of the next turn, or the next one after it
-abbrev pub next_on : ℕ → Turn → Reading (Option (List ℕ × Place))
+abbrev pub next_on : TrackNumbers → Turn → Reading (Option (List ℕ × Place))
 next_on track None = given None
 next_on track (Some ([], place)) = frame_read track place
 next_on track (Some (f ∷ fs, place)) = given (Some (f, place))
 
-pub frame_turn : (track : ℕ) (place : Place) (text : List ℕ) → frame_read track place text ≡ read_on (turn_read track place text) (next_on track)
+pub frame_turn : (track : TrackNumbers) (place : Place) (text : List ℕ) → frame_read track place text ≡ read_on (turn_read track place text) (next_on track)
 frame_turn track place text = ap (λ z. read_on z found_read) (found_step track place text) ∙ on_step (step_read track place text)
   where
     on_sound : (b : Bool) (bytes : List ℕ) (p : Place) (more : List ℕ) → is_sound p ≡ b →
@@ -202,14 +203,14 @@ run_by on (Err why) = ([], Err why)
 run_by on (Ok (None, rest)) = ([], Ok rest)
 run_by on (Ok (Some p, rest)) = added (p.0 ∷ []) (on p.1 rest)
 
-run_up_to : ℕ → ℕ → Place → List ℕ → Run
+run_up_to : ℕ → TrackNumbers → Place → List ℕ → Run
 run_up_to zero track place text = ([], Ok text)
 run_up_to (suc most) track place text = run_by (run_up_to most track) (frame_read track place text)
 
-pub run : ℕ → Place → List ℕ → Run
+pub run : TrackNumbers → Place → List ℕ → Run
 run track place text = run_up_to (suc (amount place)) track place text
 
-run_enough : (m n track : ℕ) (place : Place) (text : List ℕ) → amount place < m → amount place < n → run_up_to m track place text ≡ run_up_to n track place text
+run_enough : (m n : ℕ) (track : TrackNumbers) (place : Place) (text : List ℕ) → amount place < m → amount place < n → run_up_to m track place text ≡ run_up_to n track place text
 unfolding run_up_to
 run_enough zero n track place text h k = absurd (omega (arith, h))
 run_enough (suc m) zero track place text h k = absurd (omega (arith, k))
@@ -226,7 +227,7 @@ run_enough (suc m) (suc n) track place text h k = on_frame (λ p more. run_enoug
         ap (added (p.0 ∷ [])) (same p.1 rest (omega (arith, less, h)) (omega (arith, less, k)))
 
 -- the next one, and those after it
-pub run_next : (track : ℕ) (place : Place) (text : List ℕ) → run track place text ≡ run_by (run track) (frame_read track place text)
+pub run_next : (track : TrackNumbers) (place : Place) (text : List ℕ) → run track place text ≡ run_by (run track) (frame_read track place text)
 unfolding run run_up_to
 run_next track place text = on_frame (frame_read track place text) refl
   where
@@ -237,13 +238,13 @@ run_next track place text = on_frame (frame_read track place text) refl
         let less = (frame_less track place).only text rest (Some p) is in
         ap (added (p.0 ∷ [])) (run_enough (amount place) (suc (amount p.1)) track p.1 rest less (omega arith))
 
-abbrev pub run_on : ℕ → Result (Turn × List ℕ) Stop → Run
+abbrev pub run_on : TrackNumbers → Result (Turn × List ℕ) Stop → Run
 run_on track (Err why) = ([], Err why)
 run_on track (Ok (None, rest)) = ([], Ok rest)
 run_on track (Ok (Some p, rest)) = added p.0 (run track p.1 rest)
 
 -- those of the next turn, and those after it
-pub run_turn : (track : ℕ) (place : Place) (text : List ℕ) → run track place text ≡ run_on track (turn_read track place text)
+pub run_turn : (track : TrackNumbers) (place : Place) (text : List ℕ) → run track place text ≡ run_on track (turn_read track place text)
 run_turn track place text = run_next track place text ∙ ap (λ z. run_by (run track) (read_on z found_read)) (found_step track place text) ∙ on_step (step_read track place text)
   where
     on_sound : (b : Bool) (bytes : List ℕ) (p : Place) (more : List ℕ) → is_sound p ≡ b →
@@ -266,7 +267,7 @@ run_turn track place text = run_next track place text ∙ ap (λ z. run_by (run 
     on_step (Ok (Some s, rest)) = on_frame s.frame s.place rest
 
 -- a turn of which the frames are known
-pub turn_added : (track : ℕ) (place after : Place) (text rest : List ℕ) (frames : List (List ℕ)) → turn_read track place text ≡ Ok (Some (frames, after), rest) → run track place text ≡ added frames (run track after rest)
+pub turn_added : (track : TrackNumbers) (place after : Place) (text rest : List ℕ) (frames : List (List ℕ)) → turn_read track place text ≡ Ok (Some (frames, after), rest) → run track place text ≡ added frames (run track after rest)
 turn_added track place after text rest frames is = run_turn track place text ∙ ap (run_on track) is
 
 -- what is read of them all
@@ -278,7 +279,7 @@ collapsed_added : (frames : List (List ℕ)) (r : Run) → collapsed (added fram
 collapsed_added frames (more, Ok rest) = refl
 collapsed_added frames (more, Err why) = refl
 
-frames_up_to_run : (most track : ℕ) (place : Place) (text : List ℕ) → frames_up_to most track place text ≡ collapsed (run_up_to most track place text)
+frames_up_to_run : (most : ℕ) (track : TrackNumbers) (place : Place) (text : List ℕ) → frames_up_to most track place text ≡ collapsed (run_up_to most track place text)
 unfolding frames_up_to run_up_to
 frames_up_to_run zero track place text = refl
 frames_up_to_run (suc most) track place text = on_frame (λ p more. frames_up_to_run most track p more) (frame_read track place text)
@@ -288,10 +289,10 @@ frames_up_to_run (suc most) track place text = on_frame (λ p more. frames_up_to
     on_frame same (Ok (None, rest)) = refl
     on_frame same (Ok (Some p, rest)) = ap (led (p.0 ∷ [])) (same p.1 rest) ∙ sym (collapsed_added (p.0 ∷ []) (run_up_to most track p.1 rest))
 
-pub frames_run : (track : ℕ) (place : Place) (text : List ℕ) → frames_read track place text ≡ collapsed (run track place text)
+pub frames_run : (track : TrackNumbers) (place : Place) (text : List ℕ) → frames_read track place text ≡ collapsed (run track place text)
 unfolding run
 frames_run track place text = frames_up_to_run (suc (amount place)) track place text
 
-pub as_frames : (track : ℕ) (place next : Place) (text rest : List ℕ) (frames : List (List ℕ)) → run track place text ≡ added frames (run track next rest) → frames_read track place text ≡ led frames (frames_read track next rest)
+pub as_frames : (track : TrackNumbers) (place next : Place) (text rest : List ℕ) (frames : List (List ℕ)) → run track place text ≡ added frames (run track next rest) → frames_read track place text ≡ led frames (frames_read track next rest)
 as_frames track place next text rest frames same =
     frames_run track place text ∙ ap collapsed same ∙ collapsed_added frames (run track next rest) ∙ ap (led frames) (sym (frames_run track next rest))

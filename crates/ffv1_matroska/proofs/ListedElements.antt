@@ -8,6 +8,7 @@ use Rattle.ffv1_ebml.specs.Vints.{number_of}
 use Rattle.ffv1_matroska.specs.Elements.{IsListed, IsNumberIdent, IsPassedIdent, IsPiece, Leaf, Single, content_text, stands_single}
 use Rattle.ffv1_matroska.specs.Segments.{block_group, cluster_child, is_beside, is_filler, simple_block}
 use Rattle.ffv1_matroska.specs.declared.place.Place.{Place}
+use Rattle.ffv1_matroska.specs.declared.track.TrackNumbers.{TrackNumbers}
 
 one_is : (a b : Bool) → (a || b) ≡ true → (a ≡ true) ⊎ (b ≡ true)
 one_is true b h = inl refl
@@ -52,7 +53,7 @@ listed_is ident size h = on_block (one_is (ident == simple_block) (is_beside ide
     on_block (inl k) = inl (eqb-true _ _ k)
     on_block (inr k) = inr (on_number (ident == 231 || ident == 167 || ident == 171) refl k)
 
-pub piece_listed : (track : ℕ) (leaf : Leaf) → IsPiece track (Single leaf) → IsListed (number_of leaf.ident) (length (content_text leaf.content))
+pub piece_listed : (track : TrackNumbers) (leaf : Leaf) → IsPiece track (Single leaf) → IsListed (number_of leaf.ident) (length (content_text leaf.content))
 piece_listed track leaf is = listed_is (number_of leaf.ident) (length (content_text leaf.content)) is.2
 
 pub listed_stands : (ident size : ℕ) → IsListed ident size → stands_single ident size ≡ true
@@ -66,7 +67,7 @@ listed_stands ident size (inr (inr (inr (inl is)))) = ap (λ k. stands_single k 
 listed_stands ident size (inr (inr (inr (inr (inl is))))) = ap (λ k. stands_single k size) is
 listed_stands ident size (inr (inr (inr (inr (inr is))))) = ap (λ k. stands_single k size) is
 
-pub others_refused : (track ident size : ℕ) (place : Place) (rest : List ℕ) → (ident == block_group) ≡ false → stands_single ident size ≡ false → cluster_child track ident size place rest ≡ Err (Met fault.BadElement rest)
+pub others_refused : (track : TrackNumbers) (ident size : ℕ) (place : Place) (rest : List ℕ) → (ident == block_group) ≡ false → stands_single ident size ≡ false → cluster_child track ident size place rest ≡ Err (Met fault.BadElement rest)
 unfolding cluster_child
 others_refused track ident size place rest apart none = on_tests (ident == simple_block) (is_beside ident size) refl refl
   where

@@ -17,12 +17,13 @@ use Rattle.ffv1_matroska.specs.Opened.{begin_up_to, ebml, ebml_read, element_or_
 use Rattle.ffv1_matroska.specs.Opening.{content_kept, doc_type, header_in}
 use Rattle.ffv1_matroska.specs.Places.{segment_at}
 use Rattle.ffv1_matroska.specs.Segments.{cluster}
-use Rattle.ffv1_matroska.specs.Tracks.{entry, part_or_on, record_in, track_at, track_in, track_type, track_up_to, ◌>>?◌}
+use Rattle.ffv1_matroska.specs.Tracks.{entry, first_track, part_or_on, record_in, track_at, track_in, track_type, track_up_to, ◌>>?◌}
 use Rattle.ffv1_matroska.proofs.HeaderLaws.{IsHeader, header_complete}
 use Rattle.ffv1_matroska.proofs.OpenedLaws.{ident_complete, size_complete, tops_begun}
 use Rattle.ffv1_matroska.proofs.PartLaws.{header_is_read}
 use Rattle.ffv1_matroska.proofs.PieceLaws.{header_some}
 use Rattle.ffv1_matroska.proofs.TrackLaws.{HasStart, header_passes, refused_at, segment_start}
+use Rattle.ffv1_matroska.proofs.TrackWalks.{first_fails}
 
 -- the first field
 field_first : (f : Field) (more : List ℕ) → IsField f → first_part (((f.ident ++ f.size) ++ f.content) ++ more) ≡ Ok (Some (record { ident = number_of f.ident; content = f.content; rest = more }))
@@ -111,11 +112,11 @@ header_truncated header h sound = elim (told_so header doc_type h sound) [ inl g
         let none : found doc_type header ≡ Err fault.Truncated = ap (found_up_to (length header) doc_type) h.content_is ∙ found_passes (length header) doc_type h.fields h.ident h.said h.bytes h.others h.passes (fewer_than header doc_type h) in
         rw (good, none) refl
 
-tracks_truncated : (content : List ℕ) → FieldPasses content entry → IsNotWrong content → track_in content ≡ Err fault.Truncated
-unfolding track_in
-tracks_truncated content h sound = elim (told_so content entry h sound) [ inl good ↦ on_good good | inr bad ↦ rw bad refl ]
+first_truncated : (content : List ℕ) → FieldPasses content entry → IsNotWrong content → first_track content ≡ Err fault.Truncated
+unfolding first_track
+first_truncated content h sound = elim (told_so content entry h sound) [ inl good ↦ on_good good | inr bad ↦ rw bad refl ]
   where
-    on_good : content_told content ≡ Ok tt → track_in content ≡ Err fault.Truncated
+    on_good : content_told content ≡ Ok tt → first_track content ≡ Err fault.Truncated
     on_good good = rw good (ap (track_up_to (length content)) h.content_is ∙ entry_passes (length content) h.fields h.ident h.said h.bytes h.others h.passes (fewer_than content entry h))
 
 pub header_field_passes : (file header rest : List ℕ) → HeaderBegins file header rest → FieldPasses header doc_type → IsNotWrong header → open_read file ≡ Err (Met fault.Truncated rest)
@@ -151,9 +152,9 @@ field_told content f more is whole sound = on_test (is_crc (number_of f.ident) (
     on_test true t = absurd (sound (same ∙ rw t refl))
     on_test false t = same ∙ rw t refl
 
-entry_truncated : (content : List ℕ) → EntryPasses content → IsNotWrong content → track_in content ≡ Err fault.Truncated
-unfolding track_in
-entry_truncated content h sound = rw (on_fields h.fields h.others h.content_is) (ap (track_up_to (length content)) h.content_is ∙ entry_bad (length content) h.fields h.first h.more h.others h.is h.named h.passes fewer)
+first_entry_truncated : (content : List ℕ) → EntryPasses content → IsNotWrong content → first_track content ≡ Err fault.Truncated
+unfolding first_track
+first_entry_truncated content h sound = rw (on_fields h.fields h.others h.content_is) (ap (track_up_to (length content)) h.content_is ∙ entry_bad (length content) h.fields h.first h.more h.others h.is h.named h.passes fewer)
   where
     tail : List ℕ
     tail = ((h.first.ident ++ h.first.size) ++ h.first.content) ++ h.more
@@ -199,7 +200,7 @@ tracks_refused file content rest b bad =
         ∙ rw (apart, is, le-ltb _ _ b.short, wanted_complete Kept (length content) content rest refl, bad) refl
 
 pub tracks_field_passes : (file content rest : List ℕ) → TracksBegin file content rest → FieldPasses content entry → IsNotWrong content → open_read file ≡ Err (Met fault.Truncated rest)
-tracks_field_passes file content rest b h sound = tracks_refused file content rest b (tracks_truncated content h sound)
+tracks_field_passes file content rest b h sound = tracks_refused file content rest b (first_fails content fault.Truncated (first_truncated content h sound))
 
 pub entry_field_passes : (file content rest : List ℕ) → TracksBegin file content rest → EntryPasses content → IsNotWrong content → open_read file ≡ Err (Met fault.Truncated rest)
-entry_field_passes file content rest b h sound = tracks_refused file content rest b (entry_truncated content h sound)
+entry_field_passes file content rest b h sound = tracks_refused file content rest b (first_fails content fault.Truncated (first_entry_truncated content h sound))

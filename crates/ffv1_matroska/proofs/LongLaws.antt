@@ -24,25 +24,26 @@ use Rattle.ffv1_matroska.proofs.PartLaws.{first_part, segment_header}
 use Rattle.ffv1_matroska.proofs.PieceLaws.{header_some, known_header, leaves_part, sound_group}
 use Rattle.ffv1_matroska.proofs.SegmentLaws.{loose_child, loose_complete, parts_run}
 use Rattle.ffv1_matroska.proofs.TrackLaws.{HasStart, header_passes, header_refused, segment_start}
+use Rattle.ffv1_matroska.specs.declared.track.TrackNumbers.{TrackNumbers}
 
 -- the bytes that a header has
 passes_some : (left : ℕ) (ident size : List ℕ) → Passes left ident size → 0 < left
 passes_some left ident size p = omega (arith, p.header, header_some ident size [] p.named, length-append (ident ++ size) [])
 
 -- an element that passes the Segment, a Cluster or a BlockGroup
-segment_refused : (track : ℕ) (base : Place) (loose : Bool) (left : ℕ) (ident size rest : List ℕ) → Passes left ident size → run track (segment_at base loose left) ((ident ++ size) ++ rest) ≡ ([], Err (Met fault.Truncated rest))
+segment_refused : (track : TrackNumbers) (base : Place) (loose : Bool) (left : ℕ) (ident size rest : List ℕ) → Passes left ident size → run track (segment_at base loose left) ((ident ++ size) ++ rest) ≡ ([], Err (Met fault.Truncated rest))
 unfolding step_read segment_read
 segment_refused track base loose left ident size rest p =
     run_turn track (segment_at base loose left) ((ident ++ size) ++ rest)
     ∙ ap (λ z. run_on track (read_on (read_on z (segment_rest track (segment_at base loose left))) step_kept)) (header_refused base loose left ident size rest p)
 
-cluster_refused : (track : ℕ) (base : Place) (left : ℕ) (s : Sum) (ident size rest : List ℕ) → Passes left ident size → run track (cluster_at base left s) ((ident ++ size) ++ rest) ≡ ([], Err (Met fault.Truncated rest))
+cluster_refused : (track : TrackNumbers) (base : Place) (left : ℕ) (s : Sum) (ident size rest : List ℕ) → Passes left ident size → run track (cluster_at base left s) ((ident ++ size) ++ rest) ≡ ([], Err (Met fault.Truncated rest))
 unfolding step_read cluster_read
 cluster_refused track base left s ident size rest p =
     let test : nat_lt 0 left ≡ true = lt-ltb _ _ (passes_some left ident size p) in
     run_turn track (cluster_at base left s) ((ident ++ size) ++ rest) ∙ rw (test, header_passes left s ident size rest p) refl
 
-group_refused : (track : ℕ) (base : Place) (left : ℕ) (s : Sum) (ident size rest : List ℕ) → Passes left ident size → run track (group_at base left s) ((ident ++ size) ++ rest) ≡ ([], Err (Met fault.Truncated rest))
+group_refused : (track : TrackNumbers) (base : Place) (left : ℕ) (s : Sum) (ident size rest : List ℕ) → Passes left ident size → run track (group_at base left s) ((ident ++ size) ++ rest) ≡ ([], Err (Met fault.Truncated rest))
 unfolding step_read group_read
 group_refused track base left s ident size rest p =
     let test : nat_lt 0 left ≡ true = lt-ltb _ _ (passes_some left ident size p) in
@@ -55,11 +56,11 @@ pub record ReachesSegment (file : List ℕ) (track : Track) (frames : List (List
   pub loose : Bool
   pub at : Reaches file track frames (segment_at base loose left) rest
 
-begun_there : (most : ℕ) (base : Place) (b : TopLevel) (track : Track) (n : ℕ) (rest : List ℕ) → IsTracks b track → length (top_text b) + n < most → BegunRun track (begin_up_to most None (segment_at base false (length (top_text b) + n)) (top_text b ++ rest)) (run track.number (segment_at base false n) rest)
+begun_there : (most : ℕ) (base : Place) (b : TopLevel) (track : Track) (n : ℕ) (rest : List ℕ) → IsTracks b track → length (top_text b) + n < most → BegunRun track (begin_up_to most None (segment_at base false (length (top_text b) + n)) (top_text b ++ rest)) (run track.numbers (segment_at base false n) rest)
 begun_there zero base b track n rest is fits = absurd (omega (arith, fits))
 begun_there (suc most) base b track n rest is fits =
     let some : 1 ≤ length (top_text b) = omega (arith, is.named.0, length-append (b.ident ++ b.size) b.content, length-append b.ident b.size) in
-    begun_as track (begin_up_to (suc most) None (segment_at base false (length (top_text b) + n)) (top_text b ++ rest)) (begin_up_to most (Some track) (segment_at base false n) rest) (run track.number (segment_at base false n) rest) (run track.number (segment_at base false n) rest)
+    begun_as track (begin_up_to (suc most) None (segment_at base false (length (top_text b) + n)) (top_text b ++ rest)) (begin_up_to most (Some track) (segment_at base false n) rest) (run track.numbers (segment_at base false n) rest) (run track.numbers (segment_at base false n) rest)
     (tracks_begun most base b track n rest is) refl (begun_run most track base n rest (omega (arith, fits, some)))
 
 pub segment_reached : (file : List ℕ) (track : Track) (left : ℕ) (rest : List ℕ) (b : SegmentBegins file track left rest) → ReachesSegment file track (parts_frames b.parts) left rest b.size
@@ -68,7 +69,7 @@ segment_reached file track left rest b =
       base = start.base;
       base_is = refl;
       loose = all.0;
-      at = record { size = b.size; begun = begun; opened = begins_complete file content b.size b.begins ∙ start.opened content; is = begun_as track begun at_tracks (added (parts_frames b.parts) (run track.number (segment_at start.base all.0 left) rest)) (run track.number (segment_at start.base false here) (parts_text b.parts ++ rest)) same (sym all.1) (begun_there one.0 start.base b.tracks track here (parts_text b.parts ++ rest) b.tracks_is one.1) };
+      at = record { size = b.size; begun = begun; opened = begins_complete file content b.size b.begins ∙ start.opened content; is = begun_as track begun at_tracks (added (parts_frames b.parts) (run track.numbers (segment_at start.base all.0 left) rest)) (run track.numbers (segment_at start.base false here) (parts_text b.parts ++ rest)) same (sym all.1) (begun_there one.0 start.base b.tracks track here (parts_text b.parts ++ rest) b.tracks_is one.1) };
     }
   where
     start : HasStart b.size
@@ -101,13 +102,13 @@ segment_reached file track left rest b =
     same : begun ≡ at_tracks
     same = ap (λ k. begin_up_to start.most None (segment_at start.base false k) content) whole ∙ one.2
 
-    all : (l : Bool) × (run track.number (segment_at start.base false here) (parts_text b.parts ++ rest) ≡ added (parts_frames b.parts) (run track.number (segment_at start.base l left) rest))
-    all = parts_run track.number start.base false b.parts left rest b.parts_are
+    all : (l : Bool) × (run track.numbers (segment_at start.base false here) (parts_text b.parts ++ rest) ≡ added (parts_frames b.parts) (run track.numbers (segment_at start.base l left) rest))
+    all = parts_run track.numbers start.base false b.parts left rest b.parts_are
 
 pub segment_passes : (file : List ℕ) (track : Track) (left : ℕ) (ident said rest : List ℕ) (b : SegmentBegins file track left ((ident ++ said) ++ rest)) → Passes left ident said → GivesThen file track.head (parts_frames b.parts) (Met fault.Truncated rest)
 segment_passes file track left ident said rest b p =
     let r = segment_reached file track left ((ident ++ said) ++ rest) b in
-    refused_there file track (parts_frames b.parts) (segment_at r.base r.loose left) ((ident ++ said) ++ rest) (Met fault.Truncated rest) r.at (segment_refused track.number r.base r.loose left ident said rest p)
+    refused_there file track (parts_frames b.parts) (segment_at r.base r.loose left) ((ident ++ said) ++ rest) (Met fault.Truncated rest) r.at (segment_refused track.numbers r.base r.loose left ident said rest p)
 
 -- a Cluster of known size
 record ReachesCluster (file : List ℕ) (track : Track) (frames : List (List ℕ)) (left : ℕ) (rest : List ℕ) : Type 0 where
@@ -128,28 +129,28 @@ cluster_reached file track left rest some b =
     let r = segment_reached file track (length head + (k + b.after)) (head ++ (body ++ rest)) b.segment in
     let place : Place = segment_at r.base r.loose b.after in
     let there : (number_of b.ident == cluster) ≡ true = eq-eqb _ _ b.named.2 in
-    let turn : turn_read track.number (segment_at r.base r.loose (length head + (k + b.after))) (head ++ (body ++ rest)) ≡ Ok (Some ([], cluster_entered place k), body ++ rest) =
-    segment_header track.number r.base r.loose b.ident b.size (Some k) b.after (body ++ rest) b.named.0 b.named.1 b.sized ∙ rw there refl in
+    let turn : turn_read track.numbers (segment_at r.base r.loose (length head + (k + b.after))) (head ++ (body ++ rest)) ≡ Ok (Some ([], cluster_entered place k), body ++ rest) =
+    segment_header track.numbers r.base r.loose b.ident b.size (Some k) b.after (body ++ rest) b.named.0 b.named.1 b.sized ∙ rw there refl in
     let entered = reaches_on file track before [] (segment_at r.base r.loose (length head + (k + b.after))) (cluster_entered place k) (head ++ (body ++ rest)) (body ++ rest) r.at
-    (turn_added track.number (segment_at r.base r.loose (length head + (k + b.after))) (cluster_entered place k) (head ++ (body ++ rest)) (body ++ rest) [] turn) in
+    (turn_added track.numbers (segment_at r.base r.loose (length head + (k + b.after))) (cluster_entered place k) (head ++ (body ++ rest)) (body ++ rest) [] turn) in
     let now : Place = segment_at place false place.segment in
-    let part = first_part track.number now b.pieces left rest b.are (inl some) in
+    let part = first_part track.numbers now b.pieces left rest b.are (inl some) in
     let P : List (List ℕ) → Type 0 = λ fs. Reaches file track fs (cluster_at now left part.0) rest in
     record { base = now; s = part.0; at = subst P (no_more before (pieces_frames b.pieces)) (reaches_on file track (before ++ []) (pieces_frames b.pieces) (cluster_entered place k) (cluster_at now left part.0) (body ++ rest) rest entered part.1) }
 
 pub cluster_passes : (file : List ℕ) (track : Track) (left : ℕ) (ident said rest : List ℕ) (b : ClusterBegins file track left ((ident ++ said) ++ rest)) → Passes left ident said → GivesThen file track.head (parts_frames b.segment.parts ++ pieces_frames b.pieces) (Met fault.Truncated rest)
 cluster_passes file track left ident said rest b p =
     let r = cluster_reached file track left ((ident ++ said) ++ rest) (passes_some left ident said p) b in
-    refused_there file track (parts_frames b.segment.parts ++ pieces_frames b.pieces) (cluster_at r.base left r.s) ((ident ++ said) ++ rest) (Met fault.Truncated rest) r.at (cluster_refused track.number r.base left r.s ident said rest p)
+    refused_there file track (parts_frames b.segment.parts ++ pieces_frames b.pieces) (cluster_at r.base left r.s) ((ident ++ said) ++ rest) (Met fault.Truncated rest) r.at (cluster_refused track.numbers r.base left r.s ident said rest p)
 
 -- a BlockGroup is entered, in a Cluster of known size
-opened_by : (track : ℕ) (base : Place) (k m : ℕ) (rest : List ℕ) → 0 < k → (x : Sum) → (s : Sum) × (run_on track ((child_by track block_group k (cluster_at base m x) x >>= step_kept) rest) ≡ run track (group_at (cluster_at base m s) k s) rest)
+opened_by : (track : TrackNumbers) (base : Place) (k m : ℕ) (rest : List ℕ) → 0 < k → (x : Sum) → (s : Sum) × (run_on track ((child_by track block_group k (cluster_at base m x) x >>= step_kept) rest) ≡ run track (group_at (cluster_at base m s) k s) rest)
 unfolding first_child cluster_child
 opened_by track base k m rest some Absent = (Absent, rw (sound_group (cluster_at base m Absent) k Absent some) (added_none _))
 opened_by track base k m rest some Begins = (Absent, rw (sound_group (cluster_at base m Absent) k Absent some) (added_none _))
 opened_by track base k m rest some (Awaits stated so_far) = (Awaits stated so_far, rw (sound_group (cluster_at base m (Awaits stated so_far)) k (Awaits stated so_far) some) (added_none _))
 
-group_opened : (track : ℕ) (base : Place) (ident size : List ℕ) (k m : ℕ) (s : Sum) (rest : List ℕ) → 0 < k → SaysIdent ident block_group → SaysSize size (Some k) →
+group_opened : (track : TrackNumbers) (base : Place) (ident size : List ℕ) (k m : ℕ) (s : Sum) (rest : List ℕ) → 0 < k → SaysIdent ident block_group → SaysSize size (Some k) →
     (x : Sum) × (run track (cluster_at base (length (ident ++ size) + (k + m)) s) ((ident ++ size) ++ rest) ≡ run track (group_at (cluster_at base m x) k x) rest)
 group_opened track base ident size k m s rest some is says =
     let x = summed s (ident ++ size) in
@@ -162,11 +163,11 @@ group_opened track base ident size k m s rest some is says =
     )
 
 -- elements of it, and then one that passes it
-in_group : (track : ℕ) (base : Place) (ls : List Leaf) (more : ℕ) (s : Sum) (ident said rest : List ℕ) → AreLeaves block track ls → Passes more ident said →
+in_group : (track : TrackNumbers) (base : Place) (ls : List Leaf) (more : ℕ) (s : Sum) (ident said rest : List ℕ) → AreLeaves block track ls → Passes more ident said →
     run track (group_at base (length (leaves_text ls) + more) s) (leaves_text ls ++ ((ident ++ said) ++ rest)) ≡ added (leaves_frames ls) (run track (group_at base more (summed s (leaves_text ls))) ((ident ++ said) ++ rest))
 in_group track base ls more s ident said rest are p = leaves_part track base ls more s ((ident ++ said) ++ rest) are (sound_group base more (summed s (leaves_text ls)) (passes_some more ident said p))
 
-pub group_passes : (file text : List ℕ) (track : Track) (left more : ℕ) (ident said rest : List ℕ) (b : ClusterBegins file track left text) (g : GroupBegins text track.number left more ((ident ++ said) ++ rest)) → Passes more ident said →
+pub group_passes : (file text : List ℕ) (track : Track) (left more : ℕ) (ident said rest : List ℕ) (b : ClusterBegins file track left text) (g : GroupBegins text track.numbers left more ((ident ++ said) ++ rest)) → Passes more ident said →
     GivesThen file track.head ((parts_frames b.segment.parts ++ pieces_frames b.pieces) ++ leaves_frames g.leaves) (Met fault.Truncated rest)
 group_passes file text track left more ident said rest b g p =
     let head = g.ident ++ g.size in
@@ -178,24 +179,24 @@ group_passes file text track left more ident said rest b g p =
     let whole : left ≡ length head + (k + m) = omega (arith, g.fits) in
     let bad = (ident ++ said) ++ rest in
     let inner = leaves_text g.leaves ++ bad in
-    let on = group_opened track.number r.base g.ident g.size k m r.s inner some g.named g.sized in
+    let on = group_opened track.numbers r.base g.ident g.size k m r.s inner some g.named g.sized in
     let base : Place = cluster_at r.base m on.0 in
     let s = summed on.0 (leaves_text g.leaves) in
     let before = parts_frames b.segment.parts ++ pieces_frames b.pieces in
     refused_there file track (before ++ leaves_frames g.leaves) (group_at base more s) bad (Met fault.Truncated rest)
     (reaches_on file track before (leaves_frames g.leaves) (cluster_at r.base left r.s) (group_at base more s) text bad r.at
-    (ap (run track.number (cluster_at r.base left r.s)) g.bytes
-    ∙ ap (λ n. run track.number (cluster_at r.base n r.s) (head ++ inner)) whole
+    (ap (run track.numbers (cluster_at r.base left r.s)) g.bytes
+    ∙ ap (λ n. run track.numbers (cluster_at r.base n r.s) (head ++ inner)) whole
     ∙ on.1
-    ∙ in_group track.number base g.leaves more on.0 ident said rest g.are p))
-    (group_refused track.number base more s ident said rest p)
+    ∙ in_group track.numbers base g.leaves more on.0 ident said rest g.are p))
+    (group_refused track.numbers base more s ident said rest p)
 
 -- in a Cluster of unknown size
 group_loose : (is_of_cluster block_group || is_filler block_group) ≡ true
 unfolding is_of_cluster
 group_loose = refl
 
-loose_opened : (track : ℕ) (base : Place) (ident size : List ℕ) (k m : ℕ) (rest : List ℕ) → 0 < k → SaysIdent ident block_group → SaysSize size (Some k) →
+loose_opened : (track : TrackNumbers) (base : Place) (ident size : List ℕ) (k m : ℕ) (rest : List ℕ) → 0 < k → SaysIdent ident block_group → SaysSize size (Some k) →
     run track (segment_at base true (length (ident ++ size) + (k + m))) ((ident ++ size) ++ rest) ≡ run track (group_at (segment_at base true m) k Absent) rest
 unfolding cluster_child
 loose_opened track base ident size k m rest some is says =
@@ -205,7 +206,7 @@ loose_opened track base ident size k m rest some is says =
     ∙ ap (λ r. run_on track (read_on (r rest) step_kept)) (loose_child track block_group k m base group_loose)
     ∙ rw (sound_group (segment_at base true m) k Absent some) (added_none _)
 
-pub loose_group_passes : (file text : List ℕ) (track : Track) (left more : ℕ) (ident said rest : List ℕ) (b : LooseBegins file track left text) (g : GroupBegins text track.number left more ((ident ++ said) ++ rest)) → Passes more ident said →
+pub loose_group_passes : (file text : List ℕ) (track : Track) (left more : ℕ) (ident said rest : List ℕ) (b : LooseBegins file track left text) (g : GroupBegins text track.numbers left more ((ident ++ said) ++ rest)) → Passes more ident said →
     GivesThen file track.head ((parts_frames b.segment.parts ++ pieces_frames b.pieces) ++ leaves_frames g.leaves) (Met fault.Truncated rest)
 unfolding segment_child
 loose_group_passes file text track left more ident said rest b g p =
@@ -215,13 +216,13 @@ loose_group_passes file text track left more ident said rest b g p =
     let r = segment_reached file track (length head + (length body + left)) (head ++ (body ++ text)) b.segment in
     let there : (number_of b.ident == cluster) ≡ true = eq-eqb _ _ b.named.2 in
     let none : length head + (length body + left) ≡ length head + (0 + (length body + left)) = omega arith in
-    let turn : turn_read track.number (segment_at r.base r.loose (length head + (length body + left))) (head ++ (body ++ text)) ≡ Ok (Some ([], segment_at r.base true (length body + left)), body ++ text) =
-    ap (λ n. turn_read track.number (segment_at r.base r.loose n) (head ++ (body ++ text))) none
-    ∙ segment_header track.number r.base r.loose b.ident b.size None (length body + left) (body ++ text) b.named.0 b.named.1 b.unsized ∙ rw there refl in
+    let turn : turn_read track.numbers (segment_at r.base r.loose (length head + (length body + left))) (head ++ (body ++ text)) ≡ Ok (Some ([], segment_at r.base true (length body + left)), body ++ text) =
+    ap (λ n. turn_read track.numbers (segment_at r.base r.loose n) (head ++ (body ++ text))) none
+    ∙ segment_header track.numbers r.base r.loose b.ident b.size None (length body + left) (body ++ text) b.named.0 b.named.1 b.unsized ∙ rw there refl in
     let entered = reaches_on file track before [] (segment_at r.base r.loose (length head + (length body + left))) (segment_at r.base true (length body + left)) (head ++ (body ++ text)) (body ++ text) r.at
-    (turn_added track.number (segment_at r.base r.loose (length head + (length body + left))) (segment_at r.base true (length body + left)) (head ++ (body ++ text)) (body ++ text) [] turn) in
+    (turn_added track.numbers (segment_at r.base r.loose (length head + (length body + left))) (segment_at r.base true (length body + left)) (head ++ (body ++ text)) (body ++ text) [] turn) in
     let P : List (List ℕ) → Type 0 = λ fs. Reaches file track fs (segment_at r.base true left) text in
-    let at = subst P (no_more before (pieces_frames b.pieces)) (reaches_on file track (before ++ []) (pieces_frames b.pieces) (segment_at r.base true (length body + left)) (segment_at r.base true left) (body ++ text) text entered (loose_complete track.number r.base b.pieces left text b.are b.loose)) in
+    let at = subst P (no_more before (pieces_frames b.pieces)) (reaches_on file track (before ++ []) (pieces_frames b.pieces) (segment_at r.base true (length body + left)) (segment_at r.base true left) (body ++ text) text entered (loose_complete track.numbers r.base b.pieces left text b.are b.loose)) in
     let front = g.ident ++ g.size in
     let k = length (leaves_text g.leaves) + more in
     let some : 0 < k = omega (arith, passes_some more ident said p) in
@@ -233,8 +234,8 @@ loose_group_passes file text track left more ident said rest b g p =
     let s = summed Absent (leaves_text g.leaves) in
     refused_there file track ((before ++ pieces_frames b.pieces) ++ leaves_frames g.leaves) (group_at base more s) bad (Met fault.Truncated rest)
     (reaches_on file track (before ++ pieces_frames b.pieces) (leaves_frames g.leaves) (segment_at r.base true left) (group_at base more s) text bad at
-    (ap (run track.number (segment_at r.base true left)) g.bytes
-    ∙ ap (λ n. run track.number (segment_at r.base true n) (front ++ inner)) whole
-    ∙ loose_opened track.number r.base g.ident g.size k m inner some g.named g.sized
-    ∙ in_group track.number base g.leaves more Absent ident said rest g.are p))
-    (group_refused track.number base more s ident said rest p)
+    (ap (run track.numbers (segment_at r.base true left)) g.bytes
+    ∙ ap (λ n. run track.numbers (segment_at r.base true n) (front ++ inner)) whole
+    ∙ loose_opened track.numbers r.base g.ident g.size k m inner some g.named g.sized
+    ∙ in_group track.numbers base g.leaves more Absent ident said rest g.are p))
+    (group_refused track.numbers base more s ident said rest p)

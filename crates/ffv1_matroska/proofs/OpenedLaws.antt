@@ -29,16 +29,17 @@ use Rattle.ffv1_matroska.proofs.FrameTurns.{Turn, frames_turn, led_none, step_ke
 use Rattle.ffv1_matroska.proofs.PartLaws.{header_is_read, top_only}
 use Rattle.ffv1_matroska.proofs.SegmentLaws.{segment_done}
 use Rattle.ffv1_matroska.proofs.StepBounds.{LeavesNext, header_leaves}
+use Rattle.ffv1_matroska.specs.declared.track.TrackNumbers.{TrackNumbers}
 
 -- the frames of what was opened, with its head
 abbrev pub begun_frames : Track × Place → Reading (Head × List (List ℕ))
-begun_frames p = frames_read p.0.number p.1 >>= λ frames. given (p.0.head, frames)
+begun_frames p = frames_read p.0.numbers p.1 >>= λ frames. given (p.0.head, frames)
 
 abbrev pub headed : Head → Result (List (List ℕ) × List ℕ) Stop → Result ((Head × List (List ℕ)) × List ℕ) Stop
 headed head z = read_on z (λ frames. given (head, frames))
 
 -- an element that holds no frames is passed in the same way before the frames
-passed_same : (track : ℕ) (base : Place) (m n ident : ℕ) (text : List ℕ) (k : Unit {0} → Reading (Head × List (List ℕ))) (j : Turn → Reading (Head × List (List ℕ))) → ((rest : List ℕ) → k tt rest ≡ j (Some ([], segment_at base false m)) rest) →
+passed_same : (track : TrackNumbers) (base : Place) (m n ident : ℕ) (text : List ℕ) (k : Unit {0} → Reading (Head × List (List ℕ))) (j : Turn → Reading (Head × List (List ℕ))) → ((rest : List ℕ) → k tt rest ≡ j (Some ([], segment_at base false m)) rest) →
     read_on (element_passed ident (Some n) text) k ≡ read_on (read_on (other_read ident n (segment_at base false m) text) step_kept) j
 unfolding element_passed other_read passed_on
 passed_same track base m n ident text k j same = on_tests (is_section ident) (is_filler ident) refl refl
@@ -58,56 +59,56 @@ passed_same track base m n ident text k j same = on_tests (is_section ident) (is
 
 -- after Tracks the frames are the same from there on, whatever stands before the first Cluster
 pub begun_same : (most : ℕ) (track : Track) (base : Place) (n : ℕ) (text : List ℕ) → n < most →
-    read_on (begin_up_to most (Some track) (segment_at base false n) text) begun_frames ≡ headed track.head (frames_read track.number (segment_at base false n) text)
+    read_on (begin_up_to most (Some track) (segment_at base false n) text) begun_frames ≡ headed track.head (frames_read track.numbers (segment_at base false n) text)
 unfolding begin_up_to begun_at element_passed step_read segment_read segment_child
 begun_same zero track base n text fits = absurd (omega (arith, fits))
 begun_same (suc most) track base n text fits =
     on_header (λ m rest. begun_same most track base m rest) (header_read place text) refl
-    ∙ sym (ap (headed track.head) (frames_turn track.number place text))
+    ∙ sym (ap (headed track.head) (frames_turn track.numbers place text))
   where
     place : Place
     place = segment_at base false n
 
     Again : Type 0
-    Again = (m : ℕ) (rest : List ℕ) → m < most → read_on (begin_up_to most (Some track) (segment_at base false m) rest) begun_frames ≡ headed track.head (frames_read track.number (segment_at base false m) rest)
+    Again = (m : ℕ) (rest : List ℕ) → m < most → read_on (begin_up_to most (Some track) (segment_at base false m) rest) begun_frames ≡ headed track.head (frames_read track.numbers (segment_at base false m) rest)
 
     after : Turn → Reading (Head × List (List ℕ))
-    after t = turns_on track.number t >>= λ frames. given (track.head, frames)
+    after t = turns_on track.numbers t >>= λ frames. given (track.head, frames)
 
     regrouped : (k : Option Track → Reading (Track × Place)) (z : Result (Unit {0} × List ℕ) Stop) → read_on (read_on (read_on z (λ _. given (Some track))) k) begun_frames ≡ read_on z (λ _. k (Some track) >>= begun_frames)
     regrouped k (Ok p) = refl
     regrouped k (Err why) = refl
 
-    headed_on : (w : Result (Turn × List ℕ) Stop) → read_on w after ≡ headed track.head (read_on w (turns_on track.number))
+    headed_on : (w : Result (Turn × List ℕ) Stop) → read_on w after ≡ headed track.head (read_on w (turns_on track.numbers))
     headed_on (Ok p) = refl
     headed_on (Err why) = refl
 
     on_passed : Again → (e : Element) (rest : List ℕ) → e.left < most → (e.ident == cluster) ≡ false → (size : Option ℕ) →
         read_on (read_on (read_on (element_passed e.ident size rest) (λ _. given (Some track))) (λ now. begin_up_to most now (segment_at base false e.left))) begun_frames
-        ≡ headed track.head (read_on (read_on (segment_child track.number e.ident (segment_at base false e.left) size rest) step_kept) (turns_on track.number))
+        ≡ headed track.head (read_on (read_on (segment_child track.numbers e.ident (segment_at base false e.left) size rest) step_kept) (turns_on track.numbers))
     on_passed again e rest less apart None = rw apart refl
     on_passed again e rest less apart (Some size) =
         rw apart (regrouped (λ now. begin_up_to most now (segment_at base false e.left)) (element_passed e.ident (Some size) rest)
-        ∙ passed_same track.number base e.left size e.ident rest (λ _. begin_up_to most (Some track) (segment_at base false e.left) >>= begun_frames) after (λ more. again e.left more less ∙ ap (headed track.head) (sym (led_none _)))
+        ∙ passed_same track.numbers base e.left size e.ident rest (λ _. begin_up_to most (Some track) (segment_at base false e.left) >>= begun_frames) after (λ more. again e.left more less ∙ ap (headed track.head) (sym (led_none _)))
         ∙ headed_on _)
 
     on_cluster : (e : Element) (rest : List ℕ) → (e.ident == cluster) ≡ true → (size : Option ℕ) →
-        headed track.head (frames_read track.number (in_cluster (segment_at base false e.left) size) rest)
-        ≡ headed track.head (read_on (read_on (segment_child track.number e.ident (segment_at base false e.left) size rest) step_kept) (turns_on track.number))
+        headed track.head (frames_read track.numbers (in_cluster (segment_at base false e.left) size) rest)
+        ≡ headed track.head (read_on (read_on (segment_child track.numbers e.ident (segment_at base false e.left) size rest) step_kept) (turns_on track.numbers))
     on_cluster e rest there None = rw there (ap (headed track.head) (sym (led_none _)))
     on_cluster e rest there (Some size) = rw there (ap (headed track.head) (sym (led_none _)))
 
     on_ident : Again → (e : Element) (rest : List ℕ) → e.left < most → (b : Bool) → (e.ident == cluster) ≡ b →
         read_on (element_or_begun (begin_up_to most) (Some track) place (Some e) rest) begun_frames
-        ≡ headed track.head (read_on (read_on (segment_child track.number e.ident (segment_at base false e.left) e.size rest) step_kept) (turns_on track.number))
+        ≡ headed track.head (read_on (read_on (segment_child track.numbers e.ident (segment_at base false e.left) e.size rest) step_kept) (turns_on track.numbers))
     on_ident again e rest less true t = rw t (on_cluster e rest t e.size)
     on_ident again e rest less false t = rw t (on_passed again e rest less t e.size)
 
     on_header : Again → (z : Result (Option Element × List ℕ) Stop) → header_read place text ≡ z →
         read_on (read_on z (element_or_begun (begin_up_to most) (Some track) place)) begun_frames
-        ≡ headed track.head (read_on (read_on (read_on z (segment_rest track.number place)) step_kept) (turns_on track.number))
+        ≡ headed track.head (read_on (read_on (read_on z (segment_rest track.numbers place)) step_kept) (turns_on track.numbers))
     on_header again (Err why) is = refl
-    on_header again (Ok (None, rest)) is = ap (headed track.head) (segment_done track.number ended false rest)
+    on_header again (Ok (None, rest)) is = ap (headed track.head) (segment_done track.numbers ended false rest)
     on_header again (Ok (Some e, rest)) is =
         let less : LeavesNext n (Some e) = (header_leaves place).only text rest (Some e) is in
         on_ident again e rest (omega (arith, less, fits)) (e.ident == cluster) refl

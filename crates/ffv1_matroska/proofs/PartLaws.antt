@@ -23,14 +23,15 @@ use Rattle.ffv1_matroska.proofs.FrameTurns.{added, added_none, added_twice, fram
 use Rattle.ffv1_matroska.proofs.HeaderLaws.{IsHeader, header_complete}
 use Rattle.ffv1_matroska.proofs.PieceLaws.{IsPast, child_complete, cluster_header, differs, header_some, piece_content, piece_parts, pieces_part, pieces_some, sound_cluster, sound_met, summed_none}
 use Rattle.ffv1_matroska.specs.Elements.{stands_single}
+use Rattle.ffv1_matroska.specs.declared.track.TrackNumbers.{TrackNumbers}
 
 -- where a Cluster has nothing left, the Segment is read on
-pub cluster_end : (track : ℕ) (base : Place) (s : Sum) (text : List ℕ) → frames_read track (cluster_at base 0 s) text ≡ frames_read track (segment_at base base.loose base.segment) text
+pub cluster_end : (track : TrackNumbers) (base : Place) (s : Sum) (text : List ℕ) → frames_read track (cluster_at base 0 s) text ≡ frames_read track (segment_at base base.loose base.segment) text
 unfolding step_read segment_read header_read
 cluster_end track base s text = frames_turn track (cluster_at base 0 s) text ∙ sym (frames_turn track (segment_at base base.loose base.segment) text)
 
 -- the same, of frames one by one
-pub run_end : (track : ℕ) (base : Place) (s : Sum) (text : List ℕ) → run track (cluster_at base 0 s) text ≡ run track (segment_at base base.loose base.segment) text
+pub run_end : (track : TrackNumbers) (base : Place) (s : Sum) (text : List ℕ) → run track (cluster_at base 0 s) text ≡ run track (segment_at base base.loose base.segment) text
 unfolding step_read segment_read header_read
 run_end track base s text = run_turn track (cluster_at base 0 s) text ∙ sym (run_turn track (segment_at base base.loose base.segment) text)
 
@@ -43,19 +44,19 @@ crc_number n size h = on_tests (n == crc_ident) (size == 4) refl refl
     on_tests true false s t = absurd (cc (rw (s, t) at h))
     on_tests false b s t = absurd (cc (rw s at h))
 
-no_frames : (track : ℕ) (c : Content) → IsContent track false c → content_frames c ≡ []
+no_frames : (track : TrackNumbers) (c : Content) → IsContent track false c → content_frames c ≡ []
 no_frames track (Plain bytes) is = refl
 no_frames track (Other number rest) is = absurd (cc (is.0))
 no_frames track (Own number time flags frame) is = absurd (cc (is.0))
 
-pub crc_frames : (track : ℕ) (l : Leaf) → IsLeaf simple_block track l → is_crc (number_of l.ident) (length (content_text l.content)) ≡ true → leaf_frames l ≡ []
+pub crc_frames : (track : TrackNumbers) (l : Leaf) → IsLeaf simple_block track l → is_crc (number_of l.ident) (length (content_text l.content)) ≡ true → leaf_frames l ≡ []
 crc_frames track l is crc =
     let same = crc_number (number_of l.ident) (length (content_text l.content)) crc in
     let none : (number_of l.ident == simple_block) ≡ false = differs (number_of l.ident) crc_ident simple_block same.0 refl in
     no_frames track l.content (rw (← none) is.holds)
 
 -- the first element of a Cluster, its CRC-32
-crc_complete : (track : ℕ) (base : Place) (l : Leaf) (m : ℕ) (rest : List ℕ) → IsLeaf simple_block track l → is_crc (number_of l.ident) (length (content_text l.content)) ≡ true → (number_of l.ident == block_group) ≡ false → stands_single (number_of l.ident) (length (content_text l.content)) ≡ true →
+crc_complete : (track : TrackNumbers) (base : Place) (l : Leaf) (m : ℕ) (rest : List ℕ) → IsLeaf simple_block track l → is_crc (number_of l.ident) (length (content_text l.content)) ≡ true → (number_of l.ident == block_group) ≡ false → stands_single (number_of l.ident) (length (content_text l.content)) ≡ true →
     is_sound (cluster_at base m (Awaits (low_number (content_text l.content)) turned)) ≡ true →
     run track (cluster_at base (length (leaf_text l) + m) Begins) (leaf_text l ++ rest) ≡ run track (cluster_at base m (Awaits (low_number (content_text l.content)) turned)) rest
 unfolding first_child
@@ -68,7 +69,7 @@ crc_complete track base l m rest is crc apart stands sound =
     ∙ rw (crc, taken_complete 4 body rest four.1, sound) (added_none _)
 
 -- or another one, without one
-plain_complete : (track : ℕ) (base : Place) (p : Piece) (m : ℕ) (rest : List ℕ) → IsPiece track p → is_crc (piece_ident p) (length (piece_content p)) ≡ false → is_sound (cluster_at base m Absent) ≡ true →
+plain_complete : (track : TrackNumbers) (base : Place) (p : Piece) (m : ℕ) (rest : List ℕ) → IsPiece track p → is_crc (piece_ident p) (length (piece_content p)) ≡ false → is_sound (cluster_at base m Absent) ≡ true →
     run track (cluster_at base (length (piece_text p) + m) Begins) (piece_text p ++ rest) ≡ added (piece_frames p) (run track (cluster_at base m Absent) rest)
 unfolding first_child
 plain_complete track base p m rest is no_crc sound =
@@ -77,14 +78,14 @@ plain_complete track base p m rest is no_crc sound =
     ∙ rw no_crc (child_complete track (cluster_at base m Absent) Absent p rest is sound)
 
 -- elements of a Cluster after the first are sound
-rest_sound : (track : ℕ) (base : Place) (ps : List Piece) (m : ℕ) (s : Sum) → ArePieces track ps → is_sound (cluster_at base m (summed s (pieces_text ps))) ≡ true → is_sound (cluster_at base (length (pieces_text ps) + m) s) ≡ true
+rest_sound : (track : TrackNumbers) (base : Place) (ps : List Piece) (m : ℕ) (s : Sum) → ArePieces track ps → is_sound (cluster_at base m (summed s (pieces_text ps))) ≡ true → is_sound (cluster_at base (length (pieces_text ps) + m) s) ≡ true
 rest_sound track base [] m s each h =
     let none : 0 + m ≡ m = omega arith in
     ap (λ n. is_sound (cluster_at base n s)) none ∙ ap (λ (z : Sum). is_sound (cluster_at base m z)) (sym (summed_none s)) ∙ h
 rest_sound track base (q ∷ qs) m s each h = sound_cluster base (length (pieces_text (q ∷ qs)) + m) s (omega (arith, pieces_some track q qs each.0))
 
 -- the elements of a Cluster, after a first one that was read
-after_first : (track : ℕ) (base : Place) (p : Piece) (ps : List Piece) (m : ℕ) (s : Sum) (frames : List (List ℕ)) (rest : List ℕ) → ArePieces track ps → IsPast s → is_sound (cluster_at base m (summed s (pieces_text ps))) ≡ true →
+after_first : (track : TrackNumbers) (base : Place) (p : Piece) (ps : List Piece) (m : ℕ) (s : Sum) (frames : List (List ℕ)) (rest : List ℕ) → ArePieces track ps → IsPast s → is_sound (cluster_at base m (summed s (pieces_text ps))) ≡ true →
     run track (cluster_at base (length (piece_text p) + (length (pieces_text ps) + m)) Begins) (piece_text p ++ (pieces_text ps ++ rest)) ≡ added frames (run track (cluster_at base (length (pieces_text ps) + m) s) (pieces_text ps ++ rest)) →
     run track (cluster_at base (length (pieces_text (p ∷ ps)) + m) Begins) (pieces_text (p ∷ ps) ++ rest) ≡ added (frames ++ pieces_frames ps) (run track (cluster_at base m (summed s (pieces_text ps))) rest)
 after_first track base p ps m s frames rest are past sound first =
@@ -95,13 +96,13 @@ after_first track base p ps m s frames rest are past sound first =
     ∙ ap (added frames) (pieces_part track base ps m s rest are past sound)
     ∙ added_twice frames (pieces_frames ps) _
 
-plain_first : (track : ℕ) (base : Place) (p : Piece) (ps : List Piece) (m : ℕ) (rest : List ℕ) → IsPiece track p → ArePieces track ps → is_crc (piece_ident p) (length (piece_content p)) ≡ false →
+plain_first : (track : TrackNumbers) (base : Place) (p : Piece) (ps : List Piece) (m : ℕ) (rest : List ℕ) → IsPiece track p → ArePieces track ps → is_crc (piece_ident p) (length (piece_content p)) ≡ false →
     run track (cluster_at base (length (pieces_text (p ∷ ps)) + m) Begins) (pieces_text (p ∷ ps) ++ rest) ≡ added (pieces_frames (p ∷ ps)) (run track (cluster_at base m Absent) rest)
 plain_first track base p ps m rest is are no_crc =
     let sound : is_sound (cluster_at base m Absent) ≡ true = sound_met (cluster_at base m Absent) 0 Absent refl in
     after_first track base p ps m Absent (piece_frames p) rest are tt sound (plain_complete track base p (length (pieces_text ps) + m) (pieces_text ps ++ rest) is no_crc (rest_sound track base ps m Absent are sound))
 
-summed_first : (track : ℕ) (base : Place) (l : Leaf) (ps : List Piece) (m : ℕ) (rest : List ℕ) → IsPiece track (Single l) → ArePieces track ps → is_crc (number_of l.ident) (length (content_text l.content)) ≡ true →
+summed_first : (track : TrackNumbers) (base : Place) (l : Leaf) (ps : List Piece) (m : ℕ) (rest : List ℕ) → IsPiece track (Single l) → ArePieces track ps → is_crc (number_of l.ident) (length (content_text l.content)) ≡ true →
     is_sound (cluster_at base m (summed (Awaits (low_number (content_text l.content)) turned) (pieces_text ps))) ≡ true →
     run track (cluster_at base (length (pieces_text (Single l ∷ ps)) + m) Begins) (pieces_text (Single l ∷ ps) ++ rest)
     ≡ added (pieces_frames (Single l ∷ ps)) (run track (cluster_at base m (summed (Awaits (low_number (content_text l.content)) turned) (pieces_text ps))) rest)
@@ -111,7 +112,7 @@ summed_first track base l ps m rest is are crc sound =
     ∙ ap (λ fs. added (fs ++ pieces_frames ps) (run track (cluster_at base m (summed s (pieces_text ps))) rest)) (sym (crc_frames track l is.0 crc))
 
 -- elements of a Cluster that has so many bytes more
-pub first_part : (track : ℕ) (base : Place) (ps : List Piece) (m : ℕ) (rest : List ℕ) → ArePieces track ps → (0 < m) ⊎ AreSummed ps →
+pub first_part : (track : TrackNumbers) (base : Place) (ps : List Piece) (m : ℕ) (rest : List ℕ) → ArePieces track ps → (0 < m) ⊎ AreSummed ps →
     (s : Sum) × (run track (cluster_at base (length (pieces_text ps) + m) Begins) (pieces_text ps ++ rest) ≡ added (pieces_frames ps) (run track (cluster_at base m s) rest))
 first_part track base [] m rest are sums =
     let none : 0 + m ≡ m = omega arith in
@@ -135,7 +136,7 @@ first_part track base (Group ident size ls ∷ ps) m rest are sums =
     (Absent, plain_first track base (Group ident size ls) ps m rest are.0 are.1 no_crc)
 
 -- all that it has
-pub cluster_complete : (track : ℕ) (base : Place) (ps : List Piece) (rest : List ℕ) → ArePieces track ps → AreSummed ps →
+pub cluster_complete : (track : TrackNumbers) (base : Place) (ps : List Piece) (rest : List ℕ) → ArePieces track ps → AreSummed ps →
     run track (cluster_entered base (length (pieces_text ps))) (pieces_text ps ++ rest) ≡ added (pieces_frames ps) (run track (segment_at base false base.segment) rest)
 cluster_complete track base ps rest are sums =
     let now = segment_at base false base.segment in
@@ -171,7 +172,7 @@ header_is_read base loose ident size known m rest named few sized =
     ∙ ap (λ z. read_on z (λ p. given (Some p.0))) (header_complete n Absent ident size rest known header)
     ∙ ap answer left
 
-pub segment_header : (track : ℕ) (base : Place) (loose : Bool) (ident size : List ℕ) (known : Option ℕ) (m : ℕ) (rest : List ℕ) → IsVint ident → length ident ≤ 4 → SaysSize size known →
+pub segment_header : (track : TrackNumbers) (base : Place) (loose : Bool) (ident size : List ℕ) (known : Option ℕ) (m : ℕ) (rest : List ℕ) → IsVint ident → length ident ≤ 4 → SaysSize size known →
     turn_read track (segment_at base loose (length (ident ++ size) + (bytes_of known + m))) ((ident ++ size) ++ rest) ≡ (segment_child track (number_of ident) (segment_at base loose m) known >>= step_kept) rest
 unfolding step_read segment_read
 segment_header track base loose ident size known m rest named few sized =
@@ -244,7 +245,7 @@ passed_here : (base : Place) (loose : Bool) (m : ℕ) (bytes rest : List ℕ) �
 unfolding passed_on
 passed_here base loose m bytes rest = ap (λ z. read_on (read_on z (λ xs. given (summed Absent xs))) (λ sum. closed (Some (step_to (summed_at (segment_at base loose m) sum))) (summed_at (segment_at base loose m) sum))) (taken_complete (length bytes) bytes rest refl)
 
-other_complete : (track : ℕ) (base : Place) (loose : Bool) (t : TopLevel) (m : ℕ) (rest : List ℕ) → IsTopLevel t →
+other_complete : (track : TrackNumbers) (base : Place) (loose : Bool) (t : TopLevel) (m : ℕ) (rest : List ℕ) → IsTopLevel t →
     other_read (number_of t.ident) (length t.content) (segment_at base loose m) (t.content ++ rest) ≡ Ok (Some (step_to (segment_at base (loose_after loose t) m)), rest)
 unfolding other_read
 other_complete track base loose t m rest is = on_test (is_section (number_of t.ident)) refl is.known
@@ -256,7 +257,7 @@ other_complete track base loose t m rest is = on_test (is_section (number_of t.i
     on_test true s k = rw (s, content_good t.content rest (is.told s)) refl
     on_test false s k = rw (s, k) (passed_here base loose m t.content rest)
 
-pub top_complete : (track : ℕ) (base : Place) (loose : Bool) (t : TopLevel) (m : ℕ) (rest : List ℕ) → IsTopLevel t →
+pub top_complete : (track : TrackNumbers) (base : Place) (loose : Bool) (t : TopLevel) (m : ℕ) (rest : List ℕ) → IsTopLevel t →
     run track (segment_at base loose (length (top_text t) + m)) (top_text t ++ rest) ≡ run track (segment_at base (loose_after loose t) m) rest
 unfolding segment_child
 top_complete track base loose t m rest is =

@@ -16,6 +16,7 @@ use Rattle.ffv1_matroska.specs.declared.place.Place.{Place}
 use Rattle.ffv1_matroska.proofs.BlockLaws.{after_bytes, content_complete, content_read}
 use Rattle.ffv1_matroska.proofs.FrameTurns.{added, added_none, added_twice, run, run_on, run_turn, step_kept, turn_added, turn_read}
 use Rattle.ffv1_matroska.proofs.HeaderLaws.{IsHeader, header_complete}
+use Rattle.ffv1_matroska.specs.declared.track.TrackNumbers.{TrackNumbers}
 
 pub summed_none : (s : Sum) → summed s [] ≡ s
 summed_none Absent = refl
@@ -46,7 +47,7 @@ pub header_some : (ident size : List ℕ) (rest : List ℕ) → IsVint ident →
 header_some ident size rest is = omega (arith, is.0, length-append (ident ++ size) rest, length-append ident size)
 
 -- an element of a BlockGroup
-leaf_turn : (track : ℕ) (base : Place) (l : Leaf) (m : ℕ) (s : Sum) (rest : List ℕ) → IsLeaf block track l → is_sound (group_at base m (summed s (leaf_text l))) ≡ true →
+leaf_turn : (track : TrackNumbers) (base : Place) (l : Leaf) (m : ℕ) (s : Sum) (rest : List ℕ) → IsLeaf block track l → is_sound (group_at base m (summed s (leaf_text l))) ≡ true →
     turn_read track (group_at base (length (leaf_text l) + m) s) (leaf_text l ++ rest) ≡ Ok (Some (leaf_frames l, group_at base m (summed s (leaf_text l))), rest)
 unfolding step_read group_read group_child
 leaf_turn track base l m s rest is sound =
@@ -69,7 +70,7 @@ leaf_turn track base l m s rest is sound =
     ∙ ap (λ (z : Sum). Ok (Some (leaf_frames l, group_at base m z), rest)) sums)
 
 -- elements of a BlockGroup that has so many bytes more
-pub leaves_part : (track : ℕ) (base : Place) (ls : List Leaf) (m : ℕ) (s : Sum) (rest : List ℕ) → AreLeaves block track ls → is_sound (group_at base m (summed s (leaves_text ls))) ≡ true →
+pub leaves_part : (track : TrackNumbers) (base : Place) (ls : List Leaf) (m : ℕ) (s : Sum) (rest : List ℕ) → AreLeaves block track ls → is_sound (group_at base m (summed s (leaves_text ls))) ≡ true →
     run track (group_at base (length (leaves_text ls) + m) s) (leaves_text ls ++ rest) ≡ added (leaves_frames ls) (run track (group_at base m (summed s (leaves_text ls))) rest)
 leaves_part track base [] m s rest are sound =
     let none : 0 + m ≡ m = omega arith in
@@ -95,7 +96,7 @@ leaves_part track base (l ∷ ls) m s rest are sound =
     on_more (k ∷ ks) each h = sound_group base (length (leaves_text (k ∷ ks)) + m) (summed s (leaf_text l)) (omega (arith, header_some k.ident k.size (content_text k.content) each.0.named, length-append (leaf_text k) (leaves_text ks)))
 
 -- all that it has
-pub leaves_complete : (track : ℕ) (base : Place) (ls : List Leaf) (s : Sum) (rest : List ℕ) → AreLeaves block track ls → is_sound (group_at base 0 (summed s (leaves_text ls))) ≡ true →
+pub leaves_complete : (track : TrackNumbers) (base : Place) (ls : List Leaf) (s : Sum) (rest : List ℕ) → AreLeaves block track ls → is_sound (group_at base 0 (summed s (leaves_text ls))) ≡ true →
     run track (group_at base (length (leaves_text ls)) s) (leaves_text ls ++ rest) ≡ added (leaves_frames ls) (run track (group_at base 0 (summed s (leaves_text ls))) rest)
 leaves_complete track base ls s rest are sound =
     let none : length (leaves_text ls) ≡ length (leaves_text ls) + 0 = omega arith in
@@ -111,7 +112,7 @@ pub differs : (n a b : ℕ) → n ≡ a → (a == b) ≡ false → (n == b) ≡ 
 differs n a b is apart = ap (λ z. z == b) is ∙ apart
 
 -- an element of a Cluster after its header: one that is not divided
-single_complete : (track : ℕ) (base : Place) (s : Sum) (l : Leaf) (rest : List ℕ) → IsLeaf simple_block track l → (number_of l.ident == block_group) ≡ false → stands_single (number_of l.ident) (length (content_text l.content)) ≡ true → is_sound (group_at base 0 (summed s (content_text l.content))) ≡ true →
+single_complete : (track : TrackNumbers) (base : Place) (s : Sum) (l : Leaf) (rest : List ℕ) → IsLeaf simple_block track l → (number_of l.ident == block_group) ≡ false → stands_single (number_of l.ident) (length (content_text l.content)) ≡ true → is_sound (group_at base 0 (summed s (content_text l.content))) ≡ true →
     (cluster_child track (number_of l.ident) (length (content_text l.content)) (group_at base 0 s) >>= step_kept) (content_text l.content ++ rest) ≡ Ok (Some (leaf_frames l, group_at base 0 (summed s (content_text l.content))), rest)
 unfolding cluster_child
 single_complete track base s l rest is apart stands sound = on_test (number_of l.ident == simple_block) refl
@@ -128,7 +129,7 @@ single_complete track base s l rest is apart stands sound = on_test (number_of l
     on_test false t = let holds : IsContent track false l.content = rw (← t) is.holds in let beside : is_beside (number_of l.ident) size ≡ true = rw t at stands in rw (t, apart, beside) (content_complete track false l.content now rest holds sound)
 
 -- or any
-pub child_complete : (track : ℕ) (base : Place) (s : Sum) (p : Piece) (rest : List ℕ) → IsPiece track p → is_sound (group_at base 0 (summed s (piece_content p))) ≡ true →
+pub child_complete : (track : TrackNumbers) (base : Place) (s : Sum) (p : Piece) (rest : List ℕ) → IsPiece track p → is_sound (group_at base 0 (summed s (piece_content p))) ≡ true →
     run_on track ((cluster_child track (piece_ident p) (length (piece_content p)) (group_at base 0 s) >>= step_kept) (piece_content p ++ rest))
     ≡ added (piece_frames p) (run track (group_at base 0 (summed s (piece_content p))) rest)
 unfolding cluster_child
@@ -152,7 +153,7 @@ pub record HasParts (p : Piece) : Type 0 where
   pub number : number_of ident ≡ piece_ident p
   pub sized : SaysSize size (Some (length (piece_content p)))
 
-pub piece_parts : (track : ℕ) (p : Piece) → IsPiece track p → HasParts p
+pub piece_parts : (track : TrackNumbers) (p : Piece) → IsPiece track p → HasParts p
 piece_parts track (Single l) is = record { ident = l.ident; size = l.size; text_is = refl; named = is.0.named; few = is.0.few; number = refl; sized = is.0.sized }
 piece_parts track (Group ident size ls) is = record { ident = ident; size = size; text_is = refl; named = is.0.0; few = is.0.1; number = refl; sized = is.1 }
 
@@ -167,13 +168,13 @@ past_summed Absent bytes h = tt
 past_summed Begins bytes h = absurd h
 past_summed (Awaits stated so_far) bytes h = tt
 
-pub by_past : (track ident size : ℕ) (place : Place) (s : Sum) → IsPast s → child_by track ident size place s ≡ cluster_child track ident size place
+pub by_past : (track : TrackNumbers) (ident size : ℕ) (place : Place) (s : Sum) → IsPast s → child_by track ident size place s ≡ cluster_child track ident size place
 by_past track ident size place Absent h = refl
 by_past track ident size place Begins h = absurd h
 by_past track ident size place (Awaits stated so_far) h = refl
 
 -- an element of a Cluster is read by what comes after its header
-pub known_header : (track : ℕ) (base : Place) (ident size : List ℕ) (k m : ℕ) (s : Sum) (rest : List ℕ) → IsVint ident → length ident ≤ 4 → SaysSize size (Some k) →
+pub known_header : (track : TrackNumbers) (base : Place) (ident size : List ℕ) (k m : ℕ) (s : Sum) (rest : List ℕ) → IsVint ident → length ident ≤ 4 → SaysSize size (Some k) →
     turn_read track (cluster_at base (length (ident ++ size) + (k + m)) s) ((ident ++ size) ++ rest)
     ≡ (child_by track (number_of ident) k (cluster_at base m (summed s (ident ++ size))) (summed s (ident ++ size)) >>= step_kept) rest
 unfolding step_read cluster_read known_child
@@ -187,7 +188,7 @@ known_header track base ident size k m s rest named few sized =
     ap (λ z. read_on (read_on z (cluster_rest track (cluster_at base n s))) step_kept) (header_complete n s ident size rest (Some k) header)
     ∙ ap (λ j. read_on (child_by track (number_of ident) k (cluster_at base j (summed s head)) (summed s head) rest) step_kept) left)
 
-pub cluster_header : (track : ℕ) (base : Place) (p : Piece) (h : HasParts p) (m : ℕ) (s : Sum) (rest : List ℕ) →
+pub cluster_header : (track : TrackNumbers) (base : Place) (p : Piece) (h : HasParts p) (m : ℕ) (s : Sum) (rest : List ℕ) →
     turn_read track (cluster_at base (length (piece_text p) + m) s) (piece_text p ++ rest)
     ≡ (child_by track (piece_ident p) (length (piece_content p)) (cluster_at base m (summed s (h.ident ++ h.size))) (summed s (h.ident ++ h.size)) >>= step_kept) (piece_content p ++ rest)
 cluster_header track base p h m s rest =
@@ -200,7 +201,7 @@ cluster_header track base p h m s rest =
     ∙ known_header track base h.ident h.size (length body) m s (body ++ rest) h.named h.few h.sized
     ∙ ap (λ j. read_on (child_by track j (length body) (cluster_at base m (summed s head)) (summed s head) (body ++ rest)) step_kept) h.number
 
-pub piece_complete : (track : ℕ) (base : Place) (p : Piece) (m : ℕ) (s : Sum) (rest : List ℕ) → IsPiece track p → IsPast s → is_sound (cluster_at base m (summed s (piece_text p))) ≡ true →
+pub piece_complete : (track : TrackNumbers) (base : Place) (p : Piece) (m : ℕ) (s : Sum) (rest : List ℕ) → IsPiece track p → IsPast s → is_sound (cluster_at base m (summed s (piece_text p))) ≡ true →
     run track (cluster_at base (length (piece_text p) + m) s) (piece_text p ++ rest) ≡ added (piece_frames p) (run track (cluster_at base m (summed s (piece_text p))) rest)
 piece_complete track base p m s rest is past sound =
     let h = piece_parts track p is in
@@ -215,13 +216,13 @@ piece_complete track base p m s rest is past sound =
     ∙ child_complete track now (summed s head) p rest is there
     ∙ ap (λ (z : Sum). added (piece_frames p) (run track (cluster_at base m z) rest)) sums
 
-pub pieces_some : (track : ℕ) (p : Piece) (ps : List Piece) → IsPiece track p → 0 < length (pieces_text (p ∷ ps))
+pub pieces_some : (track : TrackNumbers) (p : Piece) (ps : List Piece) → IsPiece track p → 0 < length (pieces_text (p ∷ ps))
 pieces_some track p ps is =
     let h = piece_parts track p is in
     omega (arith, header_some h.ident h.size (piece_content p) h.named, ap length h.text_is, length-append (piece_text p) (pieces_text ps))
 
 -- elements of a Cluster that has so many bytes more
-pub pieces_part : (track : ℕ) (base : Place) (ps : List Piece) (m : ℕ) (s : Sum) (rest : List ℕ) → ArePieces track ps → IsPast s → is_sound (cluster_at base m (summed s (pieces_text ps))) ≡ true →
+pub pieces_part : (track : TrackNumbers) (base : Place) (ps : List Piece) (m : ℕ) (s : Sum) (rest : List ℕ) → ArePieces track ps → IsPast s → is_sound (cluster_at base m (summed s (pieces_text ps))) ≡ true →
     run track (cluster_at base (length (pieces_text ps) + m) s) (pieces_text ps ++ rest) ≡ added (pieces_frames ps) (run track (cluster_at base m (summed s (pieces_text ps))) rest)
 pieces_part track base [] m s rest are past sound =
     let none : 0 + m ≡ m = omega arith in

@@ -12,7 +12,7 @@ use Rattle.ffv1_ebml.specs.declared.element.Data.{Data}
 use Rattle.ffv1_ebml.specs.declared.sum.Sum.{Sum}
 use Rattle.ffv1_ebml.proofs.ElementLaws.{summed_twice}
 use Rattle.ffv1_ebml.proofs.VintLaws.{vint_sound}
-use Rattle.ffv1_matroska.specs.Blocks.{block_read, block_rest, fields_read, frame_judged, lacing_of, passed_on}
+use Rattle.ffv1_matroska.specs.Blocks.{block_read, block_rest, fields_read, frame_judged, is_unknown, lacing_of, passed_on}
 use Rattle.ffv1_matroska.specs.Elements.{Content, IsContent, IsOwn, Plain, Other, Own, content_frames, content_text}
 use Rattle.ffv1_matroska.specs.Places.{closed, frame_at, is_sound, step_to, summed_at}
 use Rattle.ffv1_matroska.specs.declared.place.Place.{Place}
@@ -21,6 +21,7 @@ use Rattle.ffv1_matroska.proofs.BlockLaws.{after_bytes, content_read}
 use Rattle.ffv1_matroska.proofs.FrameTurns.{Turn, kept_by, step_kept}
 use Rattle.ffv1_matroska.proofs.StepBounds.{err_is_no_ok}
 use Rattle.ffv1_reads.specs.Head.{limit}
+use Rattle.ffv1_matroska.specs.declared.track.TrackNumbers.{TrackNumbers}
 
 -- a Cluster that has nothing left was judged
 pub record WasClosed {X : Type 0} (x : X) (place : Place) (text : List ℕ) (y : X) (rest : List ℕ) : Type 0 where
@@ -176,7 +177,7 @@ kept_sound size place text o rest h =
     record { frame = frame; text_is = parts.0 ∙ ap (λ z. frame ++ z) end.text_is; long = parts.1; sound = end.sound; turn = end.value }
 
 -- what was read of content, a block or none
-pub record HasContent (track : ℕ) (is_block : Bool) (size : ℕ) (place : Place) (text : List ℕ) (o : Turn) (rest : List ℕ) : Type 0 where
+pub record HasContent (track : TrackNumbers) (is_block : Bool) (size : ℕ) (place : Place) (text : List ℕ) (o : Turn) (rest : List ℕ) : Type 0 where
   pub content : Content
   pub is : IsContent track is_block content
   pub text_is : text ≡ content_text content ++ rest
@@ -185,7 +186,7 @@ pub record HasContent (track : ℕ) (is_block : Bool) (size : ℕ) (place : Plac
   pub turn : o ≡ Some (content_frames content, after_bytes place (content_text content))
 
 -- bytes that were passed are what an element holds
-passed_content : (track : ℕ) (is_block : Bool) (size : ℕ) (place : Place) (text : List ℕ) (o : Turn) (rest : List ℕ) (c : Content) (p : Option Step × List ℕ) → IsContent track is_block c → content_frames c ≡ [] → text ≡ content_text c ++ p.1 →
+passed_content : (track : TrackNumbers) (is_block : Bool) (size : ℕ) (place : Place) (text : List ℕ) (o : Turn) (rest : List ℕ) (c : Content) (p : Option Step × List ℕ) → IsContent track is_block c → content_frames c ≡ [] → text ≡ content_text c ++ p.1 →
     length (content_text c) ≡ size → is_sound (after_bytes place (content_text c)) ≡ true → p.0 ≡ Some (step_to (after_bytes place (content_text c))) → step_kept p.0 p.1 ≡ Ok (o, rest) → HasContent track is_block size place text o rest
 passed_content track is_block size place text o rest c p is none whole long sound step kept =
     let made : Turn = Some ([], after_bytes place (content_text c)) in
@@ -200,14 +201,14 @@ passed_content track is_block size place text o rest c p is none whole long soun
       turn = ap (λ (z : Turn × List ℕ). z.0) (sym same) ∙ ap (λ (fs : List (List ℕ)). Some (fs, after_bytes place (content_text c))) (sym none);
     }
 
-block_sound : (track size : ℕ) (place : Place) (text : List ℕ) (p : Option Step × List ℕ) (o : Turn) (rest : List ℕ) → block_read track size place text ≡ Ok p → step_kept p.0 p.1 ≡ Ok (o, rest) → HasContent track true size place text o rest
+block_sound : (track : TrackNumbers) (size : ℕ) (place : Place) (text : List ℕ) (p : Option Step × List ℕ) (o : Turn) (rest : List ℕ) → block_read track size place text ≡ Ok p → step_kept p.0 p.1 ≡ Ok (o, rest) → HasContent track true size place text o rest
 unfolding block_read
 block_sound track size place text p o rest h kept =
     let first = read_on_ok (data_read size place.sum text) (block_rest track place) p h in
     on_data first.0.0 first.0.1 first.1 first.2
   where
     on_data : (d : Data × Sum) (more : List ℕ) → data_read size place.sum text ≡ Ok (d, more) → block_rest track place d more ≡ Ok p → HasContent track true size place text o rest
-    on_data d more one two = on_test (d.0.value == track) refl two
+    on_data d more one two = on_test (d.0.value == track.number) (is_unknown track.known d.0.value) refl refl two
       where
         found : HasData size place.sum text d more
         found = data_sound size place.sum text d more one
@@ -221,17 +222,19 @@ block_sound track size place text p o rest h kept =
         sums : (bytes : List ℕ) → summed d.1 bytes ≡ summed place.sum (number ++ bytes)
         sums bytes = ap (λ (s : Sum). summed s bytes) found.sum_is ∙ summed_twice place.sum number bytes
 
-        on_test : (b : Bool) → (d.0.value == track) ≡ b → block_rest track place d more ≡ Ok p → HasContent track true size place text o rest
-        on_test false t h =
-            let passed = passed_on_sound d.0.left now more p.0 p.1 (rw t at h) in
+        on_test : (b u : Bool) → (d.0.value == track.number) ≡ b → is_unknown track.known d.0.value ≡ u → block_rest track place d more ≡ Ok p → HasContent track true size place text o rest
+        on_test false true t n h = absurd (err_is_no_ok (Met fault.BadElement more) p (rw (t, n) at h))
+        on_test false false t n h =
+            let passed = passed_on_sound d.0.left now more p.0 p.1 (rw (t, n) at h) in
             let c : Content = Other number passed.bytes in
-            let apart : data_of number ≡ track → ⊥ = λ e. eqb-false _ _ t (sym found.value ∙ e) in
+            let named : is_unknown track.known (data_of number) ≡ false = ap (is_unknown track.known) found.value ∙ n in
+            let apart : data_of number ≡ track.number → ⊥ = λ e. eqb-false _ _ t (sym found.value ∙ e) in
             let same = sums passed.bytes in
             let sound : is_sound (after_bytes place (number ++ passed.bytes)) ≡ true = ap (λ (s : Sum). is_sound (summed_at place s)) (sym same) ∙ passed.sound in
             let step : p.0 ≡ Some (step_to (after_bytes place (number ++ passed.bytes))) = passed.step ∙ ap (λ (s : Sum). Some (step_to (summed_at place s))) same in
             let long : length (number ++ passed.bytes) ≡ size = omega (arith, passed.long, found.fits, length-append number passed.bytes) in
-            passed_content track true size place text o rest c p (refl, found.is, found.few, apart) refl (found.text_is ∙ ap (λ z. number ++ z) passed.text_is ∙ sym (append_assoc number passed.bytes p.1)) long sound step kept
-        on_test true t h =
+            passed_content track true size place text o rest c p (refl, found.is, found.few, apart, named) refl (found.text_is ∙ ap (λ z. number ++ z) passed.text_is ∙ sym (append_assoc number passed.bytes p.1)) long sound step kept
+        on_test true u t n h =
             let fields = fields_sound d.0.left now more p.0 p.1 (rw t at h) in
             let three = fields.time ++ fields.flags ∷ [] in
             let P : Option Step → Type 0 = λ z. step_kept z p.1 ≡ Ok (o, rest) in
@@ -258,7 +261,7 @@ block_sound track size place text p o rest h kept =
             regrouped : (a b c d : List ℕ) → a ++ (b ++ (c ++ d)) ≡ (a ++ (b ++ c)) ++ d
             regrouped a b c d = simp append_assoc
 
-pub content_sound : (track : ℕ) (is_block : Bool) (size : ℕ) (place : Place) (text : List ℕ) (o : Turn) (rest : List ℕ) → content_read track is_block size place text ≡ Ok (o, rest) → HasContent track is_block size place text o rest
+pub content_sound : (track : TrackNumbers) (is_block : Bool) (size : ℕ) (place : Place) (text : List ℕ) (o : Turn) (rest : List ℕ) → content_read track is_block size place text ≡ Ok (o, rest) → HasContent track is_block size place text o rest
 content_sound track true size place text o rest h =
     let first = read_on_ok (block_read track size place text) step_kept (o, rest) h in
     block_sound track size place text first.0 o rest first.1 first.2

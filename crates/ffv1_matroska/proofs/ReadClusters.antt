@@ -28,6 +28,7 @@ use Rattle.ffv1_matroska.proofs.PieceLaws.{IsPast, by_past, differs, past_summed
 use Rattle.ffv1_matroska.proofs.ReadBlocks.{closed_sound, content_sound}
 use Rattle.ffv1_matroska.proofs.ReadPieces.{GoesOn, HasLeaves, leaves_sound, led_sound, turn_goes, turn_sound}
 use Rattle.ffv1_matroska.proofs.StepBounds.{err_is_no_ok}
+use Rattle.ffv1_matroska.specs.declared.track.TrackNumbers.{TrackNumbers}
 
 -- bytes of the header of an element, of this ID and size
 pub record IsNamed (ident size : List ℕ) (number n : ℕ) : Type 0 where
@@ -37,7 +38,7 @@ pub record IsNamed (ident size : List ℕ) (number n : ℕ) : Type 0 where
   pub sized : SaysSize size (Some n)
 
 -- an element of a Cluster after its header, and what is read after it
-pub record HasChild (track : ℕ) (base : Place) (s : Sum) (ident size : List ℕ) (n : ℕ) (text : List ℕ) (w : List (List ℕ) × List ℕ) : Type 0 where
+pub record HasChild (track : TrackNumbers) (base : Place) (s : Sum) (ident size : List ℕ) (n : ℕ) (text : List ℕ) (w : List (List ℕ) × List ℕ) : Type 0 where
   pub piece : Piece
   pub is : IsPiece track piece
   pub ident_is : piece_ident piece ≡ number_of ident
@@ -49,7 +50,7 @@ pub record HasChild (track : ℕ) (base : Place) (s : Sum) (ident size : List �
   pub after : GoesOn track (group_at base 0 (summed s (piece_content piece))) more (piece_frames piece) w
 
 -- one that is not divided
-single_sound : (track : ℕ) (base : Place) (s : Sum) (ident size : List ℕ) (number n : ℕ) (text : List ℕ) (w : List (List ℕ) × List ℕ) (b : Bool) → IsNamed ident size number n → (number == simple_block) ≡ b → (number == block_group) ≡ false → stands_single number n ≡ true →
+single_sound : (track : TrackNumbers) (base : Place) (s : Sum) (ident size : List ℕ) (number n : ℕ) (text : List ℕ) (w : List (List ℕ) × List ℕ) (b : Bool) → IsNamed ident size number n → (number == simple_block) ≡ b → (number == block_group) ≡ false → stands_single number n ≡ true →
     read_on (content_read track b n (group_at base 0 s) text) (turns_on track) ≡ Ok w → HasChild track base s ident size n text w
 single_sound track base s ident size number n text w b is test apart stands h =
     let first = read_on_ok (content_read track b n (group_at base 0 s) text) (turns_on track) w h in
@@ -74,7 +75,7 @@ single_sound track base s ident size number n text w b is test apart stands h =
     }
 
 -- or a BlockGroup
-group_sound : (track : ℕ) (base : Place) (s : Sum) (ident size : List ℕ) (n : ℕ) (text : List ℕ) (w : List (List ℕ) × List ℕ) → IsNamed ident size block_group n →
+group_sound : (track : TrackNumbers) (base : Place) (s : Sum) (ident size : List ℕ) (n : ℕ) (text : List ℕ) (w : List (List ℕ) × List ℕ) → IsNamed ident size block_group n →
     read_on (read_on (closed (Some (step_to (group_at base n s))) (group_at base n s) text) step_kept) (turns_on track) ≡ Ok w → HasChild track base s ident size n text w
 group_sound track base s ident size n text w is h =
     let first = read_on_ok (read_on (closed (Some (step_to (group_at base n s))) (group_at base n s) text) step_kept) (turns_on track) w h in
@@ -100,7 +101,7 @@ group_sound track base s ident size n text w is h =
       after = record { later = ls.after.later; read = ls.after.read; all = on.all ∙ ls.after.all };
     }
 
-pub child_sound : (track : ℕ) (base : Place) (s : Sum) (ident size : List ℕ) (number n : ℕ) (text : List ℕ) (w : List (List ℕ) × List ℕ) → IsNamed ident size number n →
+pub child_sound : (track : TrackNumbers) (base : Place) (s : Sum) (ident size : List ℕ) (number n : ℕ) (text : List ℕ) (w : List (List ℕ) × List ℕ) → IsNamed ident size number n →
     read_on ((cluster_child track number n (group_at base 0 s) >>= step_kept) text) (turns_on track) ≡ Ok w → HasChild track base s ident size n text w
 unfolding cluster_child
 child_sound track base s ident size number n text w is h = on_tests (number == simple_block) (number == block_group) refl refl h
@@ -117,7 +118,7 @@ child_sound track base s ident size number n text w is h = on_tests (number == s
         on_beside false r = absurd (cc (rw (p, q, r) at h))
 
 -- an element of a Cluster with its header
-pub record HasPiece (track : ℕ) (base : Place) (c : ℕ) (s : Sum) (text : List ℕ) (w : List (List ℕ) × List ℕ) : Type 0 where
+pub record HasPiece (track : TrackNumbers) (base : Place) (c : ℕ) (s : Sum) (text : List ℕ) (w : List (List ℕ) × List ℕ) : Type 0 where
   pub piece : Piece
   pub is : IsPiece track piece
   pub more : List ℕ
@@ -128,7 +129,7 @@ pub record HasPiece (track : ℕ) (base : Place) (c : ℕ) (s : Sum) (text : Lis
   pub after : GoesOn track (cluster_at base left (summed s (piece_text piece))) more (piece_frames piece) w
 
 -- a header was read in a Cluster, of an element of known size, and a turn after it
-pub record HasHeadTurn (track : ℕ) (base : Place) (c : ℕ) (s : Sum) (text : List ℕ) (o : Turn) (rest : List ℕ) : Type 0 where
+pub record HasHeadTurn (track : TrackNumbers) (base : Place) (c : ℕ) (s : Sum) (text : List ℕ) (o : Turn) (rest : List ℕ) : Type 0 where
   pub ident : List ℕ
   pub size : List ℕ
   pub number : ℕ
@@ -140,7 +141,7 @@ pub record HasHeadTurn (track : ℕ) (base : Place) (c : ℕ) (s : Sum) (text : 
   pub fits : length (ident ++ size) + (n + left) ≡ c
   pub read : (child_by track number n (cluster_at base left (summed s (ident ++ size))) (summed s (ident ++ size)) >>= step_kept) more ≡ Ok (o, rest)
 
-pub head_turn : (track : ℕ) (base : Place) (c : ℕ) (s : Sum) (text : List ℕ) (o : Turn) (rest : List ℕ) → 0 < c → turn_read track (cluster_at base c s) text ≡ Ok (o, rest) → HasHeadTurn track base c s text o rest
+pub head_turn : (track : TrackNumbers) (base : Place) (c : ℕ) (s : Sum) (text : List ℕ) (o : Turn) (rest : List ℕ) → 0 < c → turn_read track (cluster_at base c s) text ≡ Ok (o, rest) → HasHeadTurn track base c s text o rest
 unfolding step_read cluster_read known_child
 head_turn track base c s text o rest some h =
     let place : Place = cluster_at base c s in
@@ -170,7 +171,7 @@ head_turn track base c s text o rest some h =
         }
 
 -- and what is read on
-record HasKnown (track : ℕ) (base : Place) (c : ℕ) (s : Sum) (text : List ℕ) (w : List (List ℕ) × List ℕ) : Type 0 where
+record HasKnown (track : TrackNumbers) (base : Place) (c : ℕ) (s : Sum) (text : List ℕ) (w : List (List ℕ) × List ℕ) : Type 0 where
   ident : List ℕ
   size : List ℕ
   number : ℕ
@@ -182,14 +183,14 @@ record HasKnown (track : ℕ) (base : Place) (c : ℕ) (s : Sum) (text : List �
   fits : length (ident ++ size) + (n + left) ≡ c
   read : read_on ((child_by track number n (cluster_at base left (summed s (ident ++ size))) (summed s (ident ++ size)) >>= step_kept) more) (turns_on track) ≡ Ok w
 
-known_sound : (track : ℕ) (base : Place) (c : ℕ) (s : Sum) (text : List ℕ) (w : List (List ℕ) × List ℕ) → 0 < c → frames_read track (cluster_at base c s) text ≡ Ok w → HasKnown track base c s text w
+known_sound : (track : TrackNumbers) (base : Place) (c : ℕ) (s : Sum) (text : List ℕ) (w : List (List ℕ) × List ℕ) → 0 < c → frames_read track (cluster_at base c s) text ≡ Ok w → HasKnown track base c s text w
 known_sound track base c s text w some h =
     let turn = turn_sound track (cluster_at base c s) text w h in
     let k = head_turn track base c s text turn.turn turn.more some turn.read in
     record { ident = k.ident; size = k.size; number = k.number; n = k.n; left = k.left; more = k.more; is = k.is; text_is = k.text_is; fits = k.fits; read = ap (λ z. read_on z (turns_on track)) k.read ∙ turn.on }
 
 -- with what it holds
-piece_of : (track : ℕ) (base : Place) (c : ℕ) (s : Sum) (text : List ℕ) (w : List (List ℕ) × List ℕ) (k : HasKnown track base c s text w) →
+piece_of : (track : TrackNumbers) (base : Place) (c : ℕ) (s : Sum) (text : List ℕ) (w : List (List ℕ) × List ℕ) (k : HasKnown track base c s text w) →
     HasChild track (cluster_at base k.left (summed s (k.ident ++ k.size))) (summed s (k.ident ++ k.size)) k.ident k.size k.n k.more w → HasPiece track base c s text w
 piece_of track base c s text w k child =
     let head = k.ident ++ k.size in
@@ -208,7 +209,7 @@ piece_of track base c s text w k child =
       after = subst Q sums child.after;
     }
 
-piece_sound : (track : ℕ) (base : Place) (c : ℕ) (s : Sum) (text : List ℕ) (w : List (List ℕ) × List ℕ) → 0 < c → IsPast s → frames_read track (cluster_at base c s) text ≡ Ok w → HasPiece track base c s text w
+piece_sound : (track : TrackNumbers) (base : Place) (c : ℕ) (s : Sum) (text : List ℕ) (w : List (List ℕ) × List ℕ) → 0 < c → IsPast s → frames_read track (cluster_at base c s) text ≡ Ok w → HasPiece track base c s text w
 piece_sound track base c s text w some past h =
     let k = known_sound track base c s text w some h in
     let now = summed s (k.ident ++ k.size) in
@@ -218,7 +219,7 @@ piece_sound track base c s text w some past h =
     piece_of track base c s text w k (child_sound track place now k.ident k.size k.number k.n k.more w k.is read)
 
 -- the elements of a Cluster, and what is read after them
-pub record HasPieces (track : ℕ) (base : Place) (c : ℕ) (s : Sum) (text : List ℕ) (w : List (List ℕ) × List ℕ) : Type 0 where
+pub record HasPieces (track : TrackNumbers) (base : Place) (c : ℕ) (s : Sum) (text : List ℕ) (w : List (List ℕ) × List ℕ) : Type 0 where
   pub pieces : List Piece
   pub are : ArePieces track pieces
   pub more : List ℕ
@@ -227,11 +228,11 @@ pub record HasPieces (track : ℕ) (base : Place) (c : ℕ) (s : Sum) (text : Li
   pub met : is_met (summed s (pieces_text pieces)) ≡ true
   pub after : GoesOn track (segment_at base base.loose base.segment) more (pieces_frames pieces) w
 
-no_pieces : (track : ℕ) (base : Place) (s : Sum) (text : List ℕ) (w : List (List ℕ) × List ℕ) → is_sound (cluster_at base 0 s) ≡ true → frames_read track (cluster_at base 0 s) text ≡ Ok w → HasPieces track base 0 s text w
+no_pieces : (track : TrackNumbers) (base : Place) (s : Sum) (text : List ℕ) (w : List (List ℕ) × List ℕ) → is_sound (cluster_at base 0 s) ≡ true → frames_read track (cluster_at base 0 s) text ≡ Ok w → HasPieces track base 0 s text w
 no_pieces track base s text w sound read =
     record { pieces = []; are = tt; more = text; text_is = refl; long = refl; met = ap is_met (summed_none s) ∙ sound; after = record { later = w.0; read = sym (cluster_end track base s text) ∙ read; all = refl } }
 
-some_piece : (track : ℕ) (base : Place) (c : ℕ) (s : Sum) (text : List ℕ) (w : List (List ℕ) × List ℕ) (p : HasPiece track base c s text w) → HasPieces track base p.left (summed s (piece_text p.piece)) p.more (p.after.later, w.1) → HasPieces track base c s text w
+some_piece : (track : TrackNumbers) (base : Place) (c : ℕ) (s : Sum) (text : List ℕ) (w : List (List ℕ) × List ℕ) (p : HasPiece track base c s text w) → HasPieces track base p.left (summed s (piece_text p.piece)) p.more (p.after.later, w.1) → HasPieces track base c s text w
 some_piece track base c s text w p next =
     let front = piece_text p.piece in
     let back = pieces_text next.pieces in
@@ -246,11 +247,11 @@ some_piece track base c s text w p next =
       after = record { later = next.after.later; read = next.after.read; all = p.after.all ∙ ap (λ z. here ++ z) next.after.all ∙ sym (append_assoc here (pieces_frames next.pieces) next.after.later) };
     }
 
-piece_long : (track : ℕ) (p : Piece) → IsPiece track p → 1 ≤ length (piece_text p)
+piece_long : (track : TrackNumbers) (p : Piece) → IsPiece track p → 1 ≤ length (piece_text p)
 piece_long track (Single l) is = omega (arith, is.0.named.0, length-append (l.ident ++ l.size) (content_text l.content), length-append l.ident l.size)
 piece_long track (Group ident size ls) is = omega (arith, is.0.0.0, length-append (ident ++ size) (leaves_text ls), length-append ident size)
 
-pieces_sound : (most track : ℕ) (base : Place) (c : ℕ) (s : Sum) (text : List ℕ) (w : List (List ℕ) × List ℕ) → c ≤ most → is_sound (cluster_at base c s) ≡ true → IsPast s → frames_read track (cluster_at base c s) text ≡ Ok w → HasPieces track base c s text w
+pieces_sound : (most : ℕ) (track : TrackNumbers) (base : Place) (c : ℕ) (s : Sum) (text : List ℕ) (w : List (List ℕ) × List ℕ) → c ≤ most → is_sound (cluster_at base c s) ≡ true → IsPast s → frames_read track (cluster_at base c s) text ≡ Ok w → HasPieces track base c s text w
 pieces_sound most track base zero s text w fits sound past read = no_pieces track base s text w sound read
 pieces_sound zero track base (suc c) s text w fits sound past read = absurd (omega (arith, fits))
 pieces_sound (suc most) track base (suc c) s text w fits sound past read =
@@ -258,7 +259,7 @@ pieces_sound (suc most) track base (suc c) s text w fits sound past read =
     some_piece track base (suc c) s text w p (pieces_sound most track base p.left (summed s (piece_text p.piece)) p.more (p.after.later, w.1) (omega (arith, p.fits, piece_long track p.piece p.is, fits)) p.sound (past_summed s (piece_text p.piece) past) p.after.read)
 
 -- all elements of a Cluster, with its sum
-pub record HasCluster (track : ℕ) (base : Place) (c : ℕ) (text : List ℕ) (w : List (List ℕ) × List ℕ) : Type 0 where
+pub record HasCluster (track : TrackNumbers) (base : Place) (c : ℕ) (text : List ℕ) (w : List (List ℕ) × List ℕ) : Type 0 where
   pub pieces : List Piece
   pub are : ArePieces track pieces
   pub sums : AreSummed pieces
@@ -276,7 +277,7 @@ crc_stands : (ident size : ℕ) → ident ≡ crc_ident → stands_single ident 
 unfolding is_beside is_filler
 crc_stands ident size is = ap (λ k. stands_single k size) is
 
-is_crc_at : (track : ℕ) (base : Place) (c : ℕ) (text : List ℕ) (w : List (List ℕ) × List ℕ) → 0 < c → frames_read track (cluster_at base c Begins) text ≡ Ok w → HasCluster track base c text w
+is_crc_at : (track : TrackNumbers) (base : Place) (c : ℕ) (text : List ℕ) (w : List (List ℕ) × List ℕ) → 0 < c → frames_read track (cluster_at base c Begins) text ≡ Ok w → HasCluster track base c text w
 unfolding first_child
 is_crc_at track base c text w some h = on_test known (is_crc known.number known.n) refl known.read
   where
@@ -339,7 +340,7 @@ is_crc_at track base c text w some h = on_test known (is_crc known.number known.
     on_test k true t h = stated k t (rw t at h)
     on_test k false t h = plain k t (rw t at h)
 
-pub cluster_sound : (track : ℕ) (base : Place) (c : ℕ) (text : List ℕ) (w : List (List ℕ) × List ℕ) → frames_read track (cluster_entered base c) text ≡ Ok w → HasCluster track (segment_at base false base.segment) c text w
+pub cluster_sound : (track : TrackNumbers) (base : Place) (c : ℕ) (text : List ℕ) (w : List (List ℕ) × List ℕ) → frames_read track (cluster_entered base c) text ≡ Ok w → HasCluster track (segment_at base false base.segment) c text w
 cluster_sound track base zero text w read =
     let now = segment_at base false base.segment in
     record { pieces = []; are = tt; sums = tt; more = text; text_is = refl; long = refl; after = record { later = w.0; read = sym (cluster_end track now Begins text) ∙ read; all = refl } }

@@ -50,7 +50,7 @@ pub record HasBefore (base : Place) (n : ℕ) (text : List ℕ) (w : F) : Type 0
   pub left : ℕ
   pub fits : length (tops_text before) + (length (top_text tracks) + left) ≡ n
   pub head_is : track.head ≡ w.0.0
-  pub read : frames_read track.number (segment_at base false left) more ≡ Ok (w.0.1, w.1)
+  pub read : frames_read track.numbers (segment_at base false left) more ≡ Ok (w.0.1, w.1)
 
 abbrev BeforeAgain : Place → ℕ → ℕ → Type 0
 BeforeAgain base n most = (m : ℕ) (more : List ℕ) (w : F) → m < n → read_on (begin_up_to most None (segment_at base false m) more) begun_frames ≡ Ok w → HasBefore base m more w
@@ -76,7 +76,7 @@ tracks_sound base n text w e s more h (Some k) most z is fits read = on_limit (n
         let some : 1 ≤ length head = omega (arith, h.is.named.0, length-append h.ident h.size) in
         let there : TopLevel = record { ident = h.ident; size = h.size; content = bytes } in
         let same = begun_same most track base e.left rest (omega (arith, fit, some, fits)) in
-        let first = read_on_ok (frames_read track.number (segment_at base false e.left) rest) (λ frames. given (track.head, frames)) w (sym same ∙ r) in
+        let first = read_on_ok (frames_read track.numbers (segment_at base false e.left) rest) (λ frames. given (track.head, frames)) w (sym same ∙ r) in
         let end = ok_is ((track.head, first.0.0), first.0.1) w first.2 in
         let answer : F → Result (List (List ℕ) × List ℕ) Stop = λ v. Ok (v.0.1, v.1) in
         record {
@@ -274,7 +274,7 @@ record HasBegun (file : List ℕ) (w : F) : Type 0 where
 begins_sound : (file : List ℕ) (w : F) → file_read file ≡ Ok w → HasBegun file w
 unfolding file_read open_read segment_entered
 begins_sound file w h =
-    let first = read_on_ok (open_read file) (λ (o : Opened). frames_read o.track.number o.place >>= λ frames. given (o.track.head, frames)) w h in
+    let first = read_on_ok (open_read file) (λ (o : Opened). frames_read o.track.numbers o.place >>= λ frames. given (o.track.head, frames)) w h in
     let second = read_on_ok (ebml_read file) (λ _. segment_entered >>= segment_opened) first.0 first.1 in
     let top = ebml_sound file second.0 second.1 in
     let third = read_on_ok (segment_entered second.0.1) segment_opened first.0 second.2 in
@@ -301,19 +301,19 @@ begins_sound file w h =
         segment_is = four.says;
         sized = size.says;
       };
-      read = sym (opened_frames known (begin_read (segment_begun known) content)) ∙ ap (λ z. read_on z (λ (o : Opened). (frames_read o.track.number o.place >>= λ frames. given (o.track.head, frames)))) third.2 ∙ first.2;
+      read = sym (opened_frames known (begin_read (segment_begun known) content)) ∙ ap (λ z. read_on z (λ (o : Opened). (frames_read o.track.numbers o.place >>= λ frames. given (o.track.head, frames)))) third.2 ∙ first.2;
     }
 
 -- the whole of a file
 record HasAll (base : Place) (n : ℕ) (content : List ℕ) (w : F) : Type 0 where
   before : HasBefore base n content w
-  tail : HasTail before.track.number base before.left before.more (w.0.1, w.1)
+  tail : HasTail before.track.numbers base before.left before.more (w.0.1, w.1)
 
 all_sound : (base : Place) (n most : ℕ) (content : List ℕ) (w : F) → n < most → read_on (begin_up_to most None (segment_at base false n) content) begun_frames ≡ Ok w → HasAll base n content w
 all_sound base n most content w fits read =
     let b = before_sound most base n content w fits read in
-    let s = segment_sound (suc b.left) b.track.number base false b.left b.more (w.0.1, w.1) (omega arith) b.read in
-    record { before = b; tail = tail_of b.track.number base b.left b.more (w.0.1, w.1) s }
+    let s = segment_sound (suc b.left) b.track.numbers base false b.left b.more (w.0.1, w.1) (omega arith) b.read in
+    record { before = b; tail = tail_of b.track.numbers base b.left b.more (w.0.1, w.1) s }
 
 pub file_sound : (file : List ℕ) (head : Head) (frames : List (List ℕ)) (rest : List ℕ) → file_read file ≡ Ok ((head, frames), rest) → (is : MatroskaFile file head frames) × (is.rest ≡ rest)
 file_sound file head frames rest h = on_size begun.size begun.content begun.begins begun.read

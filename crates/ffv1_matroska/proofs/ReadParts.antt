@@ -27,9 +27,10 @@ use Rattle.ffv1_matroska.proofs.ReadPieces.{HasTurn, led_sound, turn_sound}
 use Rattle.ffv1_matroska.proofs.ReadSegments.{Headed, content_passed_sound, headed_sound}
 use Rattle.ffv1_matroska.proofs.SegmentLaws.{loose_child}
 use Rattle.ffv1_matroska.proofs.StepBounds.{err_is_no_ok}
+use Rattle.ffv1_matroska.specs.declared.track.TrackNumbers.{TrackNumbers}
 
 -- what is read of a Segment: elements of a Cluster of unknown size, and then parts
-pub record HasSegment (track : ℕ) (base : Place) (loose : Bool) (n : ℕ) (text : List ℕ) (w : List (List ℕ) × List ℕ) : Type 0 where
+pub record HasSegment (track : TrackNumbers) (base : Place) (loose : Bool) (n : ℕ) (text : List ℕ) (w : List (List ℕ) × List ℕ) : Type 0 where
   pub pieces : List Piece
   pub parts : List Part
   pub none : loose ≡ false → pieces ≡ []
@@ -43,7 +44,7 @@ pub record HasSegment (track : ℕ) (base : Place) (loose : Bool) (n : ℕ) (tex
   pub all : w.0 ≡ pieces_frames pieces ++ parts_frames parts
 
 -- the header of an element, and what is read after it
-record HasElement (track : ℕ) (base : Place) (loose : Bool) (n : ℕ) (text : List ℕ) (w : List (List ℕ) × List ℕ) : Type 0 where
+record HasElement (track : TrackNumbers) (base : Place) (loose : Bool) (n : ℕ) (text : List ℕ) (w : List (List ℕ) × List ℕ) : Type 0 where
   e : Element
   s : Sum
   more : List ℕ
@@ -51,10 +52,10 @@ record HasElement (track : ℕ) (base : Place) (loose : Bool) (n : ℕ) (text : 
   read : read_on ((segment_child track e.ident (segment_at base loose e.left) e.size >>= step_kept) more) (turns_on track) ≡ Ok w
 
 -- the end, or an element
-abbrev EndOrElement : ℕ → Place → Bool → ℕ → List ℕ → List (List ℕ) × List ℕ → Type 0
+abbrev EndOrElement : TrackNumbers → Place → Bool → ℕ → List ℕ → List (List ℕ) × List ℕ → Type 0
 EndOrElement track base loose n text w = ((HasEnded base n w.1 × (text ≡ w.1)) × (w.0 ≡ [])) ⊎ HasElement track base loose n text w
 
-element_sound : (track : ℕ) (base : Place) (loose : Bool) (n : ℕ) (text : List ℕ) (w : List (List ℕ) × List ℕ) → frames_read track (segment_at base loose n) text ≡ Ok w → EndOrElement track base loose n text w
+element_sound : (track : TrackNumbers) (base : Place) (loose : Bool) (n : ℕ) (text : List ℕ) (w : List (List ℕ) × List ℕ) → frames_read track (segment_at base loose n) text ≡ Ok w → EndOrElement track base loose n text w
 unfolding step_read segment_read
 element_sound track base loose n text w h =
     let place : Place = segment_at base loose n in
@@ -76,14 +77,14 @@ element_sound track base loose n text w h =
         inr (record { e = e; s = headed.0; more = more; head = headed.1; read = ap (λ z. read_on (read_on z step_kept) (turns_on track)) child ∙ ap (λ z. read_on z (turns_on track)) kept ∙ turn.on })
 
 -- a turn that gives no frame
-no_frame : (track : ℕ) (place : Place) (more : List ℕ) (w : List (List ℕ) × List ℕ) → read_on {X = Turn} (Ok (Some ([], place), more)) (turns_on track) ≡ Ok w → frames_read track place more ≡ Ok w
+no_frame : (track : TrackNumbers) (place : Place) (more : List ℕ) (w : List (List ℕ) × List ℕ) → read_on {X = Turn} (Ok (Some ([], place), more)) (turns_on track) ≡ Ok w → frames_read track place more ≡ Ok w
 no_frame track place more w h =
     let on = led_sound track place more [] w h in
     let answer : List (List ℕ) → Result (List (List ℕ) × List ℕ) Stop = λ z. Ok (z, w.1) in
     on.read ∙ ap answer (sym on.all)
 
 -- parts alone
-pub record HasTail (track : ℕ) (base : Place) (n : ℕ) (text : List ℕ) (w : List (List ℕ) × List ℕ) : Type 0 where
+pub record HasTail (track : TrackNumbers) (base : Place) (n : ℕ) (text : List ℕ) (w : List (List ℕ) × List ℕ) : Type 0 where
   pub parts : List Part
   pub are : AreParts track parts
   pub text_is : text ≡ parts_text parts ++ w.1
@@ -92,7 +93,7 @@ pub record HasTail (track : ℕ) (base : Place) (n : ℕ) (text : List ℕ) (w :
   pub ended : HasEnded base left w.1
   pub all : w.0 ≡ parts_frames parts
 
-pub tail_of : (track : ℕ) (base : Place) (n : ℕ) (text : List ℕ) (w : List (List ℕ) × List ℕ) → HasSegment track base false n text w → HasTail track base n text w
+pub tail_of : (track : TrackNumbers) (base : Place) (n : ℕ) (text : List ℕ) (w : List (List ℕ) × List ℕ) → HasSegment track base false n text w → HasTail track base n text w
 tail_of track base n text w h =
     let none : h.pieces ≡ [] = h.none refl in
     let long : length (pieces_text h.pieces) ≡ 0 = ap (λ ps. length (pieces_text ps)) none in
@@ -107,7 +108,7 @@ tail_of track base n text w h =
     }
 
 -- a part before others
-add_part : (track : ℕ) (base : Place) (loose : Bool) (n m : ℕ) (text more : List ℕ) (w : List (List ℕ) × List ℕ) (p : Part) (later : List (List ℕ)) → IsPart track p → text ≡ part_text p ++ more → length (part_text p) + m ≡ n → w.0 ≡ part_frames p ++ later →
+add_part : (track : TrackNumbers) (base : Place) (loose : Bool) (n m : ℕ) (text more : List ℕ) (w : List (List ℕ) × List ℕ) (p : Part) (later : List (List ℕ)) → IsPart track p → text ≡ part_text p ++ more → length (part_text p) + m ≡ n → w.0 ≡ part_frames p ++ later →
     HasTail track base m more (later, w.1) → HasSegment track base loose n text w
 add_part track base loose n m text more w p later is whole long all tail =
     let front = part_text p in
@@ -127,7 +128,7 @@ add_part track base loose n m text more w p later is whole long all tail =
     }
 
 -- an element of a Cluster of unknown size before others
-add_piece : (track : ℕ) (base : Place) (n m : ℕ) (text more : List ℕ) (w : List (List ℕ) × List ℕ) (p : Piece) (later : List (List ℕ)) → IsPiece track p → (is_of_cluster (piece_ident p) || is_filler (piece_ident p)) ≡ true → text ≡ piece_text p ++ more → length (piece_text p) + m ≡ n → w.0 ≡ piece_frames p ++ later →
+add_piece : (track : TrackNumbers) (base : Place) (n m : ℕ) (text more : List ℕ) (w : List (List ℕ) × List ℕ) (p : Piece) (later : List (List ℕ)) → IsPiece track p → (is_of_cluster (piece_ident p) || is_filler (piece_ident p)) ≡ true → text ≡ piece_text p ++ more → length (piece_text p) + m ≡ n → w.0 ≡ piece_frames p ++ later →
     HasSegment track base true m more (later, w.1) → HasSegment track base true n text w
 add_piece track base n m text more w p later is loose whole long all next =
     let front = piece_text p in
@@ -147,11 +148,11 @@ add_piece track base n m text more w p later is loose whole long all next =
       all = all ∙ ap (λ z. piece_frames p ++ z) next.all ∙ sym (append_assoc (piece_frames p) (pieces_frames next.pieces) (parts_frames next.parts));
     }
 
-abbrev Again : ℕ → Place → ℕ → Type 0
+abbrev Again : TrackNumbers → Place → ℕ → Type 0
 Again track base n = (loose : Bool) (m : ℕ) (more : List ℕ) (w : List (List ℕ) × List ℕ) → m < n → frames_read track (segment_at base loose m) more ≡ Ok w → HasSegment track base loose m more w
 
 -- one that holds no frames
-top_sound : (track : ℕ) (base : Place) (loose : Bool) (n : ℕ) (text : List ℕ) (w : List (List ℕ) × List ℕ) (e : Element) (s : Sum) (more : List ℕ) (h : HasHeader n Absent text (e, s) more) (k : ℕ) → e.size ≡ Some k → Again track base n →
+top_sound : (track : TrackNumbers) (base : Place) (loose : Bool) (n : ℕ) (text : List ℕ) (w : List (List ℕ) × List ℕ) (e : Element) (s : Sum) (more : List ℕ) (h : HasHeader n Absent text (e, s) more) (k : ℕ) → e.size ≡ Some k → Again track base n →
     (bytes rest : List ℕ) → more ≡ bytes ++ rest → length bytes ≡ k → (is_section e.ident || is_filler e.ident) ≡ true → (is_section e.ident ≡ true → content_told bytes ≡ Ok tt) → frames_read track (segment_at base false e.left) rest ≡ Ok w → HasSegment track base loose n text w
 top_sound track base loose n text w e s more h k z again bytes rest split long known told read =
     let head = h.ident ++ h.size in
@@ -165,7 +166,7 @@ top_sound track base loose n text w e s more h k z again bytes rest split long k
     add_part track base loose n e.left text rest w (Top t) w.0 is (h.text_is ∙ ap (λ z. head ++ z) split ∙ sym (append_assoc head bytes rest)) (omega (arith, fit, long, length-append head bytes)) refl (tail_of track base e.left rest w next)
 
 -- an element that holds no frames was read: one that is known, or a filler where no Cluster of unknown size goes on
-other_sound : (track : ℕ) (base : Place) (loose : Bool) (n : ℕ) (text : List ℕ) (w : List (List ℕ) × List ℕ) (e : Element) (s : Sum) (more : List ℕ) (h : HasHeader n Absent text (e, s) more) (k : ℕ) → e.size ≡ Some k → Again track base n →
+other_sound : (track : TrackNumbers) (base : Place) (loose : Bool) (n : ℕ) (text : List ℕ) (w : List (List ℕ) × List ℕ) (e : Element) (s : Sum) (more : List ℕ) (h : HasHeader n Absent text (e, s) more) (k : ℕ) → e.size ≡ Some k → Again track base n →
     (is_filler e.ident ≡ true → loose ≡ false) → read_on ((other_read e.ident k (segment_at base loose e.left) >>= step_kept) more) (turns_on track) ≡ Ok w → HasSegment track base loose n text w
 unfolding other_read
 other_sound track base loose n text w e s more h k z again calm read = on_tests (is_section e.ident) (is_filler e.ident) refl refl read
@@ -203,7 +204,7 @@ other_sound track base loose n text w e s more h k z again calm read = on_tests 
     on_tests false false p q r = absurd (err_is_no_ok (Met fault.BadElement more) w (rw (p, q) at r))
 
 -- an element of a Cluster of unknown size was read
-loose_sound : (track : ℕ) (base : Place) (n : ℕ) (text : List ℕ) (w : List (List ℕ) × List ℕ) (e : Element) (s : Sum) (more : List ℕ) (h : HasHeader n Absent text (e, s) more) (k : ℕ) → e.size ≡ Some k → Again track base n →
+loose_sound : (track : TrackNumbers) (base : Place) (n : ℕ) (text : List ℕ) (w : List (List ℕ) × List ℕ) (e : Element) (s : Sum) (more : List ℕ) (h : HasHeader n Absent text (e, s) more) (k : ℕ) → e.size ≡ Some k → Again track base n →
     (is_of_cluster e.ident || is_filler e.ident) ≡ true → read_on ((segment_child track e.ident (segment_at base true e.left) (Some k) >>= step_kept) more) (turns_on track) ≡ Ok w → HasSegment track base true n text w
 loose_sound track base n text w e s more h k z again loose read =
     let place : Place = segment_at base true e.left in
@@ -222,7 +223,7 @@ loose_sound track base n text w e s more h k z again loose read =
     add_piece track base n e.left text child.more w child.piece child.after.later child.is (rw number loose) whole long child.after.all next
 
 -- any element was read
-any_sound : (track : ℕ) (base : Place) (loose : Bool) (n : ℕ) (text : List ℕ) (w : List (List ℕ) × List ℕ) (e : Element) (s : Sum) (more : List ℕ) (h : HasHeader n Absent text (e, s) more) → Again track base n → (size : Option ℕ) → e.size ≡ size →
+any_sound : (track : TrackNumbers) (base : Place) (loose : Bool) (n : ℕ) (text : List ℕ) (w : List (List ℕ) × List ℕ) (e : Element) (s : Sum) (more : List ℕ) (h : HasHeader n Absent text (e, s) more) → Again track base n → (size : Option ℕ) → e.size ≡ size →
     read_on ((segment_child track e.ident (segment_at base loose e.left) size >>= step_kept) more) (turns_on track) ≡ Ok w → HasSegment track base loose n text w
 unfolding segment_child
 any_sound track base loose n text w e s more h again None z read = on_test (e.ident == cluster) refl read
@@ -272,7 +273,7 @@ any_sound track base loose n text w e s more h again (Some k) z read = on_test (
         add_part track base loose n e.left text c.more w (Sized h.ident h.size c.pieces) c.after.later ((h.is.named, h.is.few, h.number ∙ eqb-true _ _ t), says, c.are, c.sums)
         (h.text_is ∙ ap (λ z. head ++ z) c.text_is ∙ sym (append_assoc head body c.more)) (omega (arith, fit, c.long, length-append head body)) c.after.all (tail_of track base e.left c.more (c.after.later, w.1) next)
 
-pub segment_sound : (most track : ℕ) (base : Place) (loose : Bool) (n : ℕ) (text : List ℕ) (w : List (List ℕ) × List ℕ) → n < most → frames_read track (segment_at base loose n) text ≡ Ok w → HasSegment track base loose n text w
+pub segment_sound : (most : ℕ) (track : TrackNumbers) (base : Place) (loose : Bool) (n : ℕ) (text : List ℕ) (w : List (List ℕ) × List ℕ) → n < most → frames_read track (segment_at base loose n) text ≡ Ok w → HasSegment track base loose n text w
 segment_sound zero track base loose n text w fits read = absurd (omega (arith, fits))
 segment_sound (suc most) track base loose n text w fits read = on_end (element_sound track base loose n text w read) (λ l m more v less r. segment_sound most track base l m more v (omega (arith, less, fits)) r)
   where

@@ -23,26 +23,27 @@ use Rattle.ffv1_matroska.proofs.HeaderLaws.{HasHeader, header_sound}
 use Rattle.ffv1_matroska.proofs.PieceLaws.{summed_none}
 use Rattle.ffv1_matroska.proofs.ReadBlocks.{content_sound}
 use Rattle.ffv1_matroska.proofs.StepBounds.{err_is_no_ok}
+use Rattle.ffv1_matroska.specs.declared.track.TrackNumbers.{TrackNumbers}
 
 -- what was read begins with the frames of a turn
-pub record HasTurn (track : ℕ) (place : Place) (text : List ℕ) (w : List (List ℕ) × List ℕ) : Type 0 where
+pub record HasTurn (track : TrackNumbers) (place : Place) (text : List ℕ) (w : List (List ℕ) × List ℕ) : Type 0 where
   pub turn : Turn
   pub more : List ℕ
   pub read : turn_read track place text ≡ Ok (turn, more)
   pub on : turns_on track turn more ≡ Ok w
 
-pub turn_sound : (track : ℕ) (place : Place) (text : List ℕ) (w : List (List ℕ) × List ℕ) → frames_read track place text ≡ Ok w → HasTurn track place text w
+pub turn_sound : (track : TrackNumbers) (place : Place) (text : List ℕ) (w : List (List ℕ) × List ℕ) → frames_read track place text ≡ Ok w → HasTurn track place text w
 turn_sound track place text w h =
     let first = read_on_ok (turn_read track place text) (turns_on track) w (sym (frames_turn track place text) ∙ h) in
     record { turn = first.0.0; more = first.0.1; read = first.1; on = first.2 }
 
 -- and goes on after them
-pub record GoesOn (track : ℕ) (place : Place) (text : List ℕ) (frames : List (List ℕ)) (w : List (List ℕ) × List ℕ) : Type 0 where
+pub record GoesOn (track : TrackNumbers) (place : Place) (text : List ℕ) (frames : List (List ℕ)) (w : List (List ℕ) × List ℕ) : Type 0 where
   pub later : List (List ℕ)
   pub read : frames_read track place text ≡ Ok (later, w.1)
   pub all : w.0 ≡ frames ++ later
 
-pub led_sound : (track : ℕ) (place : Place) (text : List ℕ) (frames : List (List ℕ)) (w : List (List ℕ) × List ℕ) → led frames (frames_read track place text) ≡ Ok w → GoesOn track place text frames w
+pub led_sound : (track : TrackNumbers) (place : Place) (text : List ℕ) (frames : List (List ℕ)) (w : List (List ℕ) × List ℕ) → led frames (frames_read track place text) ≡ Ok w → GoesOn track place text frames w
 led_sound track place text frames w h =
     let first = read_on_ok (frames_read track place text) (λ more. given (frames ++ more)) w h in
     let same = ok_is (frames ++ first.0.0, first.0.1) w first.2 in
@@ -50,13 +51,13 @@ led_sound track place text frames w h =
     record { later = first.0.0; read = first.1 ∙ ap answer (ap (λ (z : List (List ℕ) × List ℕ). z.1) same); all = ap (λ (z : List (List ℕ) × List ℕ). z.0) (sym same) }
 
 -- after a turn that is known
-pub turn_goes : (track : ℕ) (o : Turn) (place : Place) (text : List ℕ) (frames : List (List ℕ)) (w : List (List ℕ) × List ℕ) → o ≡ Some (frames, place) → turns_on track o text ≡ Ok w → GoesOn track place text frames w
+pub turn_goes : (track : TrackNumbers) (o : Turn) (place : Place) (text : List ℕ) (frames : List (List ℕ)) (w : List (List ℕ) × List ℕ) → o ≡ Some (frames, place) → turns_on track o text ≡ Ok w → GoesOn track place text frames w
 turn_goes track o place text frames w is h =
     let P : Turn → Type 0 = λ z. turns_on track z text ≡ Ok w in
     led_sound track place text frames w (subst P is h)
 
 -- an element of a BlockGroup
-pub record HasLeaf (track : ℕ) (base : Place) (g : ℕ) (s : Sum) (text : List ℕ) (o : Turn) (rest : List ℕ) : Type 0 where
+pub record HasLeaf (track : TrackNumbers) (base : Place) (g : ℕ) (s : Sum) (text : List ℕ) (o : Turn) (rest : List ℕ) : Type 0 where
   pub leaf : Leaf
   pub is : IsLeaf block track leaf
   pub text_is : text ≡ leaf_text leaf ++ rest
@@ -65,7 +66,7 @@ pub record HasLeaf (track : ℕ) (base : Place) (g : ℕ) (s : Sum) (text : List
   pub sound : is_sound (group_at base left (summed s (leaf_text leaf))) ≡ true
   pub turn : o ≡ Some (leaf_frames leaf, group_at base left (summed s (leaf_text leaf)))
 
-pub leaf_sound : (track : ℕ) (base : Place) (g : ℕ) (s : Sum) (text : List ℕ) (o : Turn) (rest : List ℕ) → 0 < g → turn_read track (group_at base g s) text ≡ Ok (o, rest) → HasLeaf track base g s text o rest
+pub leaf_sound : (track : TrackNumbers) (base : Place) (g : ℕ) (s : Sum) (text : List ℕ) (o : Turn) (rest : List ℕ) → 0 < g → turn_read track (group_at base g s) text ≡ Ok (o, rest) → HasLeaf track base g s text o rest
 unfolding step_read group_read group_child
 leaf_sound track base g s text o rest some h =
     let test : nat_lt 0 g ≡ true = lt-ltb _ _ some in
@@ -99,7 +100,7 @@ leaf_sound track base g s text o rest some h =
         }
 
 -- the elements of a BlockGroup, and what is read after them
-pub record HasLeaves (track : ℕ) (base : Place) (g : ℕ) (s : Sum) (text : List ℕ) (w : List (List ℕ) × List ℕ) : Type 0 where
+pub record HasLeaves (track : TrackNumbers) (base : Place) (g : ℕ) (s : Sum) (text : List ℕ) (w : List (List ℕ) × List ℕ) : Type 0 where
   pub leaves : List Leaf
   pub are : AreLeaves block track leaves
   pub more : List ℕ
@@ -108,14 +109,14 @@ pub record HasLeaves (track : ℕ) (base : Place) (g : ℕ) (s : Sum) (text : Li
   pub sound : is_sound (group_at base 0 (summed s (leaves_text leaves))) ≡ true
   pub after : GoesOn track (group_at base 0 (summed s (leaves_text leaves))) more (leaves_frames leaves) w
 
-no_leaves : (track : ℕ) (base : Place) (s : Sum) (text : List ℕ) (w : List (List ℕ) × List ℕ) → is_sound (group_at base 0 s) ≡ true → frames_read track (group_at base 0 s) text ≡ Ok w → HasLeaves track base 0 s text w
+no_leaves : (track : TrackNumbers) (base : Place) (s : Sum) (text : List ℕ) (w : List (List ℕ) × List ℕ) → is_sound (group_at base 0 s) ≡ true → frames_read track (group_at base 0 s) text ≡ Ok w → HasLeaves track base 0 s text w
 no_leaves track base s text w sound read =
     let P : Sum → Type 0 = λ k. is_sound (group_at base 0 k) ≡ true in
     let Q : Sum → Type 0 = λ k. GoesOn track (group_at base 0 k) text [] w in
     let same = sym (summed_none s) in
     record { leaves = []; are = tt; more = text; text_is = refl; long = refl; sound = subst P same sound; after = subst Q same (record { later = w.0; read = read; all = refl }) }
 
-pub leaves_sound : (most track : ℕ) (base : Place) (g : ℕ) (s : Sum) (text : List ℕ) (w : List (List ℕ) × List ℕ) → g ≤ most → is_sound (group_at base g s) ≡ true → frames_read track (group_at base g s) text ≡ Ok w → HasLeaves track base g s text w
+pub leaves_sound : (most : ℕ) (track : TrackNumbers) (base : Place) (g : ℕ) (s : Sum) (text : List ℕ) (w : List (List ℕ) × List ℕ) → g ≤ most → is_sound (group_at base g s) ≡ true → frames_read track (group_at base g s) text ≡ Ok w → HasLeaves track base g s text w
 leaves_sound most track base zero s text w fits sound read = no_leaves track base s text w sound read
 leaves_sound zero track base (suc g) s text w fits sound read = absurd (omega (arith, fits))
 leaves_sound (suc most) track base (suc g) s text w fits sound read =

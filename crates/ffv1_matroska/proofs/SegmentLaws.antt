@@ -13,9 +13,10 @@ use Rattle.ffv1_matroska.specs.declared.place.Place.{Place}
 use Rattle.ffv1_matroska.proofs.FrameTurns.{added, added_none, added_twice, as_frames, frames_turn, led, run, run_on, run_turn, step_kept, turn_added, turn_read}
 use Rattle.ffv1_matroska.proofs.PartLaws.{cluster_complete, filler_only, loose_after, of_cluster_apart, segment_header, top_complete}
 use Rattle.ffv1_matroska.proofs.PieceLaws.{child_complete, piece_content, piece_parts}
+use Rattle.ffv1_matroska.specs.declared.track.TrackNumbers.{TrackNumbers}
 
 -- an element after the header of a Cluster of unknown size is read as one of a Cluster
-pub loose_child : (track n size m : ℕ) (base : Place) → (is_of_cluster n || is_filler n) ≡ true → segment_child track n (segment_at base true m) (Some size) ≡ cluster_child track n size (segment_at base true m)
+pub loose_child : (track : TrackNumbers) (n size m : ℕ) (base : Place) → (is_of_cluster n || is_filler n) ≡ true → segment_child track n (segment_at base true m) (Some size) ≡ cluster_child track n size (segment_at base true m)
 unfolding segment_child other_read cluster_child
 loose_child track n size m base h = on_test (is_of_cluster n) refl h
   where
@@ -32,7 +33,7 @@ loose_child track n size m base h = on_test (is_of_cluster n) refl h
     on_test true t h = rw (no, t) refl
     on_test false t h = rw (no, t) (passed h)
 
-loose_piece : (track : ℕ) (base : Place) (p : Piece) (m : ℕ) (rest : List ℕ) → IsPiece track p → (is_of_cluster (piece_ident p) || is_filler (piece_ident p)) ≡ true →
+loose_piece : (track : TrackNumbers) (base : Place) (p : Piece) (m : ℕ) (rest : List ℕ) → IsPiece track p → (is_of_cluster (piece_ident p) || is_filler (piece_ident p)) ≡ true →
     run track (segment_at base true (length (piece_text p) + m)) (piece_text p ++ rest) ≡ added (piece_frames p) (run track (segment_at base true m) rest)
 loose_piece track base p m rest is loose =
     let h = piece_parts track p is in
@@ -50,7 +51,7 @@ loose_piece track base p m rest is loose =
     ∙ ap (λ r. run_on track (read_on (r (body ++ rest)) step_kept)) (loose_child track (piece_ident p) (length body) m base loose)
     ∙ child_complete track place Absent p rest is refl
 
-pub loose_complete : (track : ℕ) (base : Place) (ps : List Piece) (m : ℕ) (rest : List ℕ) → ArePieces track ps → AreLoose ps →
+pub loose_complete : (track : TrackNumbers) (base : Place) (ps : List Piece) (m : ℕ) (rest : List ℕ) → ArePieces track ps → AreLoose ps →
     run track (segment_at base true (length (pieces_text ps) + m)) (pieces_text ps ++ rest) ≡ added (pieces_frames ps) (run track (segment_at base true m) rest)
 loose_complete track base [] m rest are loose =
     let none : 0 + m ≡ m = omega arith in
@@ -69,7 +70,7 @@ after_part loose (Top t) = loose_after loose t
 after_part loose (Sized ident size ps) = false
 after_part loose (Unsized ident size ps) = true
 
-part_complete : (track : ℕ) (base : Place) (loose : Bool) (p : Part) (m : ℕ) (rest : List ℕ) → IsPart track p →
+part_complete : (track : TrackNumbers) (base : Place) (loose : Bool) (p : Part) (m : ℕ) (rest : List ℕ) → IsPart track p →
     run track (segment_at base loose (length (part_text p) + m)) (part_text p ++ rest) ≡ added (part_frames p) (run track (segment_at base (after_part loose p) m) rest)
 unfolding segment_child
 part_complete track base loose (Top t) m rest is = top_complete track base loose t m rest is ∙ sym (added_none _)
@@ -98,7 +99,7 @@ part_complete track base loose (Unsized ident size ps) m rest is =
     turn_added track (segment_at base loose (length (head ++ body) + m)) (segment_at base true (length body + m)) ((head ++ body) ++ rest) (body ++ rest) [] turn
     ∙ added_none _ ∙ loose_complete track base ps m rest is.2 is.3
 
-pub parts_run : (track : ℕ) (base : Place) (loose : Bool) (ps : List Part) (m : ℕ) (rest : List ℕ) → AreParts track ps →
+pub parts_run : (track : TrackNumbers) (base : Place) (loose : Bool) (ps : List Part) (m : ℕ) (rest : List ℕ) → AreParts track ps →
     (l : Bool) × (run track (segment_at base loose (length (parts_text ps) + m)) (parts_text ps ++ rest) ≡ added (parts_frames ps) (run track (segment_at base l m) rest))
 parts_run track base loose [] m rest are =
     let none : 0 + m ≡ m = omega arith in
@@ -114,18 +115,18 @@ parts_run track base loose (p ∷ ps) m rest are =
           ∙ added_twice (part_frames p) (parts_frames ps) _,
     )
 
-pub parts_complete : (track : ℕ) (base : Place) (loose : Bool) (ps : List Part) (m : ℕ) (rest : List ℕ) → AreParts track ps →
+pub parts_complete : (track : TrackNumbers) (base : Place) (loose : Bool) (ps : List Part) (m : ℕ) (rest : List ℕ) → AreParts track ps →
     (l : Bool) × (frames_read track (segment_at base loose (length (parts_text ps) + m)) (parts_text ps ++ rest) ≡ led (parts_frames ps) (frames_read track (segment_at base l m) rest))
 parts_complete track base loose ps m rest are =
     let all = parts_run track base loose ps m rest are in
     (all.0, as_frames track (segment_at base loose (length (parts_text ps) + m)) (segment_at base all.0 m) (parts_text ps ++ rest) rest (parts_frames ps) all.1)
 
 -- the end of a Segment
-pub segment_done : (track : ℕ) (base : Place) (loose : Bool) (rest : List ℕ) → frames_read track (segment_at base loose 0) rest ≡ Ok ([], rest)
+pub segment_done : (track : TrackNumbers) (base : Place) (loose : Bool) (rest : List ℕ) → frames_read track (segment_at base loose 0) rest ≡ Ok ([], rest)
 unfolding step_read segment_read header_read
 segment_done track base loose rest = frames_turn track (segment_at base loose 0) rest
 
-pub input_done : (track : ℕ) (base : Place) (loose : Bool) (m : ℕ) → base.endless ≡ true → 0 < m → frames_read track (segment_at base loose m) [] ≡ Ok ([], [])
+pub input_done : (track : TrackNumbers) (base : Place) (loose : Bool) (m : ℕ) → base.endless ≡ true → 0 < m → frames_read track (segment_at base loose m) [] ≡ Ok ([], [])
 unfolding step_read segment_read header_read first_read
 input_done track base loose m endless some =
     let left : (m == 0) ≡ false = ne_eqb _ _ (λ e. omega (arith, e, some)) in

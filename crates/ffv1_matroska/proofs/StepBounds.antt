@@ -14,7 +14,7 @@ use Rattle.ffv1_ebml.specs.declared.element.Element.{Element}
 use Rattle.ffv1_ebml.specs.declared.sum.Sum.{Sum}
 use Rattle.ffv1_ebml.specs.declared.sum.Sum.TheVariants.{Absent, Begins, Awaits}
 use Rattle.ffv1_ebml.proofs.VintLaws.{vint_sound}
-use Rattle.ffv1_matroska.specs.Blocks.{block_read, block_rest, fields_read, frame_judged, lacing_of, passed_on}
+use Rattle.ffv1_matroska.specs.Blocks.{block_read, block_rest, fields_read, frame_judged, is_unknown, lacing_of, passed_on}
 use Rattle.ffv1_matroska.specs.Internal.{bytes_of}
 use Rattle.ffv1_matroska.specs.Places.{amount, closed, cluster_at, cluster_entered, frame_at, group_at, is_sound, segment_at, step_to, summed_at}
 use Rattle.ffv1_matroska.specs.Segments.{block, block_group, child_by, cluster, cluster_child, cluster_read, cluster_rest, crc_read, first_child, group_child, group_read, group_rest, header_read, is_filler, is_of_cluster, is_section, known_child, other_read, segment_child, segment_read, segment_rest, simple_block, step_read}
@@ -22,6 +22,7 @@ use Rattle.ffv1_matroska.specs.declared.place.Place.{Place}
 use Rattle.ffv1_matroska.specs.declared.place.Step.{Step}
 use Rattle.ffv1_reads.specs.Head.{limit}
 use Rattle.ffv1_matroska.specs.Segments.{is_beside}
+use Rattle.ffv1_matroska.specs.declared.track.TrackNumbers.{TrackNumbers}
 
 -- whatever a reading gives has this property
 pub record Gives {X : Type 0} (P : X → Type 0) (reading : Reading X) : Type 0 where
@@ -91,9 +92,9 @@ passed_within : (size : ℕ) (place : Place) → Gives (Within (amount place)) (
 unfolding passed_on
 passed_within size place = gives_any (Within (amount place)) (passed_summed size place.sum) _ (λ sum. closed_within (amount place) (Some (step_to (summed_at place sum))) (summed_at place sum) (omega arith))
 
-block_within : (track size : ℕ) (place : Place) → Gives (Within (amount place)) (block_read track size place)
+block_within : (track : TrackNumbers) (size : ℕ) (place : Place) → Gives (Within (amount place)) (block_read track size place)
 unfolding block_read fields_read
-block_within track size place = gives_any {X = Data × Sum} P (data_read size place.sum) (block_rest track place) (λ p. gives_if P (p.0.value == track) (fields_read p.0.left (summed_at place p.1)) (passed_on p.0.left (summed_at place p.1)) (fields p.0.left p.1) (passed_within p.0.left (summed_at place p.1)))
+block_within track size place = gives_any {X = Data × Sum} P (data_read size place.sum) (block_rest track place) (λ p. gives_if P (p.0.value == track.number) (fields_read p.0.left (summed_at place p.1)) _ (fields p.0.left p.1) (gives_if P (is_unknown track.known p.0.value) (refused fault.BadElement) (passed_on p.0.left (summed_at place p.1)) (gives_refused P fault.BadElement) (passed_within p.0.left (summed_at place p.1))))
   where
     P : Option Step → Type 0
     P = Within (amount place)
@@ -117,7 +118,7 @@ within_less n m r less h = record { only = λ text rest x is. on_step x (h.only 
     on_step None k = tt
     on_step (Some s) k = omega (arith, less, k)
 
-group_less : (track : ℕ) (place : Place) → Gives (Lessens (amount place)) (group_read track place)
+group_less : (track : TrackNumbers) (place : Place) → Gives (Lessens (amount place)) (group_read track place)
 unfolding group_read group_child
 group_less track place = gives_then (Leaves place.group) P (element_read place.group place.sum) (group_rest track place) (element_leaves place.group place.sum) (λ p less. child p.0.ident (group_at place p.0.left p.1) p.0.size (omega (arith, less)))
   where
@@ -129,7 +130,7 @@ group_less track place = gives_then (Leaves place.group) P (element_read place.g
     child ident now (Some n) less = within_less (amount now) (amount place) (group_child track ident now (Some n)) less (gives_if (Within (amount now)) (ident == block) (block_read track n now) (passed_on n now) (block_within track n now) (passed_within n now))
 
 -- an element of a Cluster, in a position that has left what stands after it
-child_within : (track ident size n : ℕ) (place : Place) → place.group ≡ 0 → size + amount place ≤ n → Gives (Within n) (cluster_child track ident size place)
+child_within : (track : TrackNumbers) (ident size n : ℕ) (place : Place) → place.group ≡ 0 → size + amount place ≤ n → Gives (Within n) (cluster_child track ident size place)
 unfolding cluster_child
 child_within track ident size n place none fits =
     gives_if P (ident == simple_block) (block_read track size place) _ (wider (block_read track size place) (block_within track size place))
@@ -146,7 +147,7 @@ child_within track ident size n place none fits =
         on_step None k = tt
         on_step (Some s) k = omega (arith, fits, k)
 
-cluster_less : (track : ℕ) (place : Place) → place.group ≡ 0 → Gives (Lessens (amount place)) (cluster_read track place)
+cluster_less : (track : TrackNumbers) (place : Place) → place.group ≡ 0 → Gives (Lessens (amount place)) (cluster_read track place)
 unfolding cluster_read known_child first_child
 cluster_less track place none = gives_then (Leaves place.cluster) P (element_read place.cluster place.sum) (cluster_rest track place) (element_leaves place.cluster place.sum) (λ p less. child p.0.ident (cluster_at place p.0.left p.1) p.0.size refl (omega (arith, less, none)))
   where
@@ -179,7 +180,7 @@ header_leaves place = gives_if P (place.segment == 0) (given None) _ (gives_give
     or_end [] rest x h = subst P (ap (λ (z : Option Element × List ℕ). z.0) (ok_is (None, []) (x, rest) h)) tt
     or_end (b ∷ bs) rest x h = some.only (b ∷ bs) rest x h
 
-segment_less : (track : ℕ) (place : Place) → place.group ≡ 0 → place.cluster ≡ 0 → Gives (Lessens (amount place)) (segment_read track place)
+segment_less : (track : TrackNumbers) (place : Place) → place.group ≡ 0 → place.cluster ≡ 0 → Gives (Lessens (amount place)) (segment_read track place)
 unfolding segment_read segment_child other_read
 segment_less track place group cluster_none = gives_then (LeavesNext place.segment) P (header_read place) (segment_rest track place) (header_leaves place) on_header
   where
@@ -199,7 +200,7 @@ segment_less track place group cluster_none = gives_then (LeavesNext place.segme
     on_header None less = gives_given P None tt
     on_header (Some e) less = child e.ident (segment_at place place.loose e.left) e.size refl refl (omega (arith, less, group, cluster_none))
 
-pub step_less : (track : ℕ) (place : Place) → Gives (Lessens (amount place)) (step_read track place)
+pub step_less : (track : TrackNumbers) (place : Place) → Gives (Lessens (amount place)) (step_read track place)
 unfolding step_read
 step_less track place = on_tests (nat_lt 0 place.group) (nat_lt 0 place.cluster) refl refl
   where

@@ -31,6 +31,7 @@ use Rattle.ffv1_matroska.proofs.ReadClusters.{head_turn}
 use Rattle.ffv1_matroska.proofs.ReadPieces.{leaf_sound}
 use Rattle.ffv1_matroska.proofs.StepBounds.{err_is_no_ok}
 use Rattle.ffv1_matroska.specs.Segments.{is_beside}
+use Rattle.ffv1_matroska.specs.declared.track.TrackNumbers.{TrackNumbers}
 
 -- a turn in a Cluster takes some of its bytes, which are summed
 pub record Takes (place : Place) (text : List ℕ) (o : Turn) (rest : List ℕ) : Type 0 where
@@ -45,7 +46,7 @@ pub record Takes (place : Place) (text : List ℕ) (o : Turn) (rest : List ℕ) 
   sum : next.sum ≡ summed place.sum bytes
   sound : is_sound next ≡ true
 
-takes_group : (track : ℕ) (place : Place) (text : List ℕ) (o : Turn) (rest : List ℕ) → 0 < place.group → turn_read track place text ≡ Ok (o, rest) → Takes place text o rest
+takes_group : (track : TrackNumbers) (place : Place) (text : List ℕ) (o : Turn) (rest : List ℕ) → 0 < place.group → turn_read track place text ≡ Ok (o, rest) → Takes place text o rest
 takes_group track place text o rest some h =
     let l = leaf_sound track place place.group place.sum text o rest some h in
     let bytes = leaf_text l.leaf in
@@ -74,7 +75,7 @@ record TakesAfter (base : Place) (x : Sum) (n : ℕ) (text : List ℕ) (o : Turn
   sum : next.sum ≡ summed x bytes
   sound : is_sound next ≡ true
 
-child_takes : (track number n : ℕ) (base : Place) (x : Sum) (text : List ℕ) (o : Turn) (rest : List ℕ) → (cluster_child track number n (group_at base 0 x) >>= step_kept) text ≡ Ok (o, rest) → TakesAfter base x n text o rest
+child_takes : (track : TrackNumbers) (number n : ℕ) (base : Place) (x : Sum) (text : List ℕ) (o : Turn) (rest : List ℕ) → (cluster_child track number n (group_at base 0 x) >>= step_kept) text ≡ Ok (o, rest) → TakesAfter base x n text o rest
 unfolding cluster_child
 child_takes track number n base x text o rest h = on_tests (number == simple_block) (number == block_group) refl refl h
   where
@@ -102,7 +103,7 @@ child_takes track number n base x text o rest h = on_tests (number == simple_blo
         on_beside true r = single false (rw (p, q, r) at h)
         on_beside false r = absurd (cc (rw (p, q, r) at h))
 
-takes_cluster : (track : ℕ) (place : Place) (text : List ℕ) (o : Turn) (rest : List ℕ) → place.group ≡ 0 → 0 < place.cluster → IsPast place.sum → turn_read track place text ≡ Ok (o, rest) → Takes place text o rest
+takes_cluster : (track : TrackNumbers) (place : Place) (text : List ℕ) (o : Turn) (rest : List ℕ) → place.group ≡ 0 → 0 < place.cluster → IsPast place.sum → turn_read track place text ≡ Ok (o, rest) → Takes place text o rest
 takes_cluster track place text o rest none some past h =
     let same : place ≡ cluster_at place place.cluster place.sum = ap (λ g. group_at place g place.sum) none in
     let P : Place → Type 0 = λ p. turn_read track p text ≡ Ok (o, rest) in
@@ -126,7 +127,7 @@ takes_cluster track place text o rest none some past h =
       sound = t.sound;
     }
 
-pub turn_takes : (track : ℕ) (place : Place) (text : List ℕ) (o : Turn) (rest : List ℕ) → 0 < place.group + place.cluster → IsPast place.sum → turn_read track place text ≡ Ok (o, rest) → Takes place text o rest
+pub turn_takes : (track : TrackNumbers) (place : Place) (text : List ℕ) (o : Turn) (rest : List ℕ) → 0 < place.group + place.cluster → IsPast place.sum → turn_read track place text ≡ Ok (o, rest) → Takes place text o rest
 turn_takes track place text o rest some past h = elim (cases_lt 0 place.group) [
   | inl group ↦ takes_group track place text o rest group h
   | inr no_group ↦ takes_cluster track place text o rest (omega (arith, no_group)) (omega (arith, some, no_group)) past h
@@ -180,7 +181,7 @@ right_goes : (base : Place) (stated : ℕ) (content rest : List ℕ) (o : Option
 right_goes base stated content rest None more h = h
 right_goes base stated content rest (Some p) more h = inr h
 
-inside_frame : (most track : ℕ) (base : Place) (stated : ℕ) (content rest : List ℕ) (place : Place) (text : List ℕ) (o : Option (List ℕ × Place)) (more : List ℕ) → place.group + place.cluster < most → Inside base stated content rest place text → frame_read track place text ≡ Ok (o, more) → Goes base stated content rest o more
+inside_frame : (most : ℕ) (track : TrackNumbers) (base : Place) (stated : ℕ) (content rest : List ℕ) (place : Place) (text : List ℕ) (o : Option (List ℕ × Place)) (more : List ℕ) → place.group + place.cluster < most → Inside base stated content rest place text → frame_read track place text ≡ Ok (o, more) → Goes base stated content rest o more
 inside_frame zero track base stated content rest place text o more fits h read = absurd (omega (arith, fits))
 inside_frame (suc most) track base stated content rest place text o more fits h read = elim (cases_lt 0 (place.group + place.cluster)) [
   | inl some ↦ on_turn some (read_on_ok (turn_read track place text) (next_on track) (o, more) (sym (frame_turn track place text) ∙ read)) (λ p t is less r. inside_frame most track base stated content rest p t o more less is r)
@@ -204,7 +205,7 @@ inside_frame (suc most) track base stated content rest place text o more fits h 
         on_frames again t.frames t.next q.1 (inside_takes base stated content rest place text q.0 q.1 h t) (omega (arith, fits, t.counted, t.some)) (subst P t.turn two)
 
 -- frames, one by one
-inside_gives : (track : ℕ) (base : Place) (stated : ℕ) (content rest : List ℕ) (place : Place) (text : List ℕ) (frames : List (List ℕ)) (after : Place) (left : List ℕ) → Inside base stated content rest place text → GivesTo track place text frames after left → Inside base stated content rest after left ⊎ (stated ≡ crc_of content)
+inside_gives : (track : TrackNumbers) (base : Place) (stated : ℕ) (content rest : List ℕ) (place : Place) (text : List ℕ) (frames : List (List ℕ)) (after : Place) (left : List ℕ) → Inside base stated content rest place text → GivesTo track place text frames after left → Inside base stated content rest after left ⊎ (stated ≡ crc_of content)
 inside_gives track base stated content rest place text [] after left h g =
     let P : Place → Type 0 = λ p. Inside base stated content rest p text in
     let Q : List ℕ → Type 0 = λ t. Inside base stated content rest after t in
@@ -215,14 +216,14 @@ inside_gives track base stated content rest place text (f ∷ fs) after left h (
     on_next (inl i) again = again i
     on_next (inr right) again = inr right
 
-inside_done : (track : ℕ) (base : Place) (stated : ℕ) (content rest : List ℕ) (after : Place) (left : List ℕ) → Inside base stated content rest after left ⊎ (stated ≡ crc_of content) → ReadsToEnd track base after left → stated ≡ crc_of content
+inside_done : (track : TrackNumbers) (base : Place) (stated : ℕ) (content rest : List ℕ) (after : Place) (left : List ℕ) → Inside base stated content rest after left ⊎ (stated ≡ crc_of content) → ReadsToEnd track base after left → stated ≡ crc_of content
 inside_done track base stated content rest after left (inr right) end = right
 inside_done track base stated content rest after left (inl h) (inl (no_cluster, no_group)) = inside_end base stated content rest after left h no_group no_cluster
 inside_done track base stated content rest after left (inl h) (inr (inl less)) = absurd (omega (arith, less, h.segment))
 inside_done track base stated content rest after left (inl h) (inr (inr (more, read))) = inside_frame (suc (after.group + after.cluster)) track base stated content rest after left None more (omega arith) h read
 
 -- the CRC-32 was read, or is the fault
-begun : (track : ℕ) (place : Place) (ident size stated content rest : List ℕ) → SaysIdent ident crc_ident → SaysSize size (Some 4) → length stated ≡ 4 →
+begun : (track : TrackNumbers) (place : Place) (ident size stated content rest : List ℕ) → SaysIdent ident crc_ident → SaysSize size (Some 4) → length stated ≡ 4 →
     (Inside place (low_number stated) content rest (cluster_at (segment_at place false place.segment) (length content) (Awaits (low_number stated) turned)) (content ++ rest)
     × (frame_read track (cluster_entered place (length ((ident ++ size) ++ (stated ++ content)))) (((ident ++ size) ++ (stated ++ content)) ++ rest) ≡ frame_read track (cluster_at (segment_at place false place.segment) (length content) (Awaits (low_number stated) turned)) (content ++ rest)))
     ⊎ ((why : Stop) × (frame_read track (cluster_entered place (length ((ident ++ size) ++ (stated ++ content)))) (((ident ++ size) ++ (stated ++ content)) ++ rest) ≡ Err why))
@@ -268,7 +269,7 @@ begun track place ident size stated content rest is says four = on_sound (is_sou
     )
     on_sound false t = inr (Met fault.Checksum (content ++ rest), frame_turn track start text ∙ ap (λ z. read_on z (next_on track)) turn ∙ rw (crc, taken_complete 4 stated (content ++ rest) four, t) refl)
 
-pub cluster_summed : (track : ℕ) (place after : Place) (ident size stated content rest left : List ℕ) (frames : List (List ℕ)) → SaysIdent ident crc_ident → SaysSize size (Some 4) → length stated ≡ 4 →
+pub cluster_summed : (track : TrackNumbers) (place after : Place) (ident size stated content rest left : List ℕ) (frames : List (List ℕ)) → SaysIdent ident crc_ident → SaysSize size (Some 4) → length stated ≡ 4 →
     GivesTo track (cluster_entered place (length ((ident ++ size) ++ (stated ++ content)))) (((ident ++ size) ++ (stated ++ content)) ++ rest) frames after left → ReadsToEnd track place after left → low_number stated ≡ crc_of content
 cluster_summed track place after ident size stated content rest left frames is says four gives end = on_frames (begun track place ident size stated content rest is says four) frames gives
   where
@@ -304,7 +305,7 @@ cluster_summed track place after ident size stated content rest left frames is s
     on_frames (inl (h, same)) (f ∷ fs) (next, more, read, on) = inside_done track place (low_number stated) content rest after left (inside_gives track place (low_number stated) content rest now (content ++ rest) (f ∷ fs) after left h (next, more, sym same ∙ read, on)) end
     on_frames (inr (why, same)) (f ∷ fs) (next, more, read, on) = absurd (err_is_no_ok why (Some (f, next), more) (sym same ∙ read))
 
-pub damage_told : (track : ℕ) (place after : Place) (ident size stated content changed rest left : List ℕ) (frames : List (List ℕ)) (bits at : ℕ) → SaysIdent ident crc_ident → SaysSize size (Some 4) → length stated ≡ 4 → low_number stated ≡ crc_of content →
+pub damage_told : (track : TrackNumbers) (place after : Place) (ident size stated content changed rest left : List ℕ) (frames : List (List ℕ)) (bits at : ℕ) → SaysIdent ident crc_ident → SaysSize size (Some 4) → length stated ≡ 4 → low_number stated ≡ crc_of content →
     All (λ b. b < 256) content → All (λ b. b < 256) changed → length content ≡ length changed → 0 < bits → bits < 2 ^ 32 → bit_xor (low_number content) (low_number changed) ≡ bits * 2 ^ at →
     GivesTo track (cluster_entered place (length ((ident ++ size) ++ (stated ++ changed)))) (((ident ++ size) ++ (stated ++ changed)) ++ rest) frames after left → ReadsToEnd track place after left → ⊥
 damage_told track place after ident size stated content changed rest left frames bits at is says four right bytes also long some few apart gives end =

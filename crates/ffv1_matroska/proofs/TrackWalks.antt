@@ -3,7 +3,7 @@ use Rattle.std.proofs.Common.{◌≡◌, ℕ, suc, zero, ◌≤◌, ◌<◌, Som
 use Rattle.ffv1_reads.specs.declared.fault.FileFault.{FileFault}
 use Rattle.ffv1_reads.specs.declared.fault.FileFault.TheVariants as fault
 use Rattle.ffv1_ebml.specs.Contents.{Part, content_told, first_part}
-use Rattle.ffv1_matroska.specs.Tracks.{Track, track_at, track_in, track_up_to}
+use Rattle.ffv1_matroska.specs.Tracks.{Track, first_track, known_in, known_up_to, known_with, track_among, track_at, track_in, track_up_to}
 
 -- an element that does not count
 pub track_next : (most : ℕ) (rest : List ℕ) (p : Part) → first_part rest ≡ Ok (Some p) → track_at p.ident p.content ≡ Ok None → length rest ≤ most → length p.rest < length rest →
@@ -38,6 +38,40 @@ track_none zero rest none = refl
 track_none (suc k) rest none = rw none refl
 
 -- what a walk that goes on from these elements answers is what the whole content says
-pub judged : (content : List ℕ) (u : Unit {0}) (rest : Result Track FileFault) (answer : Result Track FileFault) → Ok u ≡ content_told content → track_up_to (length content) content ≡ rest → rest ≡ answer → track_in content ≡ answer
-unfolding track_in
+pub judged : (content : List ℕ) (u : Unit {0}) (rest : Result Track FileFault) (answer : Result Track FileFault) → Ok u ≡ content_told content → track_up_to (length content) content ≡ rest → rest ≡ answer → first_track content ≡ answer
+unfolding first_track
 judged content u rest answer told walk is = rw (← told) (walk ∙ is)
+
+-- the numbers of all tracks stand beside what the first one of FFV1 video says
+pub first_found : (content : List ℕ) (track : Track) → first_track content ≡ Ok track → track_in content ≡ Ok (track_among (known_in content) track)
+unfolding track_in
+first_found content track is = rw is refl
+
+pub first_fails : (content : List ℕ) (f : FileFault) → first_track content ≡ Err f → track_in content ≡ Err f
+unfolding track_in
+first_fails content f is = rw is refl
+
+-- an element that can be read
+pub known_next : (most known : ℕ) (rest : List ℕ) (p : Part) (more : ℕ) → first_part rest ≡ Ok (Some p) → known_with known p.ident p.content ≡ Ok more → length rest ≤ most → length p.rest < length rest →
+    (k : ℕ) × (length p.rest ≤ k) × (known_up_to most known rest ≡ known_up_to k more p.rest)
+unfolding known_up_to
+known_next zero known rest p more first with few less = absurd (omega (arith, few, less))
+known_next (suc k) known rest p more first with few less = (k, omega (arith, few, less), rw (first, with) refl)
+
+-- one whose number can't be read
+pub known_bad : (most known : ℕ) (rest : List ℕ) (p : Part) (f : FileFault) → first_part rest ≡ Ok (Some p) → known_with known p.ident p.content ≡ Err f → known_up_to most known rest ≡ known
+unfolding known_up_to
+known_bad zero known rest p f first bad = refl
+known_bad (suc k) known rest p f first bad = rw (first, bad) refl
+
+-- one whose header can't be read
+pub known_cut : (most known : ℕ) (rest : List ℕ) (f : FileFault) → first_part rest ≡ Err f → known_up_to most known rest ≡ known
+unfolding known_up_to
+known_cut zero known rest f bad = refl
+known_cut (suc k) known rest f bad = rw bad refl
+
+-- no more elements
+pub known_end : (most known : ℕ) (rest : List ℕ) → first_part rest ≡ Ok None → known_up_to most known rest ≡ known
+unfolding known_up_to
+known_end zero known rest none = refl
+known_end (suc k) known rest none = rw none refl

@@ -22,13 +22,14 @@ use Rattle.ffv1_matroska.specs.Segments.{is_beside}
 use Rattle.ffv1_matroska.specs.Segments.{is_filler}
 use Rattle.ffv1_matroska.specs.Elements.{stands_single}
 use Rattle.ffv1_matroska.specs.Elements.{content_text}
+use Rattle.ffv1_matroska.specs.declared.track.TrackNumbers.{TrackNumbers}
 
 -- an ID that is spelled
 pub says_ident : (ident : ℕ) → IsIdent ident → SaysIdent (ident_bytes ident) ident
 says_ident ident is = let p = ident_spelled ident is in (p.is, p.few, p.number)
 
 -- an element that is no block
-plain_leaf : (ident kind : ℕ) (size content : List ℕ) → IsIdent ident → (ident ≡ kind → ⊥) → SaysSize size (Some (length content)) → (track : ℕ) →
+plain_leaf : (ident kind : ℕ) (size content : List ℕ) → IsIdent ident → (ident ≡ kind → ⊥) → SaysSize size (Some (length content)) → (track : TrackNumbers) →
     IsLeaf kind track (record { ident = ident_bytes ident; size = size; content = Content.Plain content })
 plain_leaf ident kind size content is other says track =
     let p = ident_spelled ident is in
@@ -84,22 +85,26 @@ block_is = inl (omega arith, omega arith)
 cluster_is : IsIdent cluster
 cluster_is = inr (inr (inr (omega arith, omega arith)))
 
+-- the number of the one track, and the numbers of all
+abbrev pub written_numbers : TrackNumbers
+written_numbers = record { number = 1; known = 2 }
+
 one_is : IsVint (129 ∷ [])
 unfolding length_of
 one_is = (omega arith, refl)
 
-own_leaf : (frame : List ℕ) → 0 < length frame → length frame ≤ limit → IsLeaf simple_block 1 (block_leaf frame)
+own_leaf : (frame : List ℕ) → 0 < length frame → length frame ≤ limit → IsLeaf simple_block written_numbers (block_leaf frame)
 own_leaf frame some few =
     let p = ident_spelled simple_block block_is in
-    let own : IsOwn 1 (129 ∷ []) (0 ∷ 0 ∷ []) 128 frame = record { own = (one_is, omega arith, refl); timed = refl; unlaced = refl; some = some; short = few } in
+    let own : IsOwn written_numbers (129 ∷ []) (0 ∷ 0 ∷ []) 128 frame = record { own = (one_is, omega arith, refl); timed = refl; unlaced = refl; some = some; short = few } in
     let long_enough : length (block_header ++ frame) < 2 ^ 56 - 1 = omega (arith, length-append block_header frame, few) in
     record { named = p.is; few = p.few; sized = long_spelled (length (block_header ++ frame)) long_enough; holds = (rw p.number refl, own) }
 
-pieces_are : (number : ℕ) (frame : List ℕ) → 0 < length frame → length frame ≤ limit → ArePieces 1 (pieces_of number frame)
+pieces_are : (number : ℕ) (frame : List ℕ) → 0 < length frame → length frame ≤ limit → ArePieces written_numbers (pieces_of number frame)
 pieces_are number frame some few =
     let low = bytes_low_first 0 4 (crc_of (cluster_content number frame)) in
-    let crc = plain_leaf crc_ident simple_block (short 4) low crc_is_ident (λ same. omega (arith, same)) (short_spelled 4 (omega arith)) 1 in
-    let time = plain_leaf timestamp simple_block (short 8) (bytes_high_first 8 number) time_is (λ same. omega (arith, same)) (rw (length_high 8 number) (short_spelled 8 (omega arith))) 1 in (
+    let crc = plain_leaf crc_ident simple_block (short 4) low crc_is_ident (λ same. omega (arith, same)) (short_spelled 4 (omega arith)) written_numbers in
+    let time = plain_leaf timestamp simple_block (short 8) (bytes_high_first 8 number) time_is (λ same. omega (arith, same)) (rw (length_high 8 number) (short_spelled 8 (omega arith))) written_numbers in (
       (crc, not_group crc_ident crc_is_ident (λ same. omega (arith, same)), stands crc_ident (length low) crc_is_ident (crc_may (length low))),
       (
         (time, not_group timestamp time_is (λ same. omega (arith, same)), stands timestamp (length (bytes_high_first 8 number)) time_is (time_may (length (bytes_high_first 8 number)) (length_high 8 number))),
@@ -113,7 +118,7 @@ pieces_summed number frame bytes = λ _. crc_says (cluster_content number frame)
 abbrev pub cluster_part : ℕ → List ℕ → Part
 cluster_part number frame = Part.Sized (ident_bytes cluster) (long (length (checked (cluster_content number frame)))) (pieces_of number frame)
 
-part_is : (number : ℕ) (frame : List ℕ) → 0 < length frame → length frame ≤ limit → AreBytes frame → length (checked (cluster_content number frame)) < 2 ^ 56 - 1 → IsPart 1 (cluster_part number frame)
+part_is : (number : ℕ) (frame : List ℕ) → 0 < length frame → length frame ≤ limit → AreBytes frame → length (checked (cluster_content number frame)) < 2 ^ 56 - 1 → IsPart written_numbers (cluster_part number frame)
 part_is number frame some few bytes short_enough =
     let whole = whole_text number frame in
     (says_ident cluster cluster_is, rw whole (long_spelled (length (checked (cluster_content number frame))) short_enough), pieces_are number frame some few, pieces_summed number frame bytes)
@@ -152,7 +157,7 @@ content_short number frame few =
     let f = ident_most simple_block in
     omega (arith, checked_long (time ++ block), a, b, c, d, e, f, few)
 
-pub parts_are : (number : ℕ) (frames : List (List ℕ)) → AreWritten frames → AreParts 1 (cluster_parts number frames)
+pub parts_are : (number : ℕ) (frames : List (List ℕ)) → AreWritten frames → AreParts written_numbers (cluster_parts number frames)
 parts_are number [] written = tt
 parts_are number (frame ∷ frames) written =
     let one = written.0 in

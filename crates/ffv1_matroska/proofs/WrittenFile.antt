@@ -29,9 +29,10 @@ use Rattle.ffv1_matroska.proofs.SpelledLengths.{ident_long, long_long}
 use Rattle.ffv1_matroska.proofs.StrideSteps.{stride_enough, stride_some}
 use Rattle.ffv1_matroska.proofs.WrittenBytes.{AreBytes, cues_are, info_are, seeks_are}
 use Rattle.ffv1_matroska.proofs.WrittenChecks.{checked_told}
-use Rattle.ffv1_matroska.proofs.WrittenClusters.{cluster_parts, parts_are, parts_are_text, parts_have}
+use Rattle.ffv1_matroska.proofs.WrittenClusters.{cluster_parts, parts_are, parts_are_text, parts_have, written_numbers}
 use Rattle.ffv1_matroska.proofs.WrittenLengths.{checked_long, cluster_long, cues_from_long, cues_long}
 use Rattle.ffv1_matroska.proofs.WrittenTrack.{track_says}
+use Rattle.ffv1_matroska.specs.declared.track.TrackNumbers.{TrackNumbers}
 
 -- ---- before the Segment
 
@@ -139,7 +140,7 @@ entry_short head shown few =
     let inner = entry_fields head shown ++ long_element codec_private head.config_record in
     omega (arith, checked_long (long_element entry inner), long_long entry inner, few)
 
-tracks_say : (head : Head) (shown : Shown) (frames : List (List ℕ)) → IsWritable head shown frames → IsTracks (tracks_top head shown) (record { number = 1; head = head })
+tracks_say : (head : Head) (shown : Shown) (frames : List (List ℕ)) → IsWritable head shown frames → IsTracks (tracks_top head shown) (record { numbers = written_numbers; head = head })
 tracks_say head shown frames is =
     let p = ident_spelled tracks tracks_is in
     let few : length (checked (entry_element head shown)) < 2 ^ 56 - 1 = let most = is.short in omega (arith, most) in
@@ -190,7 +191,7 @@ tracks_text head shown = refl
 with_rest : (head : Head) (shown : Shown) (parts : List Part) (text : List ℕ) → parts_text parts ≡ text → tracks_element head shown ++ text ≡ top_text (tracks_top head shown) ++ (parts_text parts ++ [])
 with_rest head shown parts text is = rw (tracks_text head shown, append-nil (parts_text parts), is) refl
 
-pub file_with : (head : Head) (shown : Shown) (frames : List (List ℕ)) (finish : Option Finish) (size : Option ℕ) (parts : List Part) (text : List ℕ) → IsWritable head shown frames → parts_text parts ≡ text → AreParts 1 parts → parts_frames parts ≡ frames →
+pub file_with : (head : Head) (shown : Shown) (frames : List (List ℕ)) (finish : Option Finish) (size : Option ℕ) (parts : List Part) (text : List ℕ) → IsWritable head shown frames → parts_text parts ≡ text → AreParts written_numbers parts → parts_frames parts ≡ frames →
     SaysSize (segment_size finish) size → SegmentEnds size (148 + (length (tracks_element head shown) + length text)) [] → MatroskaFile (opening head finish ++ (tracks_element head shown ++ text)) head frames
 file_with head shown frames finish size parts text is text_is are have says ends =
     let tops = tops_text (seek_top finish ∷ info_top head finish ∷ []) in
@@ -205,7 +206,7 @@ file_with head shown frames finish size parts text is text_is are have says ends
       size = size;
       before = seek_top finish ∷ info_top head finish ∷ [];
       tracks = tracks_top head shown;
-      track = record { number = 1; head = head };
+      track = record { numbers = written_numbers; head = head };
       parts = parts;
       rest = [];
       begins = begins_at (opening head finish ++ after) (opening head finish ++ (tracks_element head shown ++ text)) size (tops ++ after) (ap (λ z. opening head finish ++ z) (sym same)) begins;
@@ -229,7 +230,7 @@ pub record IsRead (file : List ℕ) (head : Head) (frames : List (List ℕ)) : T
   pub is : MatroskaFile file head frames
   pub read : file_read file ≡ Ok ((head, frames), [])
 
-read_with : (head : Head) (shown : Shown) (frames : List (List ℕ)) (finish : Option Finish) (size : Option ℕ) (parts : List Part) (text : List ℕ) → IsWritable head shown frames → parts_text parts ≡ text → AreParts 1 parts → parts_frames parts ≡ frames →
+read_with : (head : Head) (shown : Shown) (frames : List (List ℕ)) (finish : Option Finish) (size : Option ℕ) (parts : List Part) (text : List ℕ) → IsWritable head shown frames → parts_text parts ≡ text → AreParts written_numbers parts → parts_frames parts ≡ frames →
     SaysSize (segment_size finish) size → SegmentEnds size (148 + (length (tracks_element head shown) + length text)) [] → IsRead (opening head finish ++ (tracks_element head shown ++ text)) head frames
 unfolding file_with
 read_with head shown frames finish size parts text is text_is are have says ends =
@@ -290,7 +291,7 @@ cues_top_is stride places few =
     let short_enough : length (checked all) < 2 ^ 56 - 1 = omega (arith, checked_long all, cues_from_long 0 stride places, few) in
     top_is cues (long (length (checked all))) all cues_is (long_spelled (length (checked all)) short_enough) cues_known (cues_are 0 stride places)
 
-parts_join : (track : ℕ) (xs ys : List Part) → AreParts track xs → AreParts track ys → AreParts track (xs ++ ys)
+parts_join : (track : TrackNumbers) (xs ys : List Part) → AreParts track xs → AreParts track ys → AreParts track (xs ++ ys)
 parts_join track [] ys a b = b
 parts_join track (x ∷ xs) ys a b = (a.0, parts_join track xs ys a.1 b)
 
@@ -306,8 +307,8 @@ all_text head shown frames = flat_map-append part_text (cluster_parts 0 frames) 
 all_have : (head : Head) (shown : Shown) (frames : List (List ℕ)) → parts_frames (all_parts head shown frames) ≡ frames
 all_have head shown frames = flat_map-append part_frames (cluster_parts 0 frames) (cues_part head shown frames) ∙ append-nil (parts_frames (cluster_parts 0 frames)) ∙ parts_have 0 frames
 
-all_are : (head : Head) (shown : Shown) (frames : List (List ℕ)) → IsWritable head shown frames → AreParts 1 (all_parts head shown frames)
-all_are head shown frames is = parts_join 1 (cluster_parts 0 frames) (cues_part head shown frames) (parts_are 0 frames is.written) (cues_top_is (stride_of (length frames)) (kept head shown frames) (kept_few head shown frames is.near), tt)
+all_are : (head : Head) (shown : Shown) (frames : List (List ℕ)) → IsWritable head shown frames → AreParts written_numbers (all_parts head shown frames)
+all_are head shown frames is = parts_join written_numbers (cluster_parts 0 frames) (cues_part head shown frames) (parts_are 0 frames is.written) (cues_top_is (stride_of (length frames)) (kept head shown frames) (kept_few head shown frames is.near), tt)
 
 at_file : (xs ys : List ℕ) (head : Head) (frames : List (List ℕ)) → xs ≡ ys → IsRead xs head frames → IsRead ys head frames
 at_file xs ys head frames e h = let P : List ℕ → Type 0 = λ z. IsRead z head frames in subst P e h

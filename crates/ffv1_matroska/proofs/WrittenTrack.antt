@@ -12,14 +12,16 @@ use Rattle.ffv1_ebml.specs.Vints.{number_of}
 use Rattle.ffv1_ebml.proofs.ElementLaws.{found_first, found_past, part_less, part_spelled}
 use Rattle.ffv1_ebml.proofs.SpelledLaws.{long_spelled, number_high, short_spelled}
 use Rattle.ffv1_matroska.specs.Rates.{IsTimed, Rate, greatest, rate_of, second}
-use Rattle.ffv1_matroska.specs.Tracks.{Track, codec_id, codec_private, content_encodings, default_duration, entry, number_at, pixel_height, pixel_width, record_in, track_at, track_in, track_number, track_of, track_type, track_up_to, video}
+use Rattle.ffv1_matroska.specs.Blocks.{is_unknown}
+use Rattle.ffv1_matroska.proofs.WrittenClusters.{written_numbers}
+use Rattle.ffv1_matroska.specs.Tracks.{Track, known_in, known_with, track_among, with_number, codec_id, codec_private, content_encodings, default_duration, entry, number_at, pixel_height, pixel_width, record_in, track_at, track_in, track_number, track_of, track_type, track_up_to, video}
 use Rattle.ffv1_matroska.specs.WrittenIdents.{flag_interlaced, flag_lacing, language, track_uid}
 use Rattle.ffv1_matroska.specs.Written.{checked, crc_element, display, duration_field, entry_element, entry_fields, frame_duration, interlaced_of, long_element, order_element, short_element, video_content}
 use Rattle.ffv1_matroska.specs.Writers.{rate_in}
 use Rattle.ffv1_matroska.specs.declared.shown.Shown.{Shown}
 use Rattle.ffv1_matroska.proofs.FieldsFound.{AreFields, Field, fields_text, found_in, long_field, number_field, number_is, short_field, short_is}
 use Rattle.ffv1_matroska.proofs.SpelledLengths.{long_long}
-use Rattle.ffv1_matroska.proofs.TrackWalks.{judged, track_here, track_next}
+use Rattle.ffv1_matroska.proofs.TrackWalks.{first_found, judged, known_end, known_next, track_here, track_next}
 use Rattle.ffv1_matroska.proofs.WrittenBytes.{AreBytes, entry_are, video_few}
 use Rattle.ffv1_matroska.proofs.WrittenChecks.{checked_told, crc_is_ident}
 
@@ -152,7 +154,7 @@ unfolding record_in
 record_says content number picture config h = rw (h.kind, h.codec, h.config_is) refl
 
 track_of_says : (content : List ℕ) (number : ℕ) (picture config : List ℕ) (width height : ℕ) → Says content number picture config → number_at pixel_width picture ≡ Ok width → number_at pixel_height picture ≡ Ok height →
-    track_of content config ≡ Ok (record { number = 1; head = record { width = min width greatest; height = min height greatest; rate = (rate_of number).rate; scale = (rate_of number).scale; config_record = config } })
+    track_of content config ≡ Ok (record { numbers = record { number = 1; known = 0 }; head = record { width = min width greatest; height = min height greatest; rate = (rate_of number).rate; scale = (rate_of number).scale; config_record = config } })
 unfolding track_of
 track_of_says content number picture config width height h wide high = rw (h.plain, h.track, h.lasts, h.picture_is, wide, high) refl
 
@@ -166,14 +168,21 @@ head_says head wide high timed =
     rw (a, b, c, d) refl
 
 entry_track : (head : Head) (shown : Shown) → head.width < 2 ^ 32 → head.height < 2 ^ 32 → IsTimed (rate_in head) → frame_duration head < 2 ^ 64 → length head.config_record < 2 ^ 56 - 1 →
-    track_at entry (content_of_entry head shown) ≡ Ok (Some (record { number = 1; head = head }))
+    track_at entry (content_of_entry head shown) ≡ Ok (Some (record { numbers = record { number = 1; known = 0 }; head = head }))
 unfolding track_at
 entry_track head shown wide high timed fits short =
     let says = entry_says head shown fits short in
     let sizes = size_found head shown wide high in
     let config = record_says (content_of_entry head shown) (frame_duration head) (video_content head shown) head.config_record says in
     let track = track_of_says (content_of_entry head shown) (frame_duration head) (video_content head shown) head.config_record head.width head.height says sizes.0 sizes.1 in
-    rw (config, track) (ap (λ h. Ok (Some (record { number = 1; head = h }))) (head_says head wide high timed))
+    rw (config, track) (ap (λ h. Ok (Some (record { numbers = record { number = 1; known = 0 }; head = h }))) (head_says head wide high timed))
+
+-- and its number is the only one
+entry_known : (head : Head) (shown : Shown) → frame_duration head < 2 ^ 64 → length head.config_record < 2 ^ 56 - 1 → known_with 0 entry (content_of_entry head shown) ≡ Ok 2
+unfolding with_number is_unknown
+entry_known head shown fits short =
+    let says = entry_says head shown fits short in
+    rw says.track refl
 
 -- a duration fits in eight bytes
 pub duration_fits : (head : Head) → head.rate < 2 ^ 32 → head.scale < 2 ^ 32 → frame_duration head < 2 ^ 64
@@ -184,13 +193,13 @@ duration_fits head rate scale = elim (cases_eq head.rate 0) [
 
 -- the content of Tracks
 pub track_says : (head : Head) (shown : Shown) → head.width < 2 ^ 32 → head.height < 2 ^ 32 → head.rate < 2 ^ 32 → head.scale < 2 ^ 32 → IsTimed (rate_in head) → AreBytes head.config_record →
-    length (content_of_entry head shown) < 2 ^ 56 - 1 → track_in (checked (entry_element head shown)) ≡ Ok (record { number = 1; head = head })
-unfolding entry_element crc_element track_at
+    length (content_of_entry head shown) < 2 ^ 56 - 1 → track_in (checked (entry_element head shown)) ≡ Ok (record { numbers = written_numbers; head = head })
+unfolding entry_element crc_element track_at first_part
 track_says head shown wide high rate scale timed bytes within =
     let inner = content_of_entry head shown in
     let e = entry_element head shown in
     let low = bytes_low_first 0 4 (crc_of e) in
-    let track : Track = record { number = 1; head = head } in
+    let track : Track = record { numbers = record { number = 1; known = 0 }; head = head } in
     let content = checked e in
     let first = part_spelled crc_ident (short 4) low e crc_is_ident (short_spelled 4 (omega arith)) in
     let next = track_next (length content) content (record { ident = crc_ident; content = low; rest = e }) first refl (omega arith) (part_less content (record { ident = crc_ident; content = low; rest = e }) first) in
@@ -198,4 +207,8 @@ track_says head shown wide high rate scale timed bytes within =
     let config_short : length head.config_record < 2 ^ 56 - 1 = let a = length-append (entry_fields head shown) (long_element codec_private head.config_record) in let b = long_long codec_private head.config_record in omega (arith, a, b, within) in
     let at = entry_track head shown wide high timed (duration_fits head rate scale) config_short in
     let here = track_here next.0 e (record { ident = entry; content = inner; rest = [] }) track second at next.1 (part_less e (record { ident = entry; content = inner; rest = [] }) second) in
-    judged content tt (track_up_to next.0 e) (Ok track) (sym (checked_told e (entry_are head shown bytes))) next.2 here
+    let found = judged content tt (track_up_to next.0 e) (Ok track) (sym (checked_told e (entry_are head shown bytes))) next.2 here in
+    let one = known_next (length content) 0 content (record { ident = crc_ident; content = low; rest = e }) 0 first refl (omega arith) (part_less content (record { ident = crc_ident; content = low; rest = e }) first) in
+    let two = known_next one.0 0 e (record { ident = entry; content = inner; rest = [] }) 2 second (entry_known head shown (duration_fits head rate scale) config_short) one.1 (part_less e (record { ident = entry; content = inner; rest = [] }) second) in
+    let known : known_in content ≡ 2 = one.2 ∙ two.2 ∙ known_end two.0 2 [] refl in
+    first_found content track found ∙ ap (λ k. Ok (track_among k track)) known

@@ -14,6 +14,7 @@ use Rattle.ffv1_matroska.specs.MatroskaFiles.{endless}
 use Rattle.ffv1_matroska.specs.Opened.{ebml, tracks}
 use Rattle.ffv1_matroska.specs.Segments.{block, block_group, cluster}
 use Rattle.ffv1_matroska.specs.Tracks.{Track, entry, track_type}
+use Rattle.ffv1_matroska.specs.declared.track.TrackNumbers.{TrackNumbers}
 
 -- how many bytes a Segment of this size has
 abbrev pub room : Option ℕ → ℕ
@@ -49,7 +50,7 @@ pub record SegmentBegins (file : List ℕ) (track : Track) (left : ℕ) (rest : 
   pub before_are : AreTopLevel before
   pub first : AreBefore before
   pub tracks_is : IsTracks tracks track
-  pub parts_are : AreParts track.number parts
+  pub parts_are : AreParts track.numbers parts
 
 -- a file up to a position in a Cluster of known size, after elements of it: the Cluster has so many
 -- bytes left
@@ -63,7 +64,7 @@ pub record ClusterBegins (file : List ℕ) (track : Track) (left : ℕ) (rest : 
       ((ident ++ size) ++ (pieces_text pieces ++ rest))
   pub named : SaysIdent ident cluster
   pub sized : SaysSize size (Some (length (pieces_text pieces) + left))
-  pub are : ArePieces track.number pieces
+  pub are : ArePieces track.numbers pieces
 
 -- a file up to a position in a Cluster of unknown size, after elements of it: the Segment has so
 -- many bytes left
@@ -76,12 +77,13 @@ pub record LooseBegins (file : List ℕ) (track : Track) (left : ℕ) (rest : Li
       ((ident ++ size) ++ (pieces_text pieces ++ rest))
   pub named : SaysIdent ident cluster
   pub unsized : SaysSize size None
-  pub are : ArePieces track.number pieces
+  pub are : ArePieces track.numbers pieces
   pub loose : AreLoose pieces
 
 -- a BlockGroup begins, in a parent with so many bytes left, with elements of it: it has so many
 -- bytes more
-pub record GroupBegins (text : List ℕ) (track left more : ℕ) (rest : List ℕ) : Type 0 where
+pub record GroupBegins (text : List ℕ) (track : TrackNumbers) (left more : ℕ)
+    (rest : List ℕ) : Type 0 where
   pub ident : List ℕ
   pub size : List ℕ
   pub leaves : List Leaf

@@ -1,6 +1,7 @@
 -- Blocks (RFC 9559, 5.1.3.4, 5.1.3.5.1 and 10): a track number, two bytes of time, flags, and a
 -- frame, where there is no lacing.
-use Rattle.std.specs.Prelude.{ℕ, ◌-◌, ◌/◌, ◌%◌, ◌==◌, if◌then◌else◌, nat_lt, slice_index}
+use Rattle.std.specs.Prelude.{ℕ, ◌-◌, ◌/◌, ◌%◌, ◌^◌, ◌==◌, ◌&&◌, Bool, if◌then◌else◌, nat_le}
+use Rattle.std.specs.Prelude.{nat_lt, slice_index}
 use Rattle.std.specs.Prelude.{Option, Some}
 use Rattle.ffv1_reads.specs.Reads.{Reading, given, refused, ◌>>=◌}
 use Rattle.ffv1_reads.specs.declared.fault.FileFault.TheVariants as fault
@@ -12,6 +13,7 @@ use Rattle.ffv1_matroska.specs.Places.{closed, frame_at, step_to, summed_at}
 use Rattle.ffv1_matroska.specs.declared.place.Place.{Place}
 use Rattle.ffv1_matroska.specs.declared.place.Step.{Step}
 use Rattle.ffv1_reads.specs.Head.{limit}
+use Rattle.ffv1_matroska.specs.declared.track.TrackNumbers.{TrackNumbers}
 
 -- so many bytes are passed
 unfoldable pub passed_on : ℕ → Place → Reading (Option Step)
@@ -38,12 +40,18 @@ fields_read left place =
     else (taken_summed 3 place.sum >>= λ p.
     frame_judged (slice_index p.0 2) (left - 3) (summed_at place p.1))
 
--- a block of another track is passed
-abbrev pub block_rest : ℕ → Place → Data × Sum → Reading (Option Step)
+-- no track has this number, of those up to 127: each of them that is known stands for its power of
+-- two; a greater number may be that of a track
+unfoldable pub is_unknown : ℕ → ℕ → Bool
+is_unknown known number = nat_le number 127 && (known / 2 ^ number % 2 == 0)
+
+-- a block of another track is passed; where no track has its number, it is refused behind that
+abbrev pub block_rest : TrackNumbers → Place → Data × Sum → Reading (Option Step)
 block_rest track place p =
-    if p.0.value == track then fields_read p.0.left (summed_at place p.1)
+    if p.0.value == track.number then fields_read p.0.left (summed_at place p.1)
+    else if is_unknown track.known p.0.value then refused fault.BadElement
     else passed_on p.0.left (summed_at place p.1)
 
 -- a block of so many bytes, up to its frame
-unfoldable pub block_read : ℕ → ℕ → Place → Reading (Option Step)
+unfoldable pub block_read : TrackNumbers → ℕ → Place → Reading (Option Step)
 block_read track size place = data_read size place.sum >>= block_rest track place

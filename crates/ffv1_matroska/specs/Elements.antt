@@ -11,7 +11,9 @@ use Rattle.ffv1_ebml.specs.Vints.{IsVint, data_of, number_of}
 use Rattle.ffv1_matroska.specs.Blocks.{lacing_of}
 use Rattle.ffv1_matroska.specs.Segments.{block, block_group, cluster, is_beside, is_filler}
 use Rattle.ffv1_matroska.specs.Segments.{is_of_cluster, is_section, simple_block}
+use Rattle.ffv1_matroska.specs.Blocks.{is_unknown}
 use Rattle.ffv1_reads.specs.Head.{limit}
+use Rattle.ffv1_matroska.specs.declared.track.TrackNumbers.{TrackNumbers}
 
 -- these bytes are an ID (RFC 8794, 5), which is compared with all its bits
 abbrev pub SaysIdent : List ℕ → ℕ → Type 0
@@ -40,18 +42,20 @@ abbrev pub SaysTrack : List ℕ → ℕ → Type 0
 SaysTrack bytes track = IsVint bytes × (length bytes ≤ 8) × (data_of bytes ≡ track)
 
 -- a block of the track has no lacing, and a frame that has bytes, and not too many
-pub record IsOwn (track : ℕ) (number time : List ℕ) (flags : ℕ) (frame : List ℕ) : Type 0 where
-  pub own : SaysTrack number track
+pub record IsOwn (track : TrackNumbers) (number time : List ℕ) (flags : ℕ) (frame : List ℕ)
+    : Type 0 where
+  pub own : SaysTrack number track.number
   pub timed : length time ≡ 2
   pub unlaced : lacing_of flags ≡ 0
   pub some : 0 < length frame
   pub short : length frame ≤ limit
 
--- what an element holds that is a block of some track, or is none
-abbrev pub IsContent : ℕ → Bool → Content → Type 0
+-- what an element holds that is a block of the track or of another one, or is none
+abbrev pub IsContent : TrackNumbers → Bool → Content → Type 0
 IsContent track is_block (Plain bytes) = is_block ≡ false
 IsContent track is_block (Other number rest) =
-    (is_block ≡ true) × IsVint number × (length number ≤ 8) × (data_of number ≡ track → ⊥)
+    (is_block ≡ true) × IsVint number × (length number ≤ 8) × (data_of number ≡ track.number → ⊥)
+    × (is_unknown track.known (data_of number) ≡ false)
 IsContent track is_block (Own number time flags frame) =
     (is_block ≡ true) × IsOwn track number time flags frame
 
@@ -68,7 +72,7 @@ abbrev pub leaf_frames : Leaf → List (List ℕ)
 leaf_frames l = content_frames l.content
 
 -- it is a block where it has this ID
-pub record IsLeaf (kind track : ℕ) (l : Leaf) : Type 0 where
+pub record IsLeaf (kind : ℕ) (track : TrackNumbers) (l : Leaf) : Type 0 where
   pub named : IsVint l.ident
   pub few : length l.ident ≤ 4
   pub sized : SaysSize l.size (Some (length (content_text l.content)))
@@ -80,7 +84,7 @@ leaves_text ls = flat_map leaf_text ls
 abbrev pub leaves_frames : List Leaf → List (List ℕ)
 leaves_frames ls = flat_map leaf_frames ls
 
-abbrev pub AreLeaves : ℕ → ℕ → List Leaf → Type 0
+abbrev pub AreLeaves : ℕ → TrackNumbers → List Leaf → Type 0
 AreLeaves kind track [] = Unit {0}
 AreLeaves kind track (l ∷ ls) = IsLeaf kind track l × AreLeaves kind track ls
 
@@ -107,7 +111,7 @@ abbrev pub stands_single : ℕ → ℕ → Bool
 stands_single ident size = ident == simple_block || is_beside ident size
 
 -- a SimpleBlock holds a block, and so does a Block of a BlockGroup
-abbrev pub IsPiece : ℕ → Piece → Type 0
+abbrev pub IsPiece : TrackNumbers → Piece → Type 0
 IsPiece track (Single l) =
     IsLeaf simple_block track l × ((number_of l.ident == block_group) ≡ false)
     × (stands_single (number_of l.ident) (length (content_text l.content)) ≡ true)
@@ -121,7 +125,7 @@ pieces_text ps = flat_map piece_text ps
 abbrev pub pieces_frames : List Piece → List (List ℕ)
 pieces_frames ps = flat_map piece_frames ps
 
-abbrev pub ArePieces : ℕ → List Piece → Type 0
+abbrev pub ArePieces : TrackNumbers → List Piece → Type 0
 ArePieces track [] = Unit {0}
 ArePieces track (p ∷ ps) = IsPiece track p × ArePieces track ps
 
@@ -183,7 +187,7 @@ part_frames (Top t) = []
 part_frames (Sized ident size ps) = pieces_frames ps
 part_frames (Unsized ident size ps) = pieces_frames ps
 
-abbrev pub IsPart : ℕ → Part → Type 0
+abbrev pub IsPart : TrackNumbers → Part → Type 0
 IsPart track (Top t) = IsTopLevel t
 IsPart track (Sized ident size ps) =
     SaysIdent ident cluster × SaysSize size (Some (length (pieces_text ps)))
@@ -197,7 +201,7 @@ parts_text ps = flat_map part_text ps
 abbrev pub parts_frames : List Part → List (List ℕ)
 parts_frames ps = flat_map part_frames ps
 
-abbrev pub AreParts : ℕ → List Part → Type 0
+abbrev pub AreParts : TrackNumbers → List Part → Type 0
 AreParts track [] = Unit {0}
 AreParts track (p ∷ ps) = IsPart track p × AreParts track ps
 

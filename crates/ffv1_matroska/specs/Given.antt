@@ -5,10 +5,11 @@ use Rattle.ffv1_reads.specs.Reads.{Short, Stop, Want}
 use Rattle.ffv1_matroska.specs.Files.{frame_read}
 use Rattle.ffv1_matroska.specs.Opened.{Opened, open_read}
 use Rattle.ffv1_matroska.specs.declared.place.Place.{Place}
+use Rattle.ffv1_matroska.specs.declared.track.TrackNumbers.{TrackNumbers}
 
 -- from a position on these frames are given, one by one, up to another place, where these bytes
 -- stand next
-abbrev pub GivesTo : ℕ → Place → List ℕ → List (List ℕ) → Place → List ℕ → Type 0
+abbrev pub GivesTo : TrackNumbers → Place → List ℕ → List (List ℕ) → Place → List ℕ → Type 0
 GivesTo track place text [] after rest = (place ≡ after) × (text ≡ rest)
 GivesTo track place text (f ∷ fs) after rest =
     (next : Place) × (more : List ℕ) × (frame_read track place text ≡ Ok (Some (f, next), more))
@@ -16,14 +17,14 @@ GivesTo track place text (f ∷ fs) after rest =
 
 -- a Cluster of known size that was entered from a position is read to its end: nothing is left of
 -- it, or more of the Segment was read, or there are no more frames
-abbrev pub ReadsToEnd : ℕ → Place → Place → List ℕ → Type 0
+abbrev pub ReadsToEnd : TrackNumbers → Place → Place → List ℕ → Type 0
 ReadsToEnd track place after left =
     ((after.cluster ≡ 0) × (after.group ≡ 0))
     ⊎ ((after.segment < place.segment)
     ⊎ ((more : List ℕ) × (frame_read track after left ≡ Ok (None, more))))
 
 -- from a position on these frames are given, one by one, and then reading stops so
-abbrev pub FramesThen : ℕ → Place → List ℕ → List (List ℕ) → Stop → Type 0
+abbrev pub FramesThen : TrackNumbers → Place → List ℕ → List (List ℕ) → Stop → Type 0
 FramesThen track place text [] why = frame_read track place text ≡ Err why
 FramesThen track place text (f ∷ fs) why =
     (next : Place) × (more : List ℕ) × (frame_read track place text ≡ Ok (Some (f, next), more))
@@ -35,7 +36,7 @@ abbrev pub GivesThen : List ℕ → Head → List (List ℕ) → Stop → Type 0
 GivesThen file head frames why =
     ((open_read file ≡ Err why) × (frames ≡ []))
     ⊎ ((o : Opened) × (rest : List ℕ) × (open_read file ≡ Ok (o, rest)) × (o.track.head ≡ head)
-    × FramesThen o.track.number o.place rest frames why)
+    × FramesThen o.track.numbers o.place rest frames why)
 
 -- of a beginning of a file some of the first frames are given, one by one, and then more bytes are
 -- wanted

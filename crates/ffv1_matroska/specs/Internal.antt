@@ -13,7 +13,7 @@ use Rattle.ffv1_matroska.specs.declared.track.Track.{Track as LentTrack}
 -- a track whose record is lent
 abbrev pub track_lent : LentTrack → Track
 track_lent t = record {
-  number = t.number;
+  numbers = t.numbers;
   head = record {
     width = t.width;
     height = t.height;
@@ -49,7 +49,7 @@ bytes_of (Some size) = size
 -- a track whose record is kept
 abbrev pub track_kept : Numbers → List ℕ → Track
 track_kept n bytes = record {
-  number = n.number;
+  numbers = n.numbers;
   head = record {
     width = n.width;
     height = n.height;

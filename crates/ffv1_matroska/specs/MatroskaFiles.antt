@@ -73,5 +73,5 @@ pub record MatroskaFile (file : List ℕ) (head : Head) (frames : List (List ℕ
   pub first : AreBefore before
   pub tracks_is : IsTracks tracks track
   pub head_is : track.head ≡ head
-  pub parts_are : AreParts track.number parts
+  pub parts_are : AreParts track.numbers parts
   pub frames_are : parts_frames parts ≡ frames

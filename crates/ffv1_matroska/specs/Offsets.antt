@@ -20,6 +20,7 @@ use Rattle.ffv1_matroska.specs.Segments.{cluster, header_read, step_read}
 use Rattle.ffv1_matroska.specs.Tracks.{Track}
 use Rattle.ffv1_matroska.specs.declared.place.Place.{Place}
 use Rattle.ffv1_matroska.specs.declared.place.Step.{Step}
+use Rattle.ffv1_matroska.specs.declared.track.TrackNumbers.{TrackNumbers}
 
 -- a frame after the beginning of its element, where it has one
 abbrev pub frame_taken : Place → Option ℕ → Reading Place
@@ -34,7 +35,7 @@ step_taken place (Some s) = frame_taken s.place s.frame
 -- an element from its first byte on, of a Segment, a Cluster or a BlockGroup: all of it, with its
 -- frame where it is a block of the track; of a Cluster or a BlockGroup the header alone, since
 -- their elements come next. At the end nothing is read
-unfoldable pub element_taken : ℕ → Place → Reading Place
+unfoldable pub element_taken : TrackNumbers → Place → Reading Place
 element_taken track place = step_read track place >>= step_taken place
 
 -- where a reader stands before the frames: before the file, before its Segment, before an element
@@ -111,16 +112,17 @@ OffsetOpened p (Err f) offset =
 -- element begins that could not be read
 abbrev pub OffsetAfter : Standing → Passage → Result Bool FileFault → Standing → Type 0
 OffsetAfter old p (Ok true) new =
-    (count : ℕ) × ReadsWhole (element_taken old.track.number) old.place p.old p.new new.place count
+    (count : ℕ) × ReadsWhole (element_taken old.track.numbers) old.place p.old p.new new.place count
     × (new.offset ≡ offset_after old.offset count)
 OffsetAfter old p (Ok false) new = new.offset ≡ old.offset
 OffsetAfter old p (Err f) new =
     (to : Place) × (count : ℕ)
-    × StopsAfter (element_taken old.track.number) old.place p f to count
+    × StopsAfter (element_taken old.track.numbers) old.place p f to count
     × (new.offset ≡ offset_after old.offset count)
 
 -- the element of the frame that was found begins at a position; or the one does that was refused
-abbrev pub FindsFrom : ℕ → Place → Passage → Result (Option (ℕ × Place)) FileFault → Place → Type 0
+abbrev pub FindsFrom : TrackNumbers → Place → Passage → Result (Option (ℕ × Place)) FileFault →
+    Place → Type 0
 FindsFrom track place p (Ok None) to = ⊤
 FindsFrom track place p (Ok (Some found)) to =
     (between : Option (List ℕ)) × (count : ℕ)
@@ -130,7 +132,8 @@ FindsFrom track place p (Err f) to =
     (count : ℕ) × StopsAfter (element_taken track) place p f to count
 
 -- a frame was read; or its element begins at a position, or another one does, which was refused
-abbrev pub ReadsFrom : ℕ → Place → Passage → Result (Option Place) FileFault → Place → Type 0
+abbrev pub ReadsFrom : TrackNumbers → Place → Passage → Result (Option Place) FileFault → Place →
+    Type 0
 ReadsFrom track place p (Ok None) to = ⊤
 ReadsFrom track place p (Ok (Some after)) to =
     (count : ℕ) × ReadsWhole (element_taken track) place p.old p.new after count

@@ -100,5 +100,5 @@ open_read = ebml_read >>= λ _. (segment_entered >>= segment_opened)
 
 -- a file: its head and its frames
 unfoldable pub file_read : Reading (Head × List (List ℕ))
-file_read = open_read >>= λ o. (frames_read o.track.number o.place >>= λ frames.
+file_read = open_read >>= λ o. (frames_read o.track.numbers o.place >>= λ frames.
     given (o.track.head, frames))

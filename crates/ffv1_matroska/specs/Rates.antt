@@ -47,20 +47,27 @@ abbrev pub frames_in : ℕ → ℕ → Option ℕ
 frames_in period duration =
     if fills period (nearest period duration) duration then Some (nearest period duration) else None
 
+-- the same, but where they fill it exactly: then the duration itself is a rate in lowest terms
+abbrev pub nearly_in : ℕ → ℕ → Option ℕ
+nearly_in period duration =
+    if nearest period duration * duration == period then None else frames_in period duration
+
 -- so many times these frames in so many seconds; or another rate, where there are none
 abbrev pub by_frames : ℕ → ℕ → Option ℕ → Rate → Rate
 by_frames times scale None other = other
 by_frames times scale (Some frames) other = record { rate = times * frames; scale = scale }
 
 -- the rate that a duration of a frame says, in nanoseconds: of whole frames in a second, of
--- thousands in 1001 seconds, of whole frames in two seconds, or else as it stands; none where it is
--- 0
+-- thousands in 1001 seconds, of whole frames in two seconds, of nearly whole frames in 100 or 1000
+-- seconds, or else as it stands; none where it is 0
 unfoldable pub rate_of : ℕ → Rate
 rate_of duration =
     if duration == 0 then unknown
     else by_frames 1 1 (frames_in 1000000000 duration)
     (by_frames 1000 1001 (frames_in 1001000000 duration)
-    (by_frames 1 2 (frames_in 2000000000 duration) (reduced duration)))
+    (by_frames 1 2 (frames_in 2000000000 duration)
+    (by_frames 1 100 (nearly_in 100000000000 duration)
+    (by_frames 1 1000 (nearly_in 1000000000000 duration) (reduced duration)))))
 
 -- how long a frame lasts, in nanoseconds, to the nearest; 0 where the rate is unknown
 abbrev pub duration_of : Rate → ℕ

@@ -8,6 +8,7 @@ use Rattle.ffv1_matroska.specs.Opened.{Opened}
 use Rattle.ffv1_matroska.specs.Places.{ended}
 use Rattle.ffv1_matroska.specs.Tracks.{Track}
 use Rattle.ffv1_matroska.specs.declared.place.Place.{Place}
+use Rattle.ffv1_matroska.specs.declared.track.TrackNumbers.{TrackNumbers}
 
 -- the track that is read, the size of the Segment, where it stands in that, the fault that it has
 -- met, for how many bytes its record has room, and the bytes before where it stands
@@ -34,7 +35,7 @@ next_with bytes (Some place) = Some (bytes, place)
 
 -- what is left where no frame was read to its end: a beginning of the one that was found, or
 -- nothing
-abbrev pub Leaves : ℕ → Place → Option (List ℕ) → List ℕ → Type 0
+abbrev pub Leaves : TrackNumbers → Place → Option (List ℕ) → List ℕ → Type 0
 Leaves track place None bytes = ⊤
 Leaves track place (Some text) bytes =
     (bytes ≡ [])

@@ -14,6 +14,7 @@ use Rattle.ffv1_matroska.specs.Places.{closed, cluster_at, cluster_entered, grou
 use Rattle.ffv1_matroska.specs.Places.{step_to, summed_at}
 use Rattle.ffv1_matroska.specs.declared.place.Place.{Place}
 use Rattle.ffv1_matroska.specs.declared.place.Step.{Step}
+use Rattle.ffv1_matroska.specs.declared.track.TrackNumbers.{TrackNumbers}
 
 -- the IDs of Cluster, and of what holds frames
 abbrev pub cluster : ℕ
@@ -47,15 +48,15 @@ is_of_cluster ident =
     || ident == 22612 || ident == 175
 
 -- an element of a BlockGroup, after its header; its size must be known
-unfoldable pub group_child : ℕ → ℕ → Place → Option ℕ → Reading (Option Step)
+unfoldable pub group_child : TrackNumbers → ℕ → Place → Option ℕ → Reading (Option Step)
 group_child track ident place None = refused fault.BadElement
 group_child track ident place (Some size) =
     if ident == block then block_read track size place else passed_on size place
 
-abbrev pub group_rest : ℕ → Place → Element × Sum → Reading (Option Step)
+abbrev pub group_rest : TrackNumbers → Place → Element × Sum → Reading (Option Step)
 group_rest track place p = group_child track p.0.ident (group_at place p.0.left p.1) p.0.size
 
-unfoldable pub group_read : ℕ → Place → Reading (Option Step)
+unfoldable pub group_read : TrackNumbers → Place → Reading (Option Step)
 group_read track place = element_read place.group place.sum >>= group_rest track place
 
 -- what a Cluster has beside blocks: Timestamp, Position or PrevSize, which is a number and has at
@@ -66,7 +67,7 @@ is_beside ident size =
     else ident == 22612 || ident == 175 || is_filler ident
 
 -- an element of a Cluster, of so many bytes, after its header: any other may not stand there
-unfoldable pub cluster_child : ℕ → ℕ → ℕ → Place → Reading (Option Step)
+unfoldable pub cluster_child : TrackNumbers → ℕ → ℕ → Place → Reading (Option Step)
 cluster_child track ident size place =
     if ident == simple_block then block_read track size place
     else if ident == block_group
@@ -81,24 +82,24 @@ crc_read place = taken 4 >>= λ bytes.
     (summed_at place (Awaits (low_number bytes) turned))
 
 -- the first element of a Cluster may be its CRC-32; where it is another one, there is none
-unfoldable pub first_child : ℕ → ℕ → ℕ → Place → Reading (Option Step)
+unfoldable pub first_child : TrackNumbers → ℕ → ℕ → Place → Reading (Option Step)
 first_child track ident size place =
     if is_crc ident size then crc_read place
     else cluster_child track ident size (summed_at place Absent)
 
-abbrev pub child_by : ℕ → ℕ → ℕ → Place → Sum → Reading (Option Step)
+abbrev pub child_by : TrackNumbers → ℕ → ℕ → Place → Sum → Reading (Option Step)
 child_by track ident size place Begins = first_child track ident size place
 child_by track ident size place Absent = cluster_child track ident size place
 child_by track ident size place (Awaits stated so_far) = cluster_child track ident size place
 
-unfoldable pub known_child : ℕ → ℕ → Place → Option ℕ → Reading (Option Step)
+unfoldable pub known_child : TrackNumbers → ℕ → Place → Option ℕ → Reading (Option Step)
 known_child track ident place None = refused fault.BadElement
 known_child track ident place (Some size) = child_by track ident size place place.sum
 
-abbrev pub cluster_rest : ℕ → Place → Element × Sum → Reading (Option Step)
+abbrev pub cluster_rest : TrackNumbers → Place → Element × Sum → Reading (Option Step)
 cluster_rest track place p = known_child track p.0.ident (cluster_at place p.0.left p.1) p.0.size
 
-unfoldable pub cluster_read : ℕ → Place → Reading (Option Step)
+unfoldable pub cluster_read : TrackNumbers → Place → Reading (Option Step)
 cluster_read track place = element_read place.cluster place.sum >>= cluster_rest track place
 
 -- an element of a Segment that holds no frames, after its header: passed, with its CRC-32 judged
@@ -113,7 +114,7 @@ other_read ident size place =
 
 -- the header of a Cluster of unknown size is passed alone: its elements are then read as those of
 -- the Segment. No other element may have an unknown size
-unfoldable pub segment_child : ℕ → ℕ → Place → Option ℕ → Reading (Option Step)
+unfoldable pub segment_child : TrackNumbers → ℕ → Place → Option ℕ → Reading (Option Step)
 segment_child track ident place None =
     if ident == cluster then given (Some (step_to (segment_at place true place.segment)))
     else refused fault.BadElement
@@ -130,16 +131,16 @@ header_read place =
     else if place.endless then first_read place.segment
     else (element_read place.segment Absent >>= λ p. given (Some p.0))
 
-abbrev pub segment_rest : ℕ → Place → Option Element → Reading (Option Step)
+abbrev pub segment_rest : TrackNumbers → Place → Option Element → Reading (Option Step)
 segment_rest track place None = given None
 segment_rest track place (Some e) =
     segment_child track e.ident (segment_at place place.loose e.left) e.size
 
-unfoldable pub segment_read : ℕ → Place → Reading (Option Step)
+unfoldable pub segment_read : TrackNumbers → Place → Reading (Option Step)
 segment_read track place = header_read place >>= segment_rest track place
 
 -- the next step, in the innermost that has bytes left; none at the end of the Segment
-unfoldable pub step_read : ℕ → Place → Reading (Option Step)
+unfoldable pub step_read : TrackNumbers → Place → Reading (Option Step)
 step_read track place =
     if nat_lt 0 place.group then group_read track place
     else if nat_lt 0 place.cluster then cluster_read track place

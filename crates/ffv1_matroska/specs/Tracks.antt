@@ -1,6 +1,6 @@
 -- Tracks (RFC 9559, 5.1.4), in memory: the first entry of FFV1 video.
-use Rattle.std.specs.Prelude.{ℕ, suc, zero, ◌==◌, ◌&&◌, Bool, if◌then◌else◌, min, nat_eq, nat_le}
-use Rattle.std.specs.Prelude.{List, [], length, take, drop, codes, Option, Some, None}
+use Rattle.std.specs.Prelude.{ℕ, suc, zero, ◌+◌, ◌^◌, ◌==◌, ◌&&◌, Bool, if◌then◌else◌, min, nat_eq}
+use Rattle.std.specs.Prelude.{nat_le, List, [], length, take, drop, codes, Option, Some, None}
 use Rattle.std.specs.Prelude.{Result, Ok, Err}
 use lib.Pointwise.{pointwise}
 use Rattle.ffv1_reads.specs.Head.{Head}
@@ -9,6 +9,8 @@ use Rattle.ffv1_reads.specs.declared.fault.FileFault.TheVariants as fault
 use Rattle.ffv1_ebml.specs.Contents.{Found, Part, content_told, first_part, found, number_in}
 use Rattle.ffv1_ebml.specs.Contents.{text_in}
 use Rattle.ffv1_matroska.specs.Rates.{greatest, rate_of}
+use Rattle.ffv1_matroska.specs.Blocks.{is_unknown}
+use Rattle.ffv1_matroska.specs.declared.track.TrackNumbers.{TrackNumbers}
 
 -- the IDs of TrackEntry and of what is looked for in it
 abbrev pub entry : ℕ
@@ -41,9 +43,9 @@ pixel_width = 176
 abbrev pub pixel_height : ℕ
 pixel_height = 186
 
--- a track by the number that its blocks have, with the head that it says
+-- a track by the number that its blocks have, and those of all tracks, with the head that it says
 pub record Track : Type 0 where
-  pub number : ℕ
+  pub numbers : TrackNumbers
   pub head : Head
 
 -- what was found is read on
@@ -106,7 +108,7 @@ track_of content config = found content_encodings content >>? plain
     (number_at pixel_width picture >>? λ width.
     (number_at pixel_height picture >>? λ height.
     Ok (record {
-      number = number;
+      numbers = record { number = number; known = 0 };
       head = record {
         width = min width greatest;
         height = min height greatest;
@@ -140,6 +142,48 @@ unfoldable pub track_up_to : ℕ → List ℕ → Result Track FileFault
 track_up_to zero content = Err fault.NoFfv1
 track_up_to (suc most) content = first_part content >>? part_or_on (track_up_to most)
 
--- the track of the content of Tracks, whose CRC-32 is judged first
+-- the first track of FFV1 video, where the CRC-32 of the content is judged first
+unfoldable pub first_track : List ℕ → Result Track FileFault
+first_track content = content_told content >>? λ _. track_up_to (length content) content
+
+-- the numbers of tracks, with one more
+unfoldable pub with_number : ℕ → ℕ → ℕ
+with_number known number = if is_unknown known number then known + 2 ^ number else known
+
+-- with that of an element of Tracks, where it is an entry
+abbrev pub known_with : ℕ → ℕ → List ℕ → Result ℕ FileFault
+known_with known ident content =
+    if ident == entry
+    then (number_at track_number content >>? λ number. Ok (with_number known number))
+    else Ok known
+
+-- up to the first element that can't be read
+abbrev pub known_on : (ℕ → List ℕ → ℕ) → ℕ → List ℕ → Result ℕ FileFault → ℕ
+known_on on known rest (Ok more) = on more rest
+known_on on known rest (Err f) = known
+
+abbrev pub known_or_on : (ℕ → List ℕ → ℕ) → ℕ → Result (Option Part) FileFault → ℕ
+known_or_on on known (Ok (Some p)) =
+    known_on on known p.rest (known_with known p.ident p.content)
+known_or_on on known (Ok None) = known
+known_or_on on known (Err f) = known
+
+unfoldable pub known_up_to : ℕ → ℕ → List ℕ → ℕ
+known_up_to zero known content = known
+known_up_to (suc most) known content =
+    known_or_on (known_up_to most) known (first_part content)
+
+-- the numbers of the entries of the content of Tracks
+abbrev pub known_in : List ℕ → ℕ
+known_in content = known_up_to (length content) 0 content
+
+abbrev pub track_among : ℕ → Track → Track
+track_among known track =
+    record {
+      numbers = record { number = track.numbers.number; known = known };
+      head = track.head;
+    }
+
+-- the track of the content of Tracks, with the numbers of all
 unfoldable pub track_in : List ℕ → Result Track FileFault
-track_in content = content_told content >>? λ _. track_up_to (length content) content
+track_in content = first_track content >>? λ track. Ok (track_among (known_in content) track)

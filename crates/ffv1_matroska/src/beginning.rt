@@ -129,7 +129,7 @@ fn read_tracks<R: ByteIn, A: Allocator>(
     let track = read_track(content.as_slice())?;
     push_bytes(config, track.config_record);
     Ok(Numbers {
-        number: track.number,
+        numbers: track.numbers,
         width: track.width,
         height: track.height,
         rate: track.rate,

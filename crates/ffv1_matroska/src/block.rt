@@ -8,6 +8,7 @@ ghost use Rattle.ffv1_matroska.specs.Places.{amount};
 ghost use Rattle.ffv1_matroska.specs.declared.place.Step.{Step};
 
 use crate::place::{Place, Step, closed, summed_at};
+use crate::track::{TrackNumbers, is_unknown};
 use ffv1_ebml::{next_data, pass_summed, take_summed};
 use ffv1_reads::FileFault;
 use ffv1_wire::ByteIn;
@@ -71,12 +72,12 @@ fn read_fields<R: ByteIn>(input: &mut R, left: u64, place: Place) -> Result<Opti
 
 /// A block of so many bytes, up to its frame; one of another track is passed.
 ///
-/// `BadElement` and `Truncated` where its track number cannot be read, then as `read_fields` and
-/// `pass_on`.
+/// `BadElement` and `Truncated` where its track number cannot be read, then `BadElement` where no
+/// track has it, of those up to 127; then as `read_fields` and `pass_on`.
 #[tactic(auto, unfolding(crate::specs::Blocks::block_read))]
 pub(crate) fn read_block<R: ByteIn>(
     input: &mut R,
-    track: u64,
+    track: TrackNumbers,
     size: u64,
     place: Place,
 ) -> Result<Option<Step>, FileFault>
@@ -88,7 +89,10 @@ pub(crate) fn read_block<R: ByteIn>(
 {
     let mut sum = place.sum;
     let number = next_data(input, size, &mut sum)?;
-    if number.value != track {
+    if number.value != track.number {
+        if is_unknown(track.known, number.value) {
+            return Err(FileFault::BadElement);
+        }
         return pass_on(input, number.left, summed_at(place, sum));
     }
     read_fields(input, number.left, summed_at(place, sum))

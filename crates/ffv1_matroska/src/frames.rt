@@ -14,6 +14,7 @@ ghost use Rattle.ffv1_matroska.specs.declared.place.Place.{Place};
 
 use crate::place::{Place, is_sound, summed_at};
 use crate::segment::step;
+use crate::track::TrackNumbers;
 use ffv1_ebml::fill_summed;
 use ffv1_reads::FileFault;
 use ffv1_wire::ByteIn;
@@ -23,7 +24,7 @@ use std::alloc::Allocator;
 /// then the place before its element, or before the one that was refused.
 fn find_frame<R: ByteIn>(
     input: &mut R,
-    track: u64,
+    track: TrackNumbers,
     place: Place,
     here: &mut Place,
 ) -> Result<Option<(u64, Place)>, FileFault>
@@ -48,7 +49,7 @@ fn find_frame<R: ByteIn>(
 /// fault `here` is the place before the element that was refused.
 pub(crate) fn read_frame<R: ByteIn, A: Allocator>(
     input: &mut R,
-    track: u64,
+    track: TrackNumbers,
     place: Place,
     here: &mut Place,
     frame: &mut Vec<u8, A>,

@@ -1,5 +1,6 @@
 //! Laws of files: what is read is a file by its elements, and such a file is read.
 
+ghost use Rattle.ffv1_matroska.specs.declared.track.TrackNumbers.{TrackNumbers};
 ghost use Rattle.std.specs.Prelude.{◌≡◌, ◌==◌, ◌⊎◌, ◌<◌, ◌+◌, ◌*◌, ◌^◌, ◌++◌, ℕ, List, Option};
 ghost use Rattle.std.specs.Prelude.{Some, Ok};
 ghost use Rattle.std.specs.Prelude.{true, false};
@@ -14,7 +15,8 @@ ghost use Rattle.ffv1_matroska.specs.Begun.{ClusterBegins, EntryPasses, FieldPas
 ghost use Rattle.ffv1_matroska.specs.Begun.{GroupBegins, HeaderBegins, IsNotWrong, LooseBegins};
 ghost use Rattle.ffv1_matroska.specs.Begun.{Passes, SegmentBegins, TracksBegin, room};
 ghost use Rattle.ffv1_matroska.specs.Elements.{AreTopLevel, SaysIdent, TopLevel, leaves_frames};
-ghost use Rattle.ffv1_ebml.specs.Vints.{number_of};
+ghost use Rattle.ffv1_ebml.specs.Vints.{IsVint, data_of, number_of};
+ghost use Rattle.ffv1_matroska.specs.Blocks.{block_read, is_unknown};
 ghost use Rattle.ffv1_matroska.specs.Elements.{IsListed, IsPiece, Leaf, Single, content_text};
 ghost use Rattle.ffv1_matroska.specs.Elements.{stands_single};
 ghost use Rattle.ffv1_matroska.specs.Elements.{parts_frames, pieces_frames, tops_text};
@@ -25,12 +27,12 @@ ghost use Rattle.ffv1_matroska.specs.Opened.{file_read, open_read};
 ghost use Rattle.ffv1_matroska.specs.Opening.{doc_type};
 ghost use Rattle.ffv1_matroska.specs.Places.{cluster_entered};
 ghost use Rattle.ffv1_matroska.specs.Rates.{IsTimed};
-ghost use Rattle.std.specs.Prelude.{None};
+ghost use Rattle.std.specs.Prelude.{None, ◌≤◌};
 ghost use Rattle.ffv1_reads.specs.Reads.{read_on};
 ghost use Rattle.ffv1_matroska.specs.Files.{frame_read, frames_read, more_frames};
 ghost use Rattle.ffv1_matroska.specs.Places.{ended};
 ghost use Rattle.ffv1_matroska.specs.Segments.{block_group, cluster, cluster_child};
-ghost use Rattle.ffv1_matroska.specs.Tracks.{Track, entry};
+ghost use Rattle.ffv1_matroska.specs.Tracks.{Track, entry, with_number};
 ghost use Rattle.ffv1_matroska.specs.declared.place.Place.{Place};
 
 /// A Cluster has only elements that may stand there: what is read in it, and is no BlockGroup, is a
@@ -38,16 +40,29 @@ ghost use Rattle.ffv1_matroska.specs.declared.place.Place.{Place};
 /// Void or CRC-32; and each of these may stand there. Any other is refused behind its header, and
 /// nothing after that is read.
 pub fn clusters_hold_listed_elements()
-    ensures pieces { (track : ℕ) (leaf : Leaf) → IsPiece track (Single leaf) →
+    ensures pieces { (track : TrackNumbers) (leaf : Leaf) → IsPiece track (Single leaf) →
         IsListed (number_of leaf.ident) (length (content_text leaf.content)) }
     ensures listed { (ident size : ℕ) → IsListed ident size → stands_single ident size ≡ true }
-    ensures refused { (track ident size : ℕ) (place : Place) (rest : List ℕ) →
+    ensures refused { (track : TrackNumbers) (ident size : ℕ) (place : Place) (rest : List ℕ) →
         (ident == block_group) ≡ false → stands_single ident size ≡ false →
         cluster_child track ident size place rest ≡ Err (Met fault.BadElement rest) }
 {}
 
-/// Frame rates that are read back as they were written: 24, 25, 30, 50 and 60 a second, and those
-/// times 1000/1001 of 24, 30 and 60.
+/// A block is of a track that Tracks have: one whose number, up to 127, is that of no entry is
+/// refused behind the number, and nothing after that is read. The number of an entry is known once
+/// it was added.
+pub fn blocks_are_of_known_tracks()
+    ensures refused { (track : TrackNumbers) (size : ℕ) (place : Place) (number rest : List ℕ) →
+        IsVint number → length number ≤ 8 → length number ≤ size →
+        (data_of number ≡ track.number → ⊥) →
+        is_unknown track.known (data_of number) ≡ true →
+        block_read track size place (number ++ rest) ≡ Err (Met fault.BadElement rest) }
+    ensures added { (known number : ℕ) → is_unknown (with_number known number) number ≡ false }
+{}
+
+/// Frame rates that are read back as they were written: 24, 25, 30, 50 and 60 a second, those times
+/// 1000/1001 of 24, 30 and 60, and what some programs say of the last three, 23976 and 24975 in
+/// 1000 seconds, 2997 and 5994 in 100.
 pub fn usual_rates_are_read_back()
     ensures film { IsTimed (record { rate = 24; scale = 1 }) }
     ensures pal { IsTimed (record { rate = 25; scale = 1 }) }
@@ -57,14 +72,20 @@ pub fn usual_rates_are_read_back()
     ensures slow_film { IsTimed (record { rate = 24000; scale = 1001 }) }
     ensures ntsc { IsTimed (record { rate = 30000; scale = 1001 }) }
     ensures fields { IsTimed (record { rate = 60000; scale = 1001 }) }
+    ensures film_said { IsTimed (record { rate = 23976; scale = 1000 }) }
+    ensures pal_said { IsTimed (record { rate = 24975; scale = 1000 }) }
+    ensures ntsc_said { IsTimed (record { rate = 2997; scale = 100 }) }
+    ensures fields_said { IsTimed (record { rate = 5994; scale = 100 }) }
 {}
 
 /// The frames of a track are the next one and those after it; at the end there is none, and nothing
 /// is read.
 pub fn frames_come_in_turn()
-    ensures next { (track : ℕ) (place : Place) (text : List ℕ) → frames_read track place text
+    ensures next { (track : TrackNumbers) (place : Place) (text : List ℕ) →
+        frames_read track place text
         ≡ read_on (frame_read track place text) (more_frames (frames_read track)) }
-    ensures end { (track : ℕ) (text : List ℕ) → frame_read track ended text ≡ Ok (None, text) }
+    ensures end { (track : TrackNumbers) (text : List ℕ) →
+        frame_read track ended text ≡ Ok (None, text) }
 {}
 
 /// A file of a head and frames, by its elements, is read as that head and those frames, and it
@@ -113,13 +134,13 @@ pub fn long_element_is_truncated()
         (Met fault.Truncated rest) }
     ensures group { (file text : List ℕ) (track : Track) (left more : ℕ)
         (ident said rest : List ℕ) (b : ClusterBegins file track left text)
-        (g : GroupBegins text track.number left more ((ident ++ said) ++ rest)) →
+        (g : GroupBegins text track.numbers left more ((ident ++ said) ++ rest)) →
         Passes more ident said → GivesThen file track.head
         ((parts_frames b.segment.parts ++ pieces_frames b.pieces) ++ leaves_frames g.leaves)
         (Met fault.Truncated rest) }
     ensures loose_group { (file text : List ℕ) (track : Track) (left more : ℕ)
         (ident said rest : List ℕ) (b : LooseBegins file track left text)
-        (g : GroupBegins text track.number left more ((ident ++ said) ++ rest)) →
+        (g : GroupBegins text track.numbers left more ((ident ++ said) ++ rest)) →
         Passes more ident said → GivesThen file track.head
         ((parts_frames b.segment.parts ++ pieces_frames b.pieces) ++ leaves_frames g.leaves)
         (Met fault.Truncated rest) }
@@ -140,13 +161,14 @@ pub fn long_element_is_truncated()
 /// that is stated. So bytes after its CRC-32 that were changed only within 32 neighbouring bits,
 /// each byte's low bit first, are never read to its end.
 pub fn read_cluster_has_its_stated_sum()
-    ensures sum { (track : ℕ) (place after : Place) (ident size stated content rest left : List ℕ)
+    ensures sum { (track : TrackNumbers) (place after : Place)
+        (ident size stated content rest left : List ℕ)
         (frames : List (List ℕ)) → SaysIdent ident crc_ident → SaysSize size (Some 4) →
         length stated ≡ 4 → GivesTo track
         (cluster_entered place (length ((ident ++ size) ++ (stated ++ content))))
         (((ident ++ size) ++ (stated ++ content)) ++ rest) frames after left →
         ReadsToEnd track place after left → low_number stated ≡ crc_of content }
-    ensures damage { (track : ℕ) (place after : Place)
+    ensures damage { (track : TrackNumbers) (place after : Place)
         (ident size stated content changed rest left : List ℕ) (frames : List (List ℕ))
         (bits at : ℕ) → SaysIdent ident crc_ident → SaysSize size (Some 4) → length stated ≡ 4 →
         low_number stated ≡ crc_of content → All (λ b. b < 256) content →

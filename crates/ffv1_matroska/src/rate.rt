@@ -1,9 +1,9 @@
 //! Frame rates and how long a frame lasts.
 
-ghost use Rattle.std.specs.Prelude.{◌≡◌, ◌<◌, ◌≤◌, ◌^◌, IfSome};
+ghost use Rattle.std.specs.Prelude.{◌≡◌, ◌<◌, ◌≤◌, ◌+◌, ◌*◌, ◌^◌, IfSome};
 ghost use Rattle.ffv1_matroska.specs.Internal.{rate_with};
 ghost use Rattle.ffv1_matroska.specs.Rates.{common_up_to, duration_of, frames_in, nearest, rate_of};
-ghost use Rattle.ffv1_matroska.specs.Rates.{reduced};
+ghost use Rattle.ffv1_matroska.specs.Rates.{nearly_in, reduced};
 
 /// A second, in nanoseconds.
 const SECOND: u64 = 1_000_000_000;
@@ -42,9 +42,10 @@ fn common(a: u64, b: u64) -> u64
 /// How many frames of this duration fill a period, up to less than a nanosecond a frame.
 fn frames_in(period: u64, duration: u64) -> Option<u64>
     requires some { 0 < duration }
-    requires short { period < 2 ^ 31 }
+    requires short { period < 2 ^ 41 }
     ensures value { result ≡ frames_in period duration }
     ensures most { IfSome result (λ frames. frames ≤ period) }
+    ensures fills { IfSome result (λ frames. frames * duration < period + frames) }
 {
     let frames = nearest(period, duration);
     let whole = frames * duration;
@@ -52,6 +53,19 @@ fn frames_in(period: u64, duration: u64) -> Option<u64>
         return Some(frames);
     }
     None
+}
+
+/// The same, but for frames that fill it exactly.
+fn nearly_in(period: u64, duration: u64) -> Option<u64>
+    requires some { 0 < duration }
+    requires short { period < 2 ^ 41 }
+    ensures value { result ≡ nearly_in period duration }
+{
+    let frames = frames_in(period, duration)?;
+    if frames * duration == period {
+        return None;
+    }
+    Some(frames)
 }
 
 /// Frames a second in lowest terms, of a frame of so many nanoseconds.
@@ -71,9 +85,9 @@ fn reduced(duration: u64) -> (u32, u32)
 /// 5.1.4.1.13), as a rate and its scale: frames a second are `rate / scale`.
 ///
 /// It is the first of these that the frames fill up to less than a nanosecond a frame: whole frames
-/// a second, thousands of them in 1001 seconds, whole frames in two seconds; else 1000000000 and
-/// the duration in lowest terms. Both are 0 where the duration is 0 or the scale would pass
-/// 4294967295.
+/// a second, thousands of them in 1001 seconds, whole frames in two seconds, whole frames in 100
+/// and in 1000 seconds if they do not fill these exactly; else 1000000000 and the duration in
+/// lowest terms. Both are 0 where the duration is 0 or the scale would pass 4294967295.
 #[tactic(auto, unfolding(crate::specs::Rates::rate_of))]
 pub fn rate_of(duration: u64) -> (u32, u32)
     ensures { rate_with result ≡ rate_of duration }
@@ -89,6 +103,12 @@ pub fn rate_of(duration: u64) -> (u32, u32)
     }
     if let Some(frames) = frames_in(2_000_000_000, duration) {
         return (frames as u32, 2);
+    }
+    if let Some(frames) = nearly_in(100_000_000_000, duration) {
+        return (frames as u32, 100);
+    }
+    if let Some(frames) = nearly_in(1_000_000_000_000, duration) {
+        return (frames as u32, 1000);
     }
     reduced(duration)
 }

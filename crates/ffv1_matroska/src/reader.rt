@@ -21,6 +21,7 @@ ghost use Rattle.ffv1_matroska.specs.Readers.{opened_at};
 use crate::beginning::read_opening;
 use crate::frames::read_frame;
 use crate::place::{Place, ended, passed};
+use crate::track::TrackNumbers;
 use ffv1_reads::{FileFault, FileHead};
 use ffv1_wire::ByteIn;
 use std::alloc::{Allocator, Global};
@@ -33,7 +34,7 @@ use std::marker::Model;
 #[derive(Drop)]
 pub struct MatroskaReader<A: Allocator = Global> {
     head: FileHead<A>,
-    track: u64,
+    track: TrackNumbers,
     segment: Option<u64>,
     place: Place,
     fault: Option<FileFault>,
@@ -44,7 +45,7 @@ impl<A: Allocator> Model for MatroskaReader<A> {
     ghost Value = { Standing };
 
     ghost view = { λ r. record {
-      track = record { number = r.track; head = head_of r.head };
+      track = record { numbers = r.track; head = head_of r.head };
       segment = r.segment;
       place = r.place;
       fault = r.fault;
@@ -134,7 +135,7 @@ impl<A: Allocator + Copy> MatroskaReader<A> {
                 scale: numbers.scale,
                 config_record,
             },
-            track: numbers.number,
+            track: numbers.numbers,
             segment,
             place,
             fault: None,
@@ -175,11 +176,12 @@ impl<A: Allocator> MatroskaReader<A> {
     /// The input has to be the one that the reader was opened on. `Truncated` where an element or
     /// what stands before a frame does not fit in what it stands in, or the input ends inside it;
     /// `BadElement` where an ID has more than 4 bytes, a size or a track number more than 8, a size
-    /// is unknown other than that of a Cluster, or an element may not stand in a Segment or in a
-    /// Cluster, where Timestamp, Position and PrevSize have at most 8 bytes; `Laced` for a block
-    /// with lacing; `ChunkTooLong` for a frame above 67108864 bytes, of which no byte
-    /// is read, `EmptyFrame` for one of none; `Checksum` where a CRC-32 is not the sum, which is
-    /// known at the end of the element: of a Cluster, before the frame is given that ends it;
+    /// is unknown other than that of a Cluster, an element may not stand in a Segment or in a
+    /// Cluster, where Timestamp, Position and PrevSize have at most 8 bytes, or, behind its number,
+    /// a block has a number up to 127 that no track has; `Laced` for a block with lacing;
+    /// `ChunkTooLong` for a frame above 67108864 bytes, of which no byte is read, `EmptyFrame` for
+    /// one of none; `Checksum` where a CRC-32 is not the sum, which is known at the
+    /// end of the element: of a Cluster, before the frame is given that ends it;
     /// `Read` where a read failed, `OutOfMemory`. After a fault the vector holds a beginning of the
     /// frame, and each further call answers the fault again, empties the vector and reads nothing.
     /// The vector has room as `ffv1_reads::fill` says.
@@ -190,7 +192,7 @@ impl<A: Allocator> MatroskaReader<A> {
     ) -> Result<bool, FileFault>
         ensures answer { self.old.fault ≡ None → AnswersOrEnds
             (λ (more : Bool). next_of more frame.new.items self.new.place)
-            (frame_read self.old.track.number self.old.place)
+            (frame_read self.old.track.numbers self.old.place)
             (passage R.remaining R.failures input.old input.new) result }
         ensures stands { StandsAfter self.old result self.new }
         ensures sized { IfOk result (λ more. more ≡ true → (0 < length frame.new.items)
@@ -200,7 +202,7 @@ impl<A: Allocator> MatroskaReader<A> {
         ensures less { IfOk result
             (λ more. more ≡ true → amount self.new.place < amount self.old.place) }
         ensures own { self.old.fault ≡ None → IfErr result (λ f. is_frame_fault f ≡ true) }
-        ensures err { OnErr result (Leaves self.old.track.number self.old.place
+        ensures err { OnErr result (Leaves self.old.track.numbers self.old.place
             (R.remaining input.old) frame.new.items) }
         ensures room { HasRoom (vec_capacity frame.old) (vec_capacity frame.new)
             (length frame.new.items) result }

@@ -20,6 +20,7 @@ use crate::block::{pass_on, read_block};
 use crate::place::{
     Place, Step, closed, cluster_at, cluster_entered, group_at, segment_at, summed_at,
 };
+use crate::track::TrackNumbers;
 use ffv1_ebml::{Element, Sum, first_element, next_element, pass_content};
 use ffv1_reads::{FileFault, take};
 use ffv1_wire::ByteIn;
@@ -95,7 +96,7 @@ fn is_loose(place: Place, ident: u32) -> bool
 #[tactic(auto, unfolding(crate::specs::Segments::group_child))]
 fn group_child<R: ByteIn>(
     input: &mut R,
-    track: u64,
+    track: TrackNumbers,
     element: Element,
     place: Place,
 ) -> Result<Option<Step>, FileFault>
@@ -117,7 +118,11 @@ fn group_child<R: ByteIn>(
 
 /// The next element of a BlockGroup that has bytes left.
 #[tactic(auto, unfolding(crate::specs::Segments::group_read))]
-fn read_group<R: ByteIn>(input: &mut R, track: u64, place: Place) -> Result<Option<Step>, FileFault>
+fn read_group<R: ByteIn>(
+    input: &mut R,
+    track: TrackNumbers,
+    place: Place,
+) -> Result<Option<Step>, FileFault>
     requires { 0 < place.group }
     ensures answer { Answers (λ (s : Option Step). s) (group_read track place)
         (passage R.remaining R.failures input.old input.new) result }
@@ -135,7 +140,7 @@ fn read_group<R: ByteIn>(input: &mut R, track: u64, place: Place) -> Result<Opti
 #[tactic(auto, unfolding(crate::specs::Segments::cluster_child))]
 fn cluster_child<R: ByteIn>(
     input: &mut R,
-    track: u64,
+    track: TrackNumbers,
     element: (u32, u64),
     place: Place,
 ) -> Result<Option<Step>, FileFault>
@@ -183,7 +188,7 @@ fn read_crc<R: ByteIn>(input: &mut R, place: Place) -> Result<Option<Step>, File
 #[tactic(auto, unfolding(crate::specs::Segments::first_child))]
 fn first_child<R: ByteIn>(
     input: &mut R,
-    track: u64,
+    track: TrackNumbers,
     element: (u32, u64),
     place: Place,
 ) -> Result<Option<Step>, FileFault>
@@ -206,7 +211,7 @@ fn first_child<R: ByteIn>(
 #[tactic(auto, unfolding(crate::specs::Segments::known_child))]
 fn known_child<R: ByteIn>(
     input: &mut R,
-    track: u64,
+    track: TrackNumbers,
     element: Element,
     place: Place,
 ) -> Result<Option<Step>, FileFault>
@@ -232,7 +237,7 @@ fn known_child<R: ByteIn>(
 #[tactic(auto, unfolding(crate::specs::Segments::cluster_read))]
 fn read_cluster<R: ByteIn>(
     input: &mut R,
-    track: u64,
+    track: TrackNumbers,
     place: Place,
 ) -> Result<Option<Step>, FileFault>
     requires some { 0 < place.cluster }
@@ -283,7 +288,7 @@ pub(crate) fn pass_other<R: ByteIn>(
 #[tactic(auto, unfolding(crate::specs::Segments::segment_child))]
 fn sized_child<R: ByteIn>(
     input: &mut R,
-    track: u64,
+    track: TrackNumbers,
     element: (u32, u64),
     place: Place,
 ) -> Result<Option<Step>, FileFault>
@@ -316,7 +321,7 @@ fn sized_child<R: ByteIn>(
 #[tactic(auto, unfolding(crate::specs::Segments::segment_child))]
 fn segment_child<R: ByteIn>(
     input: &mut R,
-    track: u64,
+    track: TrackNumbers,
     element: Element,
     place: Place,
 ) -> Result<Option<Step>, FileFault>
@@ -370,7 +375,7 @@ pub(crate) fn next_header<R: ByteIn>(
 #[tactic(auto, unfolding(crate::specs::Segments::segment_read))]
 fn read_segment<R: ByteIn>(
     input: &mut R,
-    track: u64,
+    track: TrackNumbers,
     place: Place,
 ) -> Result<Option<Step>, FileFault>
     ensures answer { AnswersOrNone (λ (s : Option Step). s) (segment_read track place)
@@ -390,7 +395,7 @@ fn read_segment<R: ByteIn>(
 #[tactic(auto, unfolding(crate::specs::Segments::step_read))]
 pub(crate) fn step<R: ByteIn>(
     input: &mut R,
-    track: u64,
+    track: TrackNumbers,
     place: Place,
 ) -> Result<Option<Step>, FileFault>
     ensures answer { AnswersOrNone (λ (s : Option Step). s) (step_read track place)

@@ -5,7 +5,9 @@ ghost use Rattle.ffv1_ebml.specs.Children.{slices};
 ghost use Rattle.ffv1_matroska.specs.Internal.{contents, track_found, tracks};
 ghost use Rattle.ffv1_matroska.specs.Rates.{greatest};
 ghost use Rattle.ffv1_matroska.specs.Tracks.{content_at, is_format, number_at, record_in};
-ghost use Rattle.ffv1_matroska.specs.Tracks.{record_of, track_at, track_in, track_of};
+ghost use Rattle.ffv1_matroska.specs.Tracks.{first_track, known_in, known_up_to, known_with};
+ghost use Rattle.ffv1_matroska.specs.Tracks.{record_of, track_at, track_in, track_of, with_number};
+ghost use Rattle.ffv1_matroska.specs.Blocks.{is_unknown};
 
 use crate::rate::rate_of;
 use ffv1_ebml::{Child, find, first_child, judge, number, text};
@@ -31,10 +33,20 @@ const PIXEL_WIDTH: u32 = 0xB0;
 
 const PIXEL_HEIGHT: u32 = 0xBA;
 
+/// The numbers of tracks, by which blocks are told apart.
+#[derive(Clone, Copy)]
+pub(crate) struct TrackNumbers {
+    /// The number of the track that is read.
+    pub(crate) number: u64,
+    /// The numbers of all tracks, of those up to 127: the sum of the powers of two that have them
+    /// as exponents.
+    pub(crate) known: u128,
+}
+
 /// A track of FFV1 video: the number of its blocks, and what its head says.
 #[derive(Clone, Copy)]
 pub(crate) struct Track<'a> {
-    pub(crate) number: u64,
+    pub(crate) numbers: TrackNumbers,
     pub(crate) width: u32,
     pub(crate) height: u32,
     pub(crate) rate: u32,
@@ -45,7 +57,7 @@ pub(crate) struct Track<'a> {
 /// What a track says beside its configuration record.
 #[derive(Clone, Copy)]
 pub(crate) struct Numbers {
-    pub(crate) number: u64,
+    pub(crate) numbers: TrackNumbers,
     pub(crate) width: u32,
     pub(crate) height: u32,
     pub(crate) rate: u32,
@@ -134,7 +146,7 @@ fn track_of<'a>(content: &[u8], config_record: &'a [u8]) -> Result<Track<'a>, Fi
     let width = samples(number_at(video, PIXEL_WIDTH)?);
     let height = samples(number_at(video, PIXEL_HEIGHT)?);
     Ok(Track {
-        number,
+        numbers: TrackNumbers { number, known: 0 },
         width,
         height,
         rate,
@@ -160,7 +172,7 @@ fn track_at<'a>(child: &Child<'a>) -> Result<Option<Track<'a>>, FileFault>
     Ok(Some(track))
 }
 
-/// The track that the content of Tracks says: its first entry of FFV1 video.
+/// The first entry of FFV1 video of the content of Tracks.
 ///
 /// Where its CRC-32 differs, `Checksum`; where no entry is FFV1 video, `NoFfv1`; `Encoded` where
 /// the one that counts has ContentEncodings. `Truncated` and `BadElement` where an element that is
@@ -168,9 +180,9 @@ fn track_at<'a>(child: &Child<'a>) -> Result<Option<Track<'a>>, FileFault>
 /// up to the last of the fields that are looked for, in the order TrackType, CodecID, CodecPrivate,
 /// ContentEncodings, TrackNumber, DefaultDuration, Video, and in that PixelWidth and PixelHeight. A
 /// field is looked for only while the entry may be one of FFV1 video.
-#[tactic(auto, unfolding(crate::specs::Tracks::track_in))]
-pub(crate) fn read_track(content: &[u8]) -> Result<Track<'_>, FileFault>
-    ensures value { tracks result ≡ track_in content.now }
+#[tactic(auto, unfolding(crate::specs::Tracks::first_track))]
+fn first_track(content: &[u8]) -> Result<Track<'_>, FileFault>
+    ensures value { tracks result ≡ first_track content.now }
     ensures short { IfOk result (λ t. length t.config_record.now ≤ length content.now) }
 {
     judge(content)?;
@@ -182,4 +194,77 @@ pub(crate) fn read_track(content: &[u8]) -> Result<Track<'_>, FileFault>
         rest = child.rest;
     }
     Err(FileFault::NoFfv1)
+}
+
+/// Whether no track has this number, of those up to 127.
+#[tactic(auto, unfolding(crate::specs::Blocks::is_unknown))]
+pub(crate) fn is_unknown(known: u128, number: u64) -> bool
+    ensures { result ≡ is_unknown known number }
+{
+    number <= 127 && (known >> number) % 2 == 0
+}
+
+/// The numbers of tracks, with one more.
+#[tactic(auto, unfolding(crate::specs::Tracks::with_number))]
+fn with_number(known: u128, number: u64) -> u128
+    ensures { result ≡ with_number known number }
+{
+    if is_unknown(known, number) {
+        known + (1u128 << number)
+    } else {
+        known
+    }
+}
+
+/// The same with the number of an element of Tracks, where it is an entry.
+fn known_with(known: u128, child: &Child<'_>) -> Result<u128, FileFault>
+    ensures { result ≡ known_with known child.now.ident child.now.content.now }
+{
+    if child.ident != TRACK_ENTRY {
+        return Ok(known);
+    }
+    let number = number_at(child.content, TRACK_NUMBER)?;
+    Ok(with_number(known, number))
+}
+
+/// Adds the numbers of the entries of Tracks, up to the first element that can't be read.
+fn gather(content: &[u8], known: &mut u128) -> Result<(), FileFault>
+    ensures { known.new ≡ known_up_to (length content.now) known.old content.now }
+{
+    let mut rest = content;
+    while let Some(child) = first_child(rest)? {
+        *known = known_with(*known, &child)?;
+        rest = child.rest;
+    }
+    Ok(())
+}
+
+/// The numbers of the entries of Tracks.
+fn known_in(content: &[u8]) -> u128
+    ensures { result ≡ known_in content.now }
+{
+    let mut known = 0;
+    let _ = gather(content, &mut known);
+    known
+}
+
+/// The track that the content of Tracks says, its first entry of FFV1 video, and the numbers of all
+/// entries up to the first element that can't be read. Faults as of `first_track`.
+#[tactic(auto, unfolding(crate::specs::Tracks::track_in))]
+pub(crate) fn read_track(content: &[u8]) -> Result<Track<'_>, FileFault>
+    ensures value { tracks result ≡ track_in content.now }
+    ensures short { IfOk result (λ t. length t.config_record.now ≤ length content.now) }
+{
+    let track = first_track(content)?;
+    Ok(Track {
+        numbers: TrackNumbers {
+            number: track.numbers.number,
+            known: known_in(content),
+        },
+        width: track.width,
+        height: track.height,
+        rate: track.rate,
+        scale: track.scale,
+        config_record: track.config_record,
+    })
 }

@@ -9,17 +9,17 @@ use Rattle.ffv1_avi.proofs.open.read_header.Goals as goal
 
 pub returns-in_err-entry-clause-answer : goal.returns-in_err-entry-clause-answer
 returns-in_err-entry-clause-answer g c = answers_err _ _ _ _ c.from_residual.ensures.1
-    (answers_no_entry _ _ _ _ c.loop-entry.invariant.0 c.in_err-entry.ensures.answer)
+    (answers_no_entry _ _ _ _ _ c.loop-entry.invariant.0 c.in_err-entry.ensures.answer)
 
 pub returns-in_err-found-clause-answer : goal.returns-in_err-found-clause-answer
 returns-in_err-found-clause-answer g c = answers_err _ _ _ _ c.from_residual-in_err-found.ensures.1
-    (answers_entry _ _ _ _ c.loop-entry.invariant.0
+    (answers_entry _ _ _ _ _ c.loop-entry.invariant.0
     (rw c.in-Some.is at c.in_ok-entry.ensures.answer)
     (answers_first _ _ c.in_err-found.ensures.answer))
 
 pub loop-entry-preserved : goal.loop-entry-preserved
 loop-entry-preserved g c = (
-  goes_read _ _ _ _ _ (goes_entry _ _ _ _ _ _ c.in-Some.entry c.loop-entry.invariant.0
+  goes_read _ _ _ _ _ (goes_entry _ _ _ _ _ _ _ c.in-Some.entry c.loop-entry.invariant.0
       (rw c.in-Some.is at c.in_ok-entry.ensures.answer)) c.in_ok-found.ensures.answer,
   room_then c.loop-entry.invariant.1 (room_then
       (room_kept _ c.in_ok-entry.ensures.answer.1) c.in_ok-found.ensures.grown),
@@ -27,12 +27,12 @@ loop-entry-preserved g c = (
 
 pub returns-in_err-pass-clause-answer : goal.returns-in_err-pass-clause-answer
 returns-in_err-pass-clause-answer g c = answers_err _ _ _ _ c.from_residual-in_err-pass.ensures.1
-    (answers_end _ _ _ _ c.loop-entry.invariant.0
+    (answers_end _ _ _ _ _ c.loop-entry.invariant.0
     (rw c.in_default.is at c.in_ok-entry.ensures.answer) (answers_first _ _
     (rw c.from.ensures at c.in_err-pass.ensures)))
 
 pub returns-clause-answer : goal.returns-clause-answer
-returns-clause-answer g c = answers_ok (answers_end _ _ _ _ c.loop-entry.invariant.0
+returns-clause-answer g c = answers_ok (answers_end _ _ _ _ _ c.loop-entry.invariant.0
     (rw c.in_default.is at c.in_ok-entry.ensures.answer) (answers_next _
     (rw c.from.ensures at c.in_ok-pass.ensures) answers_given))
 

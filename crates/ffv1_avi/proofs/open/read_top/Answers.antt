@@ -18,16 +18,16 @@ use Rattle.ffv1_avi.proofs.open.read_top.Goals as goal
 
 pub returns-in_err-entry-clause-answer : goal.returns-in_err-entry-clause-answer
 returns-in_err-entry-clause-answer g c = answers_err _ _ _ _ c.from_residual.ensures.1
-    (answers_no_entry _ _ _ _ c.loop-entry.invariant.0 c.in_err-entry.ensures.answer)
+    (answers_no_entry _ _ _ _ _ c.loop-entry.invariant.0 c.in_err-entry.ensures.answer)
 
 pub returns-in_err-more-clause-answer : goal.returns-in_err-more-clause-answer
 returns-in_err-more-clause-answer g c = answers_err _ _ _ _ c.from_residual-in_err-more.ensures.1
-    (answers_entry _ _ _ _ c.loop-entry.invariant.0
+    (answers_entry _ _ _ _ _ c.loop-entry.invariant.0
     (rw c.in-Some.is at c.in_ok-entry.ensures.answer)
     (answers_first _ _ c.in_err-more.ensures.answer))
 
 pub returns-in-Movi-clause-answer : goal.returns-in-Movi-clause-answer
-returns-in-Movi-clause-answer g c = answers_ok (answers_entry _ _ _ _ c.loop-entry.invariant.0
+returns-in-Movi-clause-answer g c = answers_ok (answers_entry _ _ _ _ _ c.loop-entry.invariant.0
     (rw c.in-Some.is at c.in_ok-entry.ensures.answer) (answers_next _
     (rw c.in-Movi.is at c.in_ok-more.ensures.answer) answers_given))
 
@@ -35,7 +35,7 @@ pub loop-entry-preserved : goal.loop-entry-preserved
 loop-entry-preserved g c =
     let e = c.in-Some.entry in
     let found = headers_with c.loop-entry.found c.loop-entry.config.items in
-    let here = goes_entry _ _ _ _ _ _ e c.loop-entry.invariant.0
+    let here = goes_entry _ _ _ _ _ _ _ e c.loop-entry.invariant.0
     (rw c.in-Some.is at c.in_ok-entry.ensures.answer) in (
       goes_read _ _ _ _ _ here (rw c.in-On.is at c.in_ok-more.ensures.answer),
       room_then c.loop-entry.invariant.1 (room_then (room_kept _ c.in_ok-entry.ensures.answer.1)
@@ -50,7 +50,7 @@ loop-entry-preserved g c =
 
 pub returns-clause-answer : goal.returns-clause-answer
 returns-clause-answer g c = answers_fault fault.NotAvi _
-    (answers_end _ _ _ _ c.loop-entry.invariant.0
+    (answers_end _ _ _ _ _ c.loop-entry.invariant.0
     (rw c.in_default.is at c.in_ok-entry.ensures.answer) (answers_refused _ (inl refl)))
 
 pub returns-in-Movi-clause-grown : goal.returns-in-Movi-clause-grown

@@ -17,23 +17,23 @@ use Rattle.ffv1_avi.proofs.reader.find_in_movi.Goals as goal
 
 pub returns-in_err-entry-clause-answer : goal.returns-in_err-entry-clause-answer
 returns-in_err-entry-clause-answer g c = answers_err _ _ _ _ c.from_residual.ensures.1
-    (answers_no_entry _ _ _ _ c.loop-entry.invariant.0 c.in_err-entry.ensures.answer)
+    (answers_no_entry _ _ _ _ _ c.loop-entry.invariant.0 c.in_err-entry.ensures.answer)
 
 pub returns-in_err-size-clause-answer : goal.returns-in_err-size-clause-answer
 returns-in_err-size-clause-answer g c = answers_err _ _ _ _ c.from_residual-in_err-size.ensures.1
-    (answers_entry _ _ _ _ c.loop-entry.invariant.0
+    (answers_entry _ _ _ _ _ c.loop-entry.invariant.0
     (rw c.in-Some.is at c.in_ok-entry.ensures.answer)
     (answers_first _ _ c.in_err-size.ensures.answer))
 
 pub returns-in-Some-2-clause-answer : goal.returns-in-Some-2-clause-answer
-returns-in-Some-2-clause-answer g c = answers_ok (answers_entry _ _ _ _ c.loop-entry.invariant.0
+returns-in-Some-2-clause-answer g c = answers_ok (answers_entry _ _ _ _ _ c.loop-entry.invariant.0
     (rw c.in-Some.is at c.in_ok-entry.ensures.answer) (answers_next _
     (rw c.in-Some-2.is at c.in_ok-size.ensures.answer) answers_given))
 
 pub loop-entry-preserved : goal.loop-entry-preserved
 loop-entry-preserved g c =
     let e = c.in-Some.entry in
-    let here = goes_entry _ _ _ _ _ _ e c.loop-entry.invariant.0
+    let here = goes_entry _ _ _ _ _ _ _ e c.loop-entry.invariant.0
     (rw c.in-Some.is at c.in_ok-entry.ensures.answer) in
     let inv = c.loop-entry.invariant in
     let now = movi_left c.args.place c.loop-entry.left in
@@ -49,7 +49,7 @@ loop-entry-preserved g c =
     )
 
 pub returns-clause-answer : goal.returns-clause-answer
-returns-clause-answer g c = answers_ok (answers_end _ _ _ _ c.loop-entry.invariant.0
+returns-clause-answer g c = answers_ok (answers_end _ _ _ _ _ c.loop-entry.invariant.0
     (rw c.in_default.is at c.in_ok-entry.ensures.answer) answers_given)
 
 pub loop-entry-init : goal.loop-entry-init
@@ -95,5 +95,5 @@ pub returns-clause-from : goal.returns-clause-from
 returns-clause-from g c =
     let inv = c.loop-entry.invariant in
     let read = (rw c.in_default.is at c.in_ok-entry.ensures.answer).1 in
-    let end = entry_end c.loop-entry.left read in
-    (inv.1.0, rw end at (still c.loop-entry.left inv.1.1 read), inv.1.2)
+    let end = entry_end _ c.loop-entry.left read in
+    (inv.1.0, rw end at (still _ c.loop-entry.left inv.1.1 read), inv.1.2)

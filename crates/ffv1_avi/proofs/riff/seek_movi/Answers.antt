@@ -22,22 +22,22 @@ loop-entry-init g c = (
 
 pub returns-in_err-entry-clause-answer : goal.returns-in_err-entry-clause-answer
 returns-in_err-entry-clause-answer g c = answers_err _ _ _ _ c.from_residual.ensures.1
-    (answers_no_entry _ _ _ _ c.loop-entry.invariant.0 c.in_err-entry.ensures.answer)
+    (answers_no_entry _ _ _ _ _ c.loop-entry.invariant.0 c.in_err-entry.ensures.answer)
 
 pub returns-in_err-movi-clause-answer : goal.returns-in_err-movi-clause-answer
 returns-in_err-movi-clause-answer g c = answers_err _ _ _ _ c.from_residual-in_err-movi.ensures.1
-    (answers_entry _ _ _ _ c.loop-entry.invariant.0
+    (answers_entry _ _ _ _ _ c.loop-entry.invariant.0
     (rw c.in-Some.is at c.in_ok-entry.ensures.answer) (answers_first _ _ c.in_err-movi.ensures))
 
 pub returns-in-Some-2-clause-answer : goal.returns-in-Some-2-clause-answer
-returns-in-Some-2-clause-answer g c = answers_ok (answers_entry _ _ _ _ c.loop-entry.invariant.0
+returns-in-Some-2-clause-answer g c = answers_ok (answers_entry _ _ _ _ _ c.loop-entry.invariant.0
     (rw c.in-Some.is at c.in_ok-entry.ensures.answer) (answers_next _
     (rw c.in-Some-2.is at c.in_ok-movi.ensures) answers_given))
 
 pub loop-entry-preserved : goal.loop-entry-preserved
 loop-entry-preserved g c =
     let e = c.in-Some.entry in
-    let here = goes_entry _ _ _ _ _ _ e c.loop-entry.invariant.0
+    let here = goes_entry _ _ _ _ _ _ _ e c.loop-entry.invariant.0
     (rw c.in-Some.is at c.in_ok-entry.ensures.answer) in
     let header = (rw c.in-Some.is at c.in_ok-entry.ensures.answer).1 in
     let visit = (rw c.in_default-2.is at c.in_ok-movi.ensures).1 in (
@@ -48,7 +48,7 @@ loop-entry-preserved g c =
     )
 
 pub returns-clause-answer : goal.returns-clause-answer
-returns-clause-answer g c = answers_ok (answers_end _ _ _ _ c.loop-entry.invariant.0
+returns-clause-answer g c = answers_ok (answers_end _ _ _ _ _ c.loop-entry.invariant.0
     (rw c.in_default.is at c.in_ok-entry.ensures.answer) answers_given)
 
 pub returns-in_err-entry-clause-from : goal.returns-in_err-entry-clause-from
@@ -83,6 +83,6 @@ returns-in-Some-2-clause-from g c =
 pub returns-clause-from : goal.returns-clause-from
 returns-clause-from g c =
     let read = (rw c.in_default.is at c.in_ok-entry.ensures.answer).1 in
-    let end = entry_end c.loop-entry.left read in
+    let end = entry_end _ c.loop-entry.left read in
     λ more. (let h = c.loop-entry.invariant.1 more in
-    (h.0, rw end at (still c.loop-entry.left h.1 read), h.2))
+    (h.0, rw end at (still _ c.loop-entry.left h.1 read), h.2))

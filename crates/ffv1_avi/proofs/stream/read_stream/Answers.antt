@@ -12,24 +12,24 @@ use Rattle.ffv1_avi.proofs.stream.read_stream.Goals as goal
 
 pub returns-in_err-entry-clause-answer : goal.returns-in_err-entry-clause-answer
 returns-in_err-entry-clause-answer g c = answers_err _ _ _ _ c.from_residual.ensures.1
-    (answers_no_entry _ _ _ _ c.loop-entry.invariant.0 c.in_err-entry.ensures.answer)
+    (answers_no_entry _ _ _ _ _ c.loop-entry.invariant.0 c.in_err-entry.ensures.answer)
 
 pub returns-in_err-fields-clause-answer : goal.returns-in_err-fields-clause-answer
 returns-in_err-fields-clause-answer g c = answers_err _ _ _ _
-    c.from_residual-in_err-fields.ensures.1 (answers_entry _ _ _ _ c.loop-entry.invariant.0
+    c.from_residual-in_err-fields.ensures.1 (answers_entry _ _ _ _ _ c.loop-entry.invariant.0
     (rw c.in-Some.is at c.in_ok-entry.ensures.answer)
     (answers_first _ _ c.in_err-fields.ensures.answer))
 
 pub loop-entry-preserved : goal.loop-entry-preserved
 loop-entry-preserved g c = (
-  goes_read _ _ _ _ _ (goes_entry _ _ _ _ _ _ c.in-Some.entry c.loop-entry.invariant.0
+  goes_read _ _ _ _ _ (goes_entry _ _ _ _ _ _ _ c.in-Some.entry c.loop-entry.invariant.0
       (rw c.in-Some.is at c.in_ok-entry.ensures.answer)) c.in_ok-fields.ensures.answer,
   room_then c.loop-entry.invariant.1 (room_then
       (room_kept _ c.in_ok-entry.ensures.answer.1) c.in_ok-fields.ensures.grown),
 )
 
 pub returns-clause-answer : goal.returns-clause-answer
-returns-clause-answer g c = answers_of _ _ _ _ (answers_end _ _ _ _ c.loop-entry.invariant.0
+returns-clause-answer g c = answers_of _ _ _ _ (answers_end _ _ _ _ _ c.loop-entry.invariant.0
     (rw c.in_default.is at c.in_ok-entry.ensures.answer) (answers_tail _ _ _ _
     (c.judged.ensures c.loop-entry.config.items _ _)))
 

@@ -1,5 +1,5 @@
--- Frame rates that are read back as they were written: 24, 25, 30, 50 and 60 a second, and those
--- times 1000/1001 of 24, 30 and 60.
+-- Frame rates that are read back as they were written: whole ones, those times 1000/1001, and those
+-- that are said in hundredths and thousandths.
 use Rattle.std.proofs.Common.{refl}
 use Rattle.ffv1_matroska.specs.Rates.{rate_of}
 use Rattle.ffv1_matroska.proofs.laws.usual_rates_are_read_back.Goals as goal
@@ -35,3 +35,19 @@ returns-clause-ntsc c = refl
 pub returns-clause-fields : goal.returns-clause-fields
 unfolding rate_of
 returns-clause-fields c = refl
+
+pub returns-clause-film_said : goal.returns-clause-film_said
+unfolding rate_of
+returns-clause-film_said c = refl
+
+pub returns-clause-pal_said : goal.returns-clause-pal_said
+unfolding rate_of
+returns-clause-pal_said c = refl
+
+pub returns-clause-ntsc_said : goal.returns-clause-ntsc_said
+unfolding rate_of
+returns-clause-ntsc_said c = refl
+
+pub returns-clause-fields_said : goal.returns-clause-fields_said
+unfolding rate_of
+returns-clause-fields_said c = refl

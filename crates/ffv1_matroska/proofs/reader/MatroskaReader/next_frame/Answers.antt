@@ -28,7 +28,7 @@ returns-then-self-eq0-3-clause-answer g c =
         bytes = [];
         consumed = consumes_none
             (g.R.ByteIn.remaining c.args.input.now);
-        is = frame_ends c.args.self.now.track.number place
+        is = frame_ends c.args.self.now.track.numbers place
             segment cluster group;
       }),
     )

@@ -7,7 +7,7 @@ use Rattle.ffv1_matroska.specs.Internal.{track_lent}
 use Rattle.ffv1_matroska.specs.Tracks.{track_at}
 use Rattle.ffv1_matroska.proofs.TrackWalks.{judged, track_bad, track_cut, track_here, track_next}
 use Rattle.ffv1_matroska.proofs.TrackWalks.{track_none}
-use Rattle.ffv1_matroska.proofs.track.read_track.Goals as goal
+use Rattle.ffv1_matroska.proofs.track.first_track.Goals as goal
 
 pub loop-child-init : goal.loop-child-init
 loop-child-init c = (length c.args.content.now, omega arith, omega arith, refl)

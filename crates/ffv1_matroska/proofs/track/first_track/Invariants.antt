@@ -1,6 +1,6 @@
 use Rattle.std.proofs.Common.{◌≡◌, ℕ, ◌≤◌, length}
 use Rattle.ffv1_matroska.specs.Tracks.{track_up_to}
-use Rattle.ffv1_matroska.proofs.track.read_track.Given as goal
+use Rattle.ffv1_matroska.proofs.track.first_track.Given as goal
 
 abbrev pub invariant-loop-child : goal.invariant-loop-child
 invariant-loop-child l =
