@@ -10,6 +10,7 @@ import re
 import struct
 
 import movi
+from chunks import chunks, get_chunk, marked, padded
 from ffv1 import Fault
 
 LIMIT = 64 << 20            # own: the most bytes of a frame, and of a format, that are read
@@ -296,10 +297,6 @@ def chunk_list(own, data):
     return chunk(b"LIST", own + data)
 
 
-def padded(size):
-    return size + size % 2
-
-
 def riff_size(record_length, lengths):
     """The size of RIFF, of a record and frames of so many bytes."""
     return 172 + padded(40 + record_length) + 4 + sum(8 + padded(length) for length in lengths)
@@ -319,38 +316,6 @@ def write_avi(head, frames):
     strl = chunk_list(b"strl", chunk(b"strh", strh) + chunk(b"strf", strf + head.record))
     movi = chunk_list(b"movi", b"".join(chunk(b"00dc", frame) for frame in frames))
     return chunk(b"RIFF", b"AVI " + chunk_list(b"hdrl", chunk(b"avih", avih) + strl) + movi)
-
-
-def marked(source, left):
-    """The chunks of RIFF or movi: where each begins is marked, and where the next one would."""
-    inner = chunks(source, left)
-    while True:
-        source.mark()
-        entry = next(inner, None)
-        if entry is None:
-            return
-        yield entry
-
-
-def chunks(source, left):
-    """The name and the size of each chunk of a list with so many bytes left, in turn; who asks for
-    the next has passed this one, with its padding. Own: a list has room for its own name."""
-    while left:
-        if left < 8:
-            raise Fault(52)
-        header = source.exactly(8, 52)
-        name, size = header[:4], struct.unpack("<I", header[4:])[0]
-        if left < 8 + padded(size):
-            raise Fault(52)
-        if name == b"LIST" and size < 4:
-            raise Fault(50)
-        left -= 8 + padded(size)
-        yield name, size
-
-
-def get_chunk(source, size):
-    """The bytes of a chunk, with which its padding is read."""
-    return source.exactly(padded(size), 52)[:size]
 
 
 def get_stream(source, left, wide):
@@ -412,6 +377,9 @@ class Opening:
     def stands(self, name):
         return movi.stands(name, self.number, self.all, self.wide)
 
+    def bars(self, name):
+        return self.wide and name != b"LIST" and not self.stands(name)
+
     def header(self, source, left):
         """The chunks of a list hdrl."""
         for name, size in chunks(source, left):
@@ -449,7 +417,7 @@ def open_avi(source, wide):
 
 def movi_frames(source, left, opening):
     """The frames of a movi, in turn."""
-    for name, size in marked(source, left):
+    for name, size in marked(source, left, opening.bars):
         if not opening.stands(name):
             raise Fault(50)
         if not opening.is_frame(name):

@@ -29,24 +29,27 @@ MOST = 2 ** 32 - 1
 
 class Head:
     """What Tracks say of the frames: their track, the size of the pictures, rate and scale, of
-    which rate / scale is the pictures a second, and the configuration record."""
+    which rate / scale is the pictures a second, and the configuration record; and the numbers of
+    all tracks."""
 
-    def __init__(self, number, width, height, rate, scale, record):
+    def __init__(self, number, width, height, rate, scale, record, known=()):
         self.number, self.width, self.height = number, width, height
-        self.rate, self.scale, self.record = rate, scale, record
+        self.rate, self.scale, self.record, self.known = rate, scale, record, known
 
 
 # -------------------------------------------------------------------------------------------- rates
 
 def rate_of(duration):
     """Own: the rate and the scale of frames of so many nanoseconds: of the rates n, 1000 n / 1001
-    and n / 2, the first whose duration they are nearly; else the fraction itself. Both are 0 where
-    there is no duration, or the scale passes four bytes."""
+    and n / 2, and n / 100 and n / 1000 whose duration is not whole, the first whose duration they
+    are nearly; else the fraction itself. Both are 0 where there is no duration, or the scale passes
+    four bytes."""
     if duration == 0:
         return 0, 0
-    for whole, factor, scale in [(1000000000, 1, 1), (1001000000, 1000, 1001), (2000000000, 1, 2)]:
+    for whole, factor, scale in [(10 ** 9, 1, 1), (1001 * 10 ** 6, 1000, 1001), (2 * 10 ** 9, 1, 2),
+                                 (10 ** 11, 1, 100), (10 ** 12, 1, 1000)]:
         n = (2 * whole + duration) // (2 * duration)
-        if abs(whole - n * duration) < n:
+        if abs(whole - n * duration) < n and (scale not in (100, 1000) or n * duration != whole):
             return n * factor, scale
     common = math.gcd(1000000000, duration)
     rate, scale = 1000000000 // common, duration // common
@@ -74,6 +77,18 @@ def record_in(entry):
     return private[40:] if len(private) >= 40 and private[16:20] == b"FFV1" else None
 
 
+def numbers_in(content):
+    """Own: the numbers of the entries, up to the first element that cannot be read."""
+    found = set()
+    try:
+        for ident, entry in ebml.elements(content):
+            if ident == TRACK_ENTRY:
+                found.add(ebml.find_number(entry, TRACK_NUMBER, 0))
+    except Fault:
+        pass
+    return found
+
+
 def head_in(content):
     """What a content of Tracks says: the first TrackEntry of FFV1 video counts."""
     ebml.judge(content)
@@ -88,7 +103,7 @@ def head_in(content):
         video = ebml.find(entry, VIDEO) or b""
         width, height = (min(ebml.find_number(video, field, 0), MOST)
                          for field in [PIXEL_WIDTH, PIXEL_HEIGHT])
-        return Head(number, width, height, rate, scale, record)
+        return Head(number, width, height, rate, scale, record, numbers_in(content))
     raise Fault(51)
 
 
@@ -97,6 +112,7 @@ def head_in(content):
 JUDGED = {SEEK_HEAD, INFO, TRACKS, CUES, ATTACHMENTS, CHAPTERS, TAGS}
 PASSED = {VOID, CRC_32}
 OF_CLUSTER = {TIMESTAMP, POSITION, PREV_SIZE, SILENT_TRACKS, ENCRYPTED_BLOCK}
+MOST_KNOWN = 127                # own: the greatest number of which it is known whether a track has it
 
 
 class Segment:
@@ -108,6 +124,7 @@ class Segment:
         self.source, self.is_open = source, size is None
         self.left = OPEN if size is None else size
         self.cluster, self.group, self.begins, self.loose = 0, 0, False, False
+        self.known = ()
 
     def header(self):
         """The ID and the size of the next element of the Segment, or none at its end; an open one
@@ -153,7 +170,7 @@ class Segment:
         than 8 bytes."""
         begins, self.begins = self.begins, False
         if ident == SIMPLE_BLOCK:
-            return block(self.source, size, number)
+            return self.block(size, number)
         if ident == BLOCK_GROUP:
             self.group = size
         elif begins and ident == CRC_32 and size == 4:
@@ -169,9 +186,31 @@ class Segment:
     def in_group(self, ident, size, number):
         """An element of a BlockGroup."""
         if ident == BLOCK:
-            return block(self.source, size, number)
+            return self.block(size, number)
         self.source.skip(size, 52)
         return None
+
+    def block(self, size, number):
+        """9559, 10.1: the frame of a block of so many bytes, or none where it is of another track.
+        Own: that is a track of the file, no lacing, and a frame has from 1 to 67108864 bytes; all
+        that before it is read."""
+        track = ebml.vint(self.source, 8, size)
+        said, left = ebml.data_of(track), size - len(track)
+        if said != number:
+            if said <= MOST_KNOWN and said not in self.known:
+                raise Fault(81)
+            self.source.skip(left, 52)
+            return None
+        if left < 3:
+            raise Fault(52)
+        flags, left = self.source.exactly(3, 52)[2], left - 3
+        if flags & 6:
+            raise Fault(84)
+        if left > LIMIT:
+            raise Fault(53)
+        if left == 0:
+            raise Fault(54)
+        return self.source.exactly(left, 52)
 
     def walk(self, number):
         """The frame of the next element, if it has one. As soon as a Cluster has nothing left, its
@@ -203,26 +242,6 @@ class Segment:
                 yield frame
 
 
-def block(source, size, number):
-    """9559, 10.1: the frame of a block of so many bytes, or none where it is of another track. Own:
-    no lacing, and a frame has from 1 to 67108864 bytes; all that before it is read."""
-    track = ebml.vint(source, 8, size)
-    left = size - len(track)
-    if ebml.data_of(track) != number:
-        source.skip(left, 52)
-        return None
-    if left < 3:
-        raise Fault(52)
-    flags, left = source.exactly(3, 52)[2], left - 3
-    if flags & 6:
-        raise Fault(84)
-    if left > LIMIT:
-        raise Fault(53)
-    if left == 0:
-        raise Fault(54)
-    return source.exactly(left, 52)
-
-
 def open_matroska(source):
     """What the first Tracks of a file say; the size of its Segment, none where it is open; and its
     frames in turn. Own: Tracks stand before the first Cluster."""
@@ -241,6 +260,7 @@ def open_matroska(source):
         raise Fault(82)
     if header is None:
         return head, size, iter(())
+    segment.known = head.known
     segment.enter(header[1])
     return head, size, segment.frames(head.number)
 

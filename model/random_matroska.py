@@ -118,14 +118,14 @@ class Maker:
         return self.one_of(FRAME, self.numbers.randbytes(self.numbers.randrange(1, 40)))
 
     def tracks(self):
-        """The element Tracks, with sound before or after it, and what it says."""
+        """The element Tracks, with the track and sound before or after it, and what it says."""
         record, width, height = self.video()
         duration, rate, scale = self.one_of((0, 0, 0), (40000000, 25, 1), (41666666, 24, 1),
                                             (33366667, 30000, 1001), (240000000, 25, 6))
         sound = self.sized("AE", self.number("D7", self.track + 1) + self.number("83", 2)
                            + self.sized("86", b"A_PCM/INT/LIT"))
         entry = self.entry(record, width, height, duration)
-        content = self.one_of(entry, sound + entry, self.void() + entry + sound)
+        content = self.one_of(entry + sound, sound + entry, self.void() + entry + sound)
         return self.sized("1654AE6B", self.judged(content)), \
             (self.track, width, height, rate, scale, record)
 

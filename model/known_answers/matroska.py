@@ -50,11 +50,17 @@ H = spell("1A45DFA3 A3 428681 01 42F781 01 42F281 04 42F381 08 428288", b"matros
 T = spell("1654AE6B 0100000000000043 AE 010000000000003A D78101 838101 8686", b"V_FFV1",
           "E086 B08101 BA8101 63A2 010000000000001A", RECORD)
 C = spell("1F43B675 010000000000000E E78100 A389 81000080", FRAME)
+BESIDE = element("1654AE6B", T[12:], element("AE", "D78102 838102"), length=8)     # and sound
 
 
 def whole(*parts):
     """A file of a header, and a Segment of Tracks and these."""
     return H + segment(T, *parts)
+
+
+def beside(*parts, of=segment):
+    """The same of a file whose track 2 is sound."""
+    return H + of(BESIDE, *parts)
 
 
 def opened(*parts):
@@ -363,10 +369,15 @@ BLOCKS = [
     ("a track number of eight bytes in seven", one("01", bytes(6)), 0, 52, 32),
     ("a track number of two bytes", one("4001 0000 80", FRAME), 2, 0, 0),
     ("a track number of eight bytes", one("0100000000000001 0000 80", FRAME), 2, 0, 0),
-    ("another track", one("82 0000 80", FRAME), 1, 0, 0),
-    ("another track with lacing", one("82 0000 06", FRAME), 1, 0, 0),
-    ("another track and no more", one("82"), 1, 0, 0),
-    ("another track, and two bytes", one("82 0000"), 1, 0, 0),
+    ("another track", beside(cluster(element("A3", "82 0000 80", FRAME)), C), 1, 0, 0),
+    ("another track with lacing", beside(cluster(element("A3", "82 0000 06", FRAME)), C), 1, 0, 0),
+    ("another track and no more", beside(cluster(element("A3", "82")), C), 1, 0, 0),
+    ("another track, and two bytes", beside(cluster(element("A3", "82 0000")), C), 1, 0, 0),
+    ("a number that no track has", one("82 0000 80", FRAME), 0, 81, 34),
+    ("a number that no track has, and no more", one("82"), 0, 81, 26),
+    ("the same beside sound", beside(cluster(element("A3", "83 0000 80", FRAME)), C), 0, 81, 34),
+    ("track 127, which is none", one("407F 0000 80", FRAME), 0, 81, 34),
+    ("track 128, which is none", one("4080 0000 80", FRAME), 1, 0, 0),
     ("no time", one("81"), 0, 52, 26),
     ("no flags", one("81 0000"), 0, 52, 28),
     ("flags and no frame", one("81 0000 80"), 0, 54, 26),
@@ -378,12 +389,14 @@ BLOCKS = [
       for flags in ["02", "04", "06", "FB", "FD", "FF"]),
     ("a frame that is too long", long_block(MANY + 5), 0, 53, 6),
     ("the longest frame, cut", long_block(MANY + 4), 0, 52, 0),
-    ("another track that is too long", opened(LOOSE, "A3", size(MANY + 5), "82 0000 80"), 0, 52, 0),
+    ("another track that is too long", beside(
+        LOOSE, "A3", size(MANY + 5), "82 0000 80", of=open_segment), 0, 52, 0),
     ("a long frame with lacing", opened(LOOSE, "A3", size(MANY + 5), "81 0000 82 00"), 0, 84, 1),
     ("a block of a group without a frame", whole(cluster("A086 A184 81000080"), C), 0, 54, 26),
     ("a block of a group with lacing", whole(cluster("A087 A185 81000084 00"), C), 0, 84, 27),
     ("a cut frame", opened(cluster(B))[:-1], 0, 52, 0),
-    ("a cut block of another track", opened(cluster("A389 82000080", FRAME))[:-1], 0, 52, 0),
+    ("a cut block of another track", beside(
+        cluster("A389 82000080", FRAME), of=open_segment)[:-1], 0, 52, 0),
 ]
 
 
@@ -403,7 +416,8 @@ SUMS = [
     ("of elements in a group after its block", judged(element("A0", "A1", B[1:], "9B8101")), 2, 0,
      0),
     ("of nothing", judged(), 1, 0, 0),
-    ("of another track", judged(block("82 0000 80")), 1, 0, 0),
+    ("of another track", beside(cluster(summed(block("82 0000 80"))), C), 1, 0, 0),
+    ("of a number that no track has", judged(block("82 0000 80")), 0, 81, 34),
     ("of a group of no bytes", judged("A080"), 1, 0, 0),
     ("wrong, of a block", judged("E78100", B, crc=1), 0, 85, 26),
     ("wrong, of three blocks", judged(B, B, B, crc=1), 2, 85, 26),
@@ -416,7 +430,8 @@ SUMS = [
         element("A0", "A1", B[1:], "A1", B[1:]), crc=1), 1, 85, 26),
     ("wrong, of a block and a group of no bytes", judged(B, "A080", crc=1), 1, 85, 26),
     ("wrong, of nothing", judged(crc=1), 0, 85, 26),
-    ("wrong, of another track", judged(B, block("82 0000 80"), crc=1), 1, 85, 26),
+    ("wrong, of another track", beside(
+        cluster(summed(B, block("82 0000 80"), crc=1)), C), 1, 85, 26),
     ("wrong, and lacing before", judged(block("81 0000 82"), crc=1), 0, 84, 31),
     ("wrong, and a block that passes before", judged(B, "EC81", crc=1), 1, 52, 26),
     ("wrong, and cut in the last frame", opened(cluster(summed(B, crc=1)))[:-1], 0, 52, 0),

@@ -140,6 +140,14 @@ CLOSED = [
      lines(1), "50 NotAvi"),
     ("an index of chunks in movi", riff(header(), chunk_list(b"movi", GOOD, INDEX)), lines(1),
      "50 NotAvi"),
+    ("a name that may not stand there, of a size that passes movi", riff(header(), chunk_list(
+        b"movi", GOOD, b"00xx" + numbers(2 ** 31))), lines(1), "50 NotAvi"),
+    ("a frame of a size that passes movi", riff(header(), chunk_list(
+        b"movi", GOOD, b"00dc" + numbers(2 ** 31))), lines(1), "52 Truncated"),
+    ("sound of a size that passes movi", riff(streams(SOUND), chunk_list(
+        b"movi", chunk(b"01dc", FRAME), b"00wb" + numbers(2 ** 31))), lines(1), "52 Truncated"),
+    ("a list that passes movi", riff(header(), chunk_list(
+        b"movi", GOOD, b"LIST" + numbers(2 ** 31))), lines(1), "52 Truncated"),
     ("a frame after movi", riff(header(), MOVI, GOOD), lines(1), "50 NotAvi"),
     ("a bitmap after movi", riff(header(), MOVI, BITMAP), lines(1), "50 NotAvi"),
     ("a frame in a further RIFF", FIRST + further(GOOD, MOVI), lines(1), "50 NotAvi"),
