@@ -24,7 +24,6 @@ use Rattle.ffv1_plane.proofs.Folding.{chosen_folded}
 use Rattle.ffv1_line.specs.Cell.{Cell, seen, around, Shows, Above}
 use Rattle.ffv1_line.specs.Internal.Along.{Left}
 use Rattle.ffv1_line.specs.Internal.Parts.{ArePrepared, AreNumbered, part_steps, residual_by, residual_limit}
-use Rattle.ffv1_line.proofs.BlockLanes.{nine_by}
 use Rattle.ffv1_line.specs.Row.{chosen_at, chosen_row, row_steps, sample_steps}
 use Rattle.ffv1_line.specs.Encoded.{Written, MayBeRefusedRow, CountsFirst}
 use Rattle.ffv1_line.specs.Beside.{before, two_before, beside, chosen_beside, place_steps, places_steps}
@@ -148,12 +147,12 @@ counts_nothing coding old new over cur some same kept =
 -- ---- slots
 
 -- a symbol more of a block
-pub listed_next : {A : Type 0} (p : Part A) (n k context residual : ℕ) (xs ys : List ℕ) → p.bits < 10 → ArePrepared p n xs ys → k < n →
-    context ≡ get_or xs k 0 → residual ≡ get_or ys k 0 → (done : List Step) → done ≡ part_steps p k ++ shifted (context * 32) (signed_steps (of_nine_bits residual)) →
+pub listed_next : {A : Type 0} (p : Part A) (n k context residual : ℕ) (xs ys : List ℕ) → residual_by p.bits (get_or ys k 0) ≡ of_nine_bits residual → ArePrepared p n xs ys → k < n →
+    context ≡ get_or xs k 0 → (done : List Step) → done ≡ part_steps p k ++ shifted (context * 32) (signed_steps (of_nine_bits residual)) →
     done ≡ part_steps p (k + 1)
-listed_next p n k context residual xs ys nine is inside x y done steps =
+listed_next p n k context residual xs ys nine is inside x done steps =
     let size = x ∙ is.context k inside in
-    let chosen = ap of_nine_bits y ∙ sym (nine_by p.bits (get_or ys k 0) nine) ∙ is.residual k inside in
+    let chosen = sym nine ∙ is.residual k inside in
     steps ∙ ap (λ j. part_steps p k ++ shifted (j * 32) (signed_steps (of_nine_bits residual))) size
     ∙ ap (λ q. part_steps p k ++ shifted (size_of p.set.now (beside p.two.now p.one.now p.cur.now (p.from + k)) * 32) (signed_steps q)) chosen
     ∙ sym (places-more p.set.now p.bits p.two.now p.one.now p.cur.now p.from k)

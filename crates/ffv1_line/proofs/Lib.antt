@@ -16,4 +16,5 @@ pub mod SamplesBelow
 pub mod Agreeing
 pub mod Taken
 pub mod EqualNeighbours
+mod NineBits
 mod Zeros

@@ -14,6 +14,7 @@ ghost use Rattle.ffv1_line.specs.Coder.{encoder_by};
 mod block;
 mod cell;
 mod deep;
+mod deep_row;
 pub(crate) mod part;
 mod plain;
 mod wide;
@@ -24,6 +25,7 @@ use crate::encode::block::{
     Block, LIST, PLACES, list_places, number_places, prepare, residual_from,
 };
 use crate::encode::deep::encode_deep;
+use crate::encode::deep_row::encode_deep_row;
 use crate::encode::part::Part;
 pub use cell::{CellRows, encode_cell};
 use ffv1_range::{Fault, RangeEncoder, StateTable};
@@ -172,9 +174,8 @@ fn put_numbers<A: Allocator, B: Allocator>(
     )
 }
 
-/// The symbols of a part of a row, by an encoder that has not failed: one by one if samples have
-/// more than 9 bits, if the block before had many decisions, or if nearly all residuals are
-/// zero, else by a list.
+/// The symbols of a part of a row of 8 or 9 bits, by an encoder that has not failed: one by one if
+/// the block before had many decisions, or if nearly all residuals are zero, else by a list.
 #[inline(always)]
 fn encode_block<A: Allocator, B: Allocator>(
     encoder: &mut RangeEncoder<A>,
@@ -185,6 +186,7 @@ fn encode_block<A: Allocator, B: Allocator>(
 ) -> Result<(), Fault>
     requires sound { encoder.old.failed ≡ false }
     requires part { IsPart part.now }
+    requires bits { part.now.bits < 10 }
     requires rows { length states.old ≡ contexts_of part.now.set.now * 32 }
     requires held { AllHeld table.now states.old }
     ensures ok { OnOk result (Puts table.now encoder.old states.old encoder.new states.new
@@ -196,7 +198,7 @@ fn encode_block<A: Allocator, B: Allocator>(
     ensures kept { OnErr result (CountsPart part.now encoder.old.counts encoder.new.counts) }
 {
     prepare(block, part);
-    if part.bits > 9 || block.is_dense {
+    if block.is_dense {
         let own = part.own();
         block.is_dense = put_numbers(encoder, table, states, &own, block)? > DENSE;
         return Ok(());
@@ -211,9 +213,9 @@ fn encode_block<A: Allocator, B: Allocator>(
     Ok(())
 }
 
-/// A row of a cell of 8 to 15 bits, by an encoder that has not failed, by a body of its own for 8
-/// and for 9 bits, one for all others, whose `BITS` is 0, and for each kind of set. `THREE_TABLES`
-/// may be said of a set whose fourth and fifth tables have one level.
+/// A row of a cell of 8 or 9 bits, by an encoder that has not failed, by a body of its own for each
+/// depth, its `BITS`, and each kind of set. `THREE_TABLES` may be said of a set whose fourth and
+/// fifth tables have one level.
 #[inline(never)]
 fn encode_row<A: Allocator, B: Allocator, const BITS: u8, const THREE_TABLES: bool>(
     encoder: &mut RangeEncoder<A>,
@@ -223,8 +225,8 @@ fn encode_row<A: Allocator, B: Allocator, const BITS: u8, const THREE_TABLES: bo
     cur: &[u16],
 ) -> Result<(), Fault>
     requires sound { encoder.old.failed ≡ false }
-    requires depth { coding.now.bits ≤ 15 }
-    requires bits { (BITS ≡ 0) ⊎ (coding.now.bits ≡ BITS) }
+    requires depth { coding.now.bits < 10 }
+    requires bits { coding.now.bits ≡ BITS }
     requires three_tables { IsTrue THREE_TABLES → HasThreeTables coding.now.set }
     requires some { 0 < length cur.now }
     requires one_long { length above.now.one ≡ length cur.now }
@@ -327,7 +329,7 @@ pub fn encode_line<A: Allocator, B: Allocator>(
         return encode_row::<A, B, 9, false>(encoder, coding, states, above, cur);
     }
     if three_tables {
-        return encode_row::<A, B, 0, true>(encoder, coding, states, above, cur);
+        return encode_deep_row::<A, B, true>(encoder, coding, states, above, cur);
     }
-    encode_row::<A, B, 0, false>(encoder, coding, states, above, cur)
+    encode_deep_row::<A, B, false>(encoder, coding, states, above, cur)
 }

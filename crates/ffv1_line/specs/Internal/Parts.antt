@@ -1,7 +1,7 @@
 -- Places of a row that are encoded at once.
 use Rattle.std.specs.Prelude.{ℕ, ◌≡◌, ◌+◌, ◌-◌, ◌*◌, ◌^◌, ◌≤◌, ◌<◌, IsTrue, List, length, nat_lt}
 use Rattle.std.specs.Prelude.{if◌then◌else◌, ℤ, pos, ◌-ℤ◌, slice_index_or, unsigned_abs}
-use Rattle.std.specs.Prelude.{slice_index}
+use Rattle.std.specs.Prelude.{slice_index, ◌%◌}
 use Rattle.ffv1_range.specs.Symbols.{Step, shifted, signed_steps}
 use Rattle.ffv1_range.specs.Counts.{Counts, Counted}
 use Rattle.ffv1_range.specs.Listed.{of_nine_bits}
@@ -37,6 +37,10 @@ kept_of bits residual =
 abbrev pub residual_limit : ℕ → ℕ
 residual_limit bits = if nat_lt bits 10 then 512 else 2 ^ 16
 
+-- it lies from -256 to 255: its number modulo 512 is that of a residual of nine bits
+abbrev pub IsOfNineBits : ℕ → ℕ → Type 0
+IsOfNineBits bits n = residual_by bits n ≡ of_nine_bits (n % 512)
+
 -- the contexts of the first n of them, and their residuals
 pub record ArePrepared {A : Type 0} (p : Part A) (n : ℕ) (contexts residuals : List ℕ)
     : Type 0 where
@@ -50,6 +54,10 @@ pub record ArePrepared {A : Type 0} (p : Part A) (n : ℕ) (contexts residuals :
 -- a block has them
 abbrev pub IsBlockOf : {A : Type 0} → Part A → ℕ → Block → Type 0
 IsBlockOf p n b = ArePrepared p n b.contexts b.residuals
+
+-- the first n residuals of a block lie from -256 to 255
+pub record AreOfNineBits (bits n : ℕ) (residuals : List ℕ) : Type 0 where
+  pub each : (k : ℕ) → k < n → IsOfNineBits bits (slice_index residuals k)
 
 -- the first n of these numbers are their residuals
 pub record AreNumbered {A : Type 0} (p : Part A) (numbers : List ℤ) (n : ℕ) : Type 0 where

@@ -1,5 +1,5 @@
 -- The symbols of a part of a row one by one, with the interval in locals.
-use Rattle.std.proofs.Common.{◌≡◌, ◌∙◌, ◌≤◌, take, length, pos, arith, rules}
+use Rattle.std.proofs.Common.{◌≡◌, ◌∙◌, ◌≤◌, take, length, pos, arith}
 use Rattle.std.proofs.lemmas.List.{get_or-take, length-take-le}
 use Rattle.ffv1_range.specs.Rows.{rows_steps}
 use Rattle.ffv1_line.specs.Internal.Parts.{part_steps}

@@ -1,5 +1,5 @@
 -- The symbols of the places of a part of a row, one by one, by the block that was prepared of it.
-use Rattle.std.proofs.Common.{refl, ◌∙◌, arith, subst, sym}
+use Rattle.std.proofs.Common.{◌∙◌, arith, subst, sym}
 use Rattle.ffv1_range.proofs.Steps.{puts_none, puts_append}
 use Rattle.ffv1_range.proofs.Growth.{on_err}
 use Rattle.ffv1_range.specs.Counts.{Counts, Counted}

@@ -1,8 +1,8 @@
 -- A residual as a block has it.
-use Rattle.std.proofs.Common.{◌≡◌, ◌∙◌, ◌*◌, ◌%◌, ◌^◌, ◌-◌, ◌≤◌, ap, arith, ℕ, ℤ, pos, ◌+ℤ◌, rules, pow_mono, unsigned_abs}
-use Rattle.std.proofs.lemmas.Int.{to_z-of_z, ints}
+use Rattle.std.proofs.Common.{◌∙◌, ap, rules, unsigned_abs}
+use Rattle.std.proofs.lemmas.Int.{to_z-of_z}
 use Rattle.std.specs.Int.{w32}
-use mir.Val.{SFits, to_z, of_z}
+use mir.Val.{SFits}
 use Rattle.ffv1_line.proofs.BlockLanes.{kept_nine, kept_deep, half_word, raised_fits}
 use Rattle.ffv1_line.proofs.encode.block.kept.Goals as goal
 

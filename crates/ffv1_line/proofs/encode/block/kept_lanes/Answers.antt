@@ -1,5 +1,5 @@
 -- The numbers of the contexts of 16 places, and their residuals as a block has them.
-use Rattle.std.proofs.Common.{ℕ, arith, inl, inr}
+use Rattle.std.proofs.Common.{ℕ, arith}
 use Rattle.ffv1_plane.specs.Context.{flip_of}
 use Rattle.ffv1_plane.specs.Prediction.{predicted}
 use Rattle.ffv1_plane.specs.Residual.{chosen_of}

@@ -3,6 +3,7 @@ use Rattle.std.proofs.Common.{refl, arith, ◌*◌, ◌∙◌, ◌++◌, ap, sym
 use Rattle.ffv1_range.specs.Symbols.{shifted, signed_steps}
 use Rattle.ffv1_range.specs.Listed.{of_nine_bits}
 use Rattle.ffv1_line.proofs.Beside.{places-none, listed_next, below_next}
+use Rattle.ffv1_line.proofs.BlockLanes.{nine_by}
 use Rattle.ffv1_line.proofs.encode.block.list_places.Goals as goal
 
 pub loop-k-init : goal.loop-k-init
@@ -22,8 +23,8 @@ loop-k-preserved g c =
     record {
       block = is;
       short = omega (arith, c.list_signed-at.ensures.few);
-      steps = listed_next _ c.args.part.now.count k context residual _ _ c.requires.bits is c.loop-k-test.true refl
-          refl _
+      steps = listed_next _ c.args.part.now.count k context residual _ _
+          (nine_by c.args.part.now.bits residual c.requires.bits) is c.loop-k-test.true refl _
           (c.list_signed-at.ensures.steps ∙ ap (λ l. l ++ shifted (context * 32)
           (signed_steps (of_nine_bits residual))) c.loop-k.invariant.steps);
       below = below_next _ context residual _ _ (is.few k c.loop-k-test.true)
