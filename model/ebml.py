@@ -99,11 +99,13 @@ def get_size(source, left):
     return None if data == (1 << 7 * len(size)) - 1 else data, len(size)
 
 
-def get_header(source, left, first=b""):
+def get_header(source, left, first=b"", outside=()):
     """The ID of an element, its size, or none where that is unknown, and what its parent, with so
     many bytes left, has left after the header. Own: an element that passes its parent is refused
-    here."""
+    here, and before that one of an ID that stands only outside of such a parent."""
     ident = vint(source, 4, left, first)
+    if int.from_bytes(ident, "big") in outside:
+        raise Fault(81)
     size, length = get_size(source, left - len(ident))
     left -= len(ident) + length
     if size is not None and size > left:

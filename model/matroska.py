@@ -112,6 +112,7 @@ def head_in(content):
 JUDGED = {SEEK_HEAD, INFO, TRACKS, CUES, ATTACHMENTS, CHAPTERS, TAGS}
 PASSED = {VOID, CRC_32}
 OF_CLUSTER = {TIMESTAMP, POSITION, PREV_SIZE, SILENT_TRACKS, ENCRYPTED_BLOCK}
+OUTSIDE = JUDGED | {CLUSTER, ebml.EBML, SEGMENT}    # own: their IDs are refused in a Cluster
 MOST_KNOWN = 127                # own: the greatest number of which it is known whether a track has it
 
 
@@ -221,7 +222,7 @@ class Segment:
             self.group = left - size
             frame = self.in_group(ident, size, number)
         else:
-            ident, size, left = known(get_header(self.source, self.cluster))
+            ident, size, left = known(get_header(self.source, self.cluster, outside=OUTSIDE))
             self.cluster = left - size
             frame = self.in_cluster(ident, size, number)
         if not self.group and not self.cluster:

@@ -138,6 +138,32 @@ HEADERS = [
 ]
 
 
+# ------------------------------------------------- elements that stand only outside of Clusters
+
+def grown(*parts, more):
+    """A Cluster of these elements that says so many bytes more than it has."""
+    return spell("1F43B675", size(len(spell(*parts)) + more), *parts)
+
+
+OUTSIDE = SEVEN + [("Cluster", "1F43B675"), ("EBML", "1A45DFA3"), ("Segment", "18538067")]
+SIZES = [("of a size that passes", "FE"), ("of a size that suits", "80"),
+         ("of a size of no bytes", "00"), ("of an unknown size", "FF")]
+
+GROWN = [
+    *((f"{name} in a Cluster, {what}", whole(grown(B, more=5), ident, size), 1, 81, 1)
+      for name, ident in OUTSIDE for what, size in SIZES),
+    ("another ID of four bytes, of a size that passes", whole(grown(B, more=5), "1F43B674 FE"),
+     1, 52, 0),
+    ("a Cluster that takes in the next one", whole(grown(B, more=len(C)), C), 1, 81, 22),
+    ("a Cluster that takes in a part of the next one", whole(grown(B, more=18), C), 1, 81, 22),
+    ("a Cluster that takes in the next one's ID", whole(grown(B, more=4), C), 1, 81, 22),
+    ("a Cluster that takes in three bytes of that", whole(grown(B, more=3), C), 1, 52, 25),
+    ("an empty Cluster that takes in the next one", whole(grown(more=18), C), 0, 81, 22),
+    ("a Cluster in a BlockGroup",
+     whole(cluster(element("A0", element("A1", "81000000", FRAME), C))), 1, 0, 0),
+]
+
+
 # ------------------------------------------------------------------------------ the EBML header
 
 def headed(*parts):
@@ -290,8 +316,8 @@ CLUSTERS = [
     ("three blocks", whole(cluster("E78100", B, B, B)), 3, 0, 0),
     ("a block before Timestamp", whole(cluster(B, "E78100", B)), 2, 0, 0),
     ("an element that is not known", whole(cluster(B, "4DBB80", B)), 1, 81, 11),
-    ("a header of EBML in a Cluster", whole(cluster(B, "1A45DFA380", B)), 1, 81, 11),
-    ("a Cluster in a Cluster", whole(cluster(B, "1F43B67580", B)), 1, 81, 11),
+    ("a header of EBML in a Cluster", whole(cluster(B, "1A45DFA380", B)), 1, 81, 12),
+    ("a Cluster in a Cluster", whole(cluster(B, "1F43B67580", B)), 1, 81, 12),
     ("Block in a Cluster", whole(cluster(B, "A1", B[1:], B)), 1, 81, 20),
     ("numbers of eight bytes", whole(cluster("E788" + "00" * 8, "A788" + "00" * 8, B)), 1, 0, 0),
     ("a Position of nine", whole(cluster(B, "A789" + "00" * 9, B)), 1, 81, 20),
@@ -453,8 +479,8 @@ SUMS = [
 # ---------------------------------------------------------------------------------------------- all
 
 # what the rows are about, and they
-ROWS = [("", EXAMPLES), ("header: ", HEADERS), ("EBML: ", EBML), ("Segment: ", SEGMENTS),
-        ("Segment: ", list(of_seven())), ("Cluster: ", CLUSTERS),
+ROWS = [("", EXAMPLES), ("header: ", HEADERS), ("outside: ", GROWN), ("EBML: ", EBML),
+        ("Segment: ", SEGMENTS), ("Segment: ", list(of_seven())), ("Cluster: ", CLUSTERS),
         ("Cluster of unknown size: ", LOOSE_CLUSTERS), ("block: ", BLOCKS), ("CRC-32 ", SUMS)]
 
 

@@ -7,7 +7,7 @@ use Rattle.ffv1_reads.specs.declared.fault.FileFault.{FileFault}
 use Rattle.ffv1_reads.proofs.Results.{cut_back, cut_front, ok_is, read_on_ok}
 use Rattle.ffv1_sum.specs.Sum.{byte_step}
 use Rattle.ffv1_ebml.specs.Contents.{Part, first_part, found, found_or_on, found_up_to, part_read, part_with}
-use Rattle.ffv1_ebml.specs.Elements.{element_judged, element_read, element_rest}
+use Rattle.ffv1_ebml.specs.Elements.{element_in, element_judged, element_read, element_rest}
 use Rattle.ffv1_ebml.specs.Spelled.{IsIdent, SaysSize, ident_bytes, spelled}
 use Rattle.ffv1_ebml.specs.Sums.{summed}
 use Rattle.ffv1_ebml.specs.Vints.{IsVint, number_of, size_of, vint_read}
@@ -28,7 +28,7 @@ summed_twice (Awaits stated so_far) xs ys = ap (λ s. Awaits stated s) (sym (fol
 -- a header that is spelled
 header_spelled : (left : ℕ) (sum : Sum) (ident size rest : List ℕ) → IsVint ident → length ident ≤ 4 → IsVint size → length size ≤ 8 → length ident + length size ≤ left →
     element_read left sum ((ident ++ size) ++ rest) ≡ (element_judged (left - length ident - length size) (number_of ident) (size_of size) >>= λ e. given (e, summed (summed sum ident) size)) rest
-unfolding element_read
+unfolding element_in
 header_spelled left sum ident size rest id few sz most fits =
     let room : length ident ≤ left = omega (arith, fits) in
     let more : length size ≤ left - length ident = omega (arith, fits) in
@@ -94,7 +94,7 @@ judged_rest left ident (Some n) text p h = on_test (nat_lt left n) refl h
         ap (λ z. z.1) (ok_is (made, text) p (rw t at h))
 
 header_less : (left : ℕ) (sum : Sum) (text : List ℕ) (p : (Element × Sum) × List ℕ) → element_read left sum text ≡ Ok p → length p.1 < length text
-unfolding element_read
+unfolding element_in
 header_less left sum text p h =
     let first = read_on_ok (vint_read 4 left text) (element_rest left sum) p h in
     let one = vint_sound 4 left text first.0 first.1 in

@@ -8,7 +8,7 @@ use Rattle.ffv1_reads.specs.declared.fault.FileFault.TheVariants as fault
 use Rattle.ffv1_ebml.specs.declared.element.Element.{Element}
 use Rattle.ffv1_ebml.specs.declared.sum.Sum.{Sum}
 use Rattle.ffv1_ebml.specs.declared.sum.Sum.TheVariants.{Absent}
-use Rattle.ffv1_ebml.specs.Elements.{element_after, element_rest, element_read, first_read}
+use Rattle.ffv1_ebml.specs.Elements.{element_after, element_in, element_rest, first_read}
 use Rattle.ffv1_ebml.specs.Vints.{vint_rest, vint_read}
 use Rattle.ffv1_ebml.proofs.VintReadings.{vint_whole}
 
@@ -24,7 +24,7 @@ abbrev pub some_given : Element → Reading (Option Element)
 some_given e = given (Some e)
 
 pub first_in_turn : (left first : ℕ) → (left ≡ 0 → ⊥) → (text : List ℕ) → first_read left (first ∷ text) ≡ (element_after left first >>= some_given) text
-unfolding first_read element_read
+unfolding first_read element_in
 first_in_turn left first some text =
     let test : (left == 0) ≡ false = ne_eqb _ _ some in
     let front : vint_read 4 left (first ∷ text) ≡ vint_rest 4 left (first ∷ []) text = vint_whole 4 left some (first ∷ text) ∙ ap (λ z. read_on z (vint_rest 4 left)) (taken_complete 1 (first ∷ []) text refl) in

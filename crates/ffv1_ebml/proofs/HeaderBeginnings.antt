@@ -6,7 +6,7 @@ use Rattle.ffv1_reads.specs.Reads.{Looked, Short, given, read_on, ◌>>=◌}
 use Rattle.ffv1_reads.proofs.LoopReadings.{wanted_short}
 use Rattle.ffv1_reads.proofs.Results.{cut_back, cut_front, ok_is, read_on_ok}
 use Rattle.ffv1_reads.proofs.WantedBytes.{taken_complete}
-use Rattle.ffv1_ebml.specs.Elements.{element_judged, element_read, element_rest}
+use Rattle.ffv1_ebml.specs.Elements.{element_in, element_judged, element_read, element_rest}
 use Rattle.ffv1_ebml.specs.Sums.{summed}
 use Rattle.ffv1_ebml.specs.Vints.{IsVint, number_of, size_of, vint_read, vint_rest}
 use Rattle.ffv1_ebml.specs.declared.element.Element.{Element}
@@ -40,7 +40,7 @@ record HasHeader (left : ℕ) (sum : Sum) (text : List ℕ) : Type 0 where
   fits : length size ≤ left - length ident
 
 header_parts : (left : ℕ) (sum : Sum) (text : List ℕ) (p : Element × Sum) → element_read left sum text ≡ Ok (p, []) → HasHeader left sum text
-unfolding element_read
+unfolding element_in
 header_parts left sum text p h =
     let first = read_on_ok (vint_read 4 left text) (element_rest left sum) (p, []) h in
     let one = vint_sound 4 left text first.0 first.1 in
@@ -55,11 +55,11 @@ header_parts left sum text p h =
     record { ident = ident; size = size; text_is = one.text_is ∙ ap (λ z. ident ++ z) end; id = one.is; few = one.few; room = one.fits; sz = two.is; most = two.few; fits = two.fits }
 
 in_ident : (left : ℕ) (sum : Sum) (xs ys : List ℕ) → IsVint (xs ++ ys) → length (xs ++ ys) ≤ 4 → length (xs ++ ys) ≤ left → 0 < length ys → element_read left sum xs ≡ Err (Short Looked)
-unfolding element_read
+unfolding element_in
 in_ident left sum xs ys is few fits some = ap (λ z. read_on z (element_rest left sum)) (vint_early 4 left xs ys is few fits some)
 
 in_size : (left : ℕ) (sum : Sum) (ident xs ys : List ℕ) → IsVint ident → length ident ≤ 4 → length ident ≤ left → IsVint (xs ++ ys) → length (xs ++ ys) ≤ 8 → length (xs ++ ys) ≤ left - length ident → 0 < length ys → element_read left sum (ident ++ xs) ≡ Err (Short Looked)
-unfolding element_read
+unfolding element_in
 in_size left sum ident xs ys id few room is most fits some =
     ap (λ z. read_on z (element_rest left sum)) (vint_complete 4 left ident xs id few room)
     ∙ ap (λ z. read_on z (λ size. element_judged (left - length ident - length size) (number_of ident) (size_of size) >>= λ e. given (e, summed (summed sum ident) size))) (vint_early 8 (left - length ident) xs ys is most fits some)

@@ -6,7 +6,7 @@ use Rattle.ffv1_reads.specs.Reads.{Met, read_on}
 use Rattle.ffv1_reads.specs.declared.fault.FileFault.{FileFault}
 use Rattle.ffv1_reads.specs.declared.fault.FileFault.TheVariants as fault
 use Rattle.ffv1_ebml.specs.Contents.{first_part, part_read}
-use Rattle.ffv1_ebml.specs.Elements.{element_rest, element_read}
+use Rattle.ffv1_ebml.specs.Elements.{element_in, element_read, element_rest}
 use Rattle.ffv1_ebml.specs.Vints.{length_of, number_of, size_of, vint_rest, vint_read}
 use Rattle.ffv1_ebml.specs.declared.sum.Sum.TheVariants.{Absent}
 use Rattle.ffv1_ebml.proofs.VintReadings.{vint_others, vint_whole}
@@ -43,11 +43,11 @@ part_of_some [] some = absurd (some refl)
 part_of_some (b ∷ bs) some = refl
 
 after_ident : (xs ident after : List ℕ) → vint_read 4 (length xs) xs ≡ Ok (ident, after) → element_read (length xs) Absent xs ≡ element_rest (length xs) Absent ident after
-unfolding element_read
+unfolding element_in
 after_ident xs ident after is = ap (λ z. read_on z (element_rest (length xs) Absent)) is
 
 pub part_bad_ident : (xs rest : List ℕ) (f : FileFault) → (length xs ≡ 0 → ⊥) → vint_read 4 (length xs) xs ≡ Err (Met f rest) → first_part xs ≡ Err f
-unfolding element_read
+unfolding element_in
 part_bad_ident xs rest f some is = part_of_some xs some ∙ ap (λ z. part_read (read_on z (element_rest (length xs) Absent))) is
 
 -- an ID that is there

@@ -1,6 +1,8 @@
 -- The header of an element (RFC 8794, 3 to 6), in a parent that has so many bytes left: an ID of at
 -- most 4 bytes, and a size of at most 8 that fits in the parent.
-use Rattle.std.specs.Prelude.{ℕ, ◌≤◌, IfSome, ◌+◌, ◌-◌, ◌==◌, ◌&&◌, Bool, if◌then◌else◌, nat_lt}
+use Rattle.std.specs.List.{list_any}
+use Rattle.std.specs.Prelude.{ℕ, ◌≤◌, IfSome, ◌+◌, ◌-◌, ◌==◌, ◌&&◌, Bool, false}
+use Rattle.std.specs.Prelude.{if◌then◌else◌, nat_lt}
 use Rattle.std.specs.Prelude.{List, [], ◌∷◌, length}
 use Rattle.std.specs.Prelude.{Option, Some, None, Ok}
 use Rattle.ffv1_reads.specs.Reads.{Reading, given, passed, refused, taken, ◌>>=◌}
@@ -28,9 +30,27 @@ element_rest left sum ident =
     (element_judged (left - length ident - length size) (number_of ident) (size_of size) >>= λ e.
     given (e, summed (summed sum ident) size))
 
--- the header of the next element, all of it summed
-unfoldable pub element_read : ℕ → Sum → Reading (Element × Sum)
-element_read left sum = vint_read 4 left >>= element_rest left sum
+-- the ID is one of these
+abbrev pub is_among : List ℕ → ℕ → Bool
+is_among idents ident = list_any (λ other. other == ident) idents
+
+-- IDs of elements that stand only outside of a parent: none
+abbrev pub none_outside : ℕ → Bool
+none_outside ident = false
+
+-- after its ID, in a parent outside of which elements of some IDs stand: such a one is refused, and
+-- its size is not looked at
+abbrev pub element_named : (ℕ → Bool) → ℕ → Sum → List ℕ → Reading (Element × Sum)
+element_named outside left sum ident =
+    if outside (number_of ident) then refused fault.BadElement else element_rest left sum ident
+
+-- the header of the next element in such a parent, all of it summed
+unfoldable pub element_in : (ℕ → Bool) → ℕ → Sum → Reading (Element × Sum)
+element_in outside left sum = vint_read 4 left >>= element_named outside left sum
+
+-- the same in any other parent
+abbrev pub element_read : ℕ → Sum → Reading (Element × Sum)
+element_read left sum = element_in none_outside left sum
 
 -- a variable-size integer alone, as a block's track number is one
 abbrev pub data_read : ℕ → Sum → Reading (Data × Sum)

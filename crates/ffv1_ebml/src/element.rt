@@ -6,8 +6,8 @@ ghost use Rattle.ffv1_wire.specs.Passage.{passage};
 ghost use Rattle.ffv1_reads.specs.Reads.{Answers};
 ghost use Rattle.ffv1_reads.specs.Ends.{AnswersOrNone};
 ghost use Rattle.ffv1_ebml.specs.Elements.{IsWithin, content_judged, content_passed, data_read};
-ghost use Rattle.ffv1_ebml.specs.Elements.{element_after, element_rest, element_read, first_read};
-ghost use Rattle.ffv1_ebml.specs.Elements.{is_crc};
+ghost use Rattle.ffv1_ebml.specs.Elements.{element_after, element_in, element_rest, element_read};
+ghost use Rattle.ffv1_ebml.specs.Elements.{first_read, is_among, is_crc};
 
 use crate::sum::{Sum, pass_summed};
 use crate::vint::{Vint, data_of, next_vint, number_of, size_of, vint_rest};
@@ -76,12 +76,40 @@ fn element_rest<R: ByteIn>(
     })
 }
 
+/// Reads the header of the next element of a parent that has `left` bytes left, and outside of
+/// which the elements with these IDs stand, and sums it.
+///
+/// `BadElement` if its ID has more than 4 bytes, after the first of them, or is one of these, after
+/// the ID, whatever stands after that; then `BadElement` if its size has more than 8 bytes, after
+/// the first; `Truncated` if its ID, its size or its content passes what is left, after what was
+/// read of the header, or if the input ends before. After a fault the sum is as it was.
+#[tactic(auto, unfolding(crate::specs::Elements::element_in))]
+pub fn next_element_in<R: ByteIn>(
+    input: &mut R,
+    outside: &[u32],
+    left: u64,
+    sum: &mut Sum,
+) -> Result<Element, FileFault>
+    ensures answer { Answers (λ (e : Element). (e, sum.new))
+        (element_in (is_among outside.now) left sum.old)
+        (passage R.remaining R.failures input.old input.new) result }
+    ensures err { OnErr result (sum.new ≡ sum.old) }
+    ensures within { IfOk result (λ e. IsWithin e (left - 2)) }
+{
+    let ident = next_vint(input, 4, left)?;
+    let number = number_of(&ident.bytes[..ident.len]) as u32;
+    if outside.contains(&number) {
+        return Err(FileFault::BadElement);
+    }
+    let element = element_rest(input, &ident, left, sum)?;
+    Ok(element)
+}
+
 /// Reads the header of the next element of a parent that has `left` bytes left, and sums it.
 ///
 /// `BadElement` where its ID has more than 4 bytes or its size more than 8, after the first byte of
 /// that; `Truncated` where its ID, its size or its content passes what is left, after what was read
 /// of the header, or where the input ends before. After a fault the sum is as it was.
-#[tactic(auto, unfolding(crate::specs::Elements::element_read))]
 pub fn next_element<R: ByteIn>(
     input: &mut R,
     left: u64,
@@ -92,9 +120,7 @@ pub fn next_element<R: ByteIn>(
     ensures err { OnErr result (sum.new ≡ sum.old) }
     ensures within { IfOk result (λ e. IsWithin e (left - 2)) }
 {
-    let ident = next_vint(input, 4, left)?;
-    let element = element_rest(input, &ident, left, sum)?;
-    Ok(element)
+    next_element_in(input, &[], left, sum)
 }
 
 /// A variable-size integer that was read (RFC 8794, 4).

@@ -1,14 +1,15 @@
 //! Laws of elements.
 
 ghost use Rattle.std.specs.Prelude.{◌≡◌, ◌≤◌, ◌<◌, ◌+◌, ◌-◌, ◌^◌, ◌++◌, ◌∷◌, ℕ, List, [], Some};
-ghost use Rattle.std.specs.Prelude.{None, Ok, Err, codes};
+ghost use Rattle.std.specs.Prelude.{Bool, None, Ok, Err, codes, false, true};
 ghost use Rattle.std.specs.Prelude.{length, slice_set};
 ghost use Rattle.ffv1_ebml.specs.Contents.{content_told, first_part, found};
-ghost use Rattle.ffv1_ebml.specs.Elements.{content_passed, element_read};
+ghost use Rattle.ffv1_ebml.specs.Elements.{content_passed, element_in, element_read};
 ghost use Rattle.ffv1_ebml.specs.Sums.{summed};
 ghost use Rattle.ffv1_reads.specs.Reads.{Looked, Met, Short};
 ghost use Rattle.ffv1_ebml.specs.declared.element.Element.{Element};
 ghost use Rattle.ffv1_reads.specs.declared.fault.FileFault.{FileFault};
+ghost use Rattle.ffv1_reads.specs.declared.fault.FileFault.TheVariants as fault;
 ghost use Rattle.ffv1_ebml.specs.declared.sum.Sum.{Sum};
 ghost use Rattle.ffv1_ebml.specs.Rows.{cluster_row, header_content, header_row};
 ghost use Rattle.ffv1_ebml.specs.Spelled.{IsIdent, SaysSize, ident_bytes, long, short, spelled};
@@ -108,6 +109,23 @@ pub fn spelled_element_is_found()
     ensures past { (ident other : ℕ) (size content rest : List ℕ) → IsIdent other →
         SaysSize size (Some (length content)) → (other ≡ ident → ⊥) →
         found ident (spelled other size content ++ rest) ≡ found ident rest }
+{}
+
+/// In a parent outside of which elements of some IDs stand, such a one is refused behind its ID,
+/// whatever stands after that: its size is not looked at. Any other is read as in any parent; and
+/// what is read of an element is of another.
+pub fn ids_outside_are_refused()
+    ensures refused { (outside : ℕ → Bool) (left : ℕ) (sum : Sum) (ident rest : List ℕ) →
+        IsVint ident → length ident ≤ 4 → length ident ≤ left →
+        outside (number_of ident) ≡ true →
+        element_in outside left sum (ident ++ rest) ≡ Err (Met fault.BadElement rest) }
+    ensures others { (outside : ℕ → Bool) (left : ℕ) (sum : Sum) (ident rest : List ℕ) →
+        IsVint ident → length ident ≤ 4 → length ident ≤ left →
+        outside (number_of ident) ≡ false →
+        element_in outside left sum (ident ++ rest) ≡ element_read left sum (ident ++ rest) }
+    ensures read { (outside : ℕ → Bool) (left : ℕ) (sum : Sum) (text : List ℕ)
+        (p : (Element × Sum) × List ℕ) → element_in outside left sum text ≡ Ok p →
+        (element_read left sum text ≡ Ok p) × (outside p.0.0.ident ≡ false) }
 {}
 
 /// The bytes of a header that is read, without some of the last, end where more are wanted.

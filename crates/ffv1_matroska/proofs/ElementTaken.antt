@@ -1,5 +1,6 @@
 -- How many bytes of its parents an element takes.
-use Rattle.std.proofs.Common.{◌≡◌, ◌+◌, ◌-◌, ◌≤◌, ◌==◌, ◌&&◌, ℕ, List, [], ◌∷◌, Option, Some, None, Ok, true, nat_lt, length, slice_index, refl, sym, arith}
+use Rattle.ffv1_ebml.proofs.OutsideLaws.{in_read}
+use Rattle.std.proofs.Common.{◌≡◌, ◌+◌, ◌-◌, ◌≤◌, ◌==◌, ◌&&◌, ℕ, List, [], ◌∷◌, Option, Some, None, Ok, true, nat_lt, length, slice_index, refl, sym, arith, Bool}
 use Rattle.std.proofs.lemmas.Bool.{eqb-true}
 use Rattle.std.proofs.lemmas.Bool.Decides.{nat_tests}
 use Rattle.std.proofs.lemmas.List.{length-append}
@@ -7,7 +8,7 @@ use Rattle.ffv1_reads.specs.declared.fault.FileFault.TheVariants as fault
 use Rattle.ffv1_reads.specs.Reads.{Kept, Looked, given, passed, refused, taken, wanted, ◌>>=◌}
 use Rattle.ffv1_reads.proofs.Taking.{Any, Takes, takes_given, takes_if, takes_passed, takes_refused, takes_same, takes_then, takes_wanted}
 use Rattle.ffv1_sum.specs.Sum.{number_of as low_number, turned}
-use Rattle.ffv1_ebml.specs.Elements.{content_judged, content_passed, data_read, element_judged, element_or_end, element_read, element_rest, first_read, is_crc, stated_judged, sum_judged}
+use Rattle.ffv1_ebml.specs.Elements.{content_judged, content_passed, data_read, element_in, element_judged, element_or_end, element_read, element_rest, first_read, is_crc, stated_judged, sum_judged}
 use Rattle.ffv1_ebml.specs.Sums.{is_met, kept_summed, passed_summed, taken_summed}
 use Rattle.ffv1_ebml.specs.Vints.{number_of, size_of, vint_read}
 use Rattle.ffv1_ebml.specs.declared.element.Data.{Data}
@@ -19,7 +20,7 @@ use Rattle.ffv1_matroska.specs.Blocks.{block_read, block_rest, fields_read, fram
 use Rattle.ffv1_matroska.specs.Internal.{bytes_of}
 use Rattle.ffv1_matroska.specs.Offsets.{element_taken, frame_taken, step_taken}
 use Rattle.ffv1_matroska.specs.Places.{amount, closed, cluster_at, group_at, is_sound, segment_at, step_to, summed_at}
-use Rattle.ffv1_matroska.specs.Segments.{block, block_group, child_by, cluster, cluster_child, cluster_read, cluster_rest, crc_read, first_child, group_child, group_read, group_rest, header_read, is_filler, is_of_cluster, is_section, known_child, other_read, segment_child, segment_read, segment_rest, simple_block, step_read}
+use Rattle.ffv1_matroska.specs.Segments.{block, block_group, child_by, cluster, cluster_child, cluster_read, cluster_rest, crc_read, first_child, group_child, group_read, group_rest, header_read, is_filler, is_of_cluster, is_section, known_child, other_read, segment_child, segment_read, segment_rest, simple_block, step_read, is_outside}
 use Rattle.ffv1_matroska.specs.declared.place.Place.{Place}
 use Rattle.ffv1_matroska.specs.declared.place.Step.{Step}
 use Rattle.ffv1_reads.specs.Head.{limit}
@@ -37,11 +38,14 @@ judged_takes left ident (Some n) =
     takes_if (nat_lt left n) (refused fault.Truncated) _ (λ _. takes_refused fault.Truncated) (λ fits. takes_given _ tt (grind (arith, nat_tests, fits)))
 
 pub element_takes : (left : ℕ) (sum : Sum) → Takes Any left (λ (p : Element × Sum). bytes_of p.0.size + p.0.left) (element_read left sum)
-unfolding element_read
+unfolding element_in
 element_takes left sum =
     takes_then (vint_read 4 left) (element_rest left sum) (vint_takes 4 left) (λ ident few.
     takes_then (vint_read 8 (left - length ident)) _ (vint_takes 8 (left - length ident)) (λ size small.
     takes_then (element_judged (left - length ident - length size) (number_of ident) (size_of size)) _ (judged_takes (left - length ident - length size) (number_of ident) (size_of size)) (λ e _. takes_given _ tt refl)))
+
+pub inside_takes : (outside : ℕ → Bool) (left : ℕ) (sum : Sum) → Takes Any left (λ (p : Element × Sum). bytes_of p.0.size + p.0.left) (element_in outside left sum)
+inside_takes outside left sum = record { only = λ text rest p h. (element_takes left sum).only text rest p (in_read outside left sum text (p, rest) h).0 }
 
 -- content that is passed
 sum_takes : (sum : Sum) → Takes Any 0 (λ _. 0) (sum_judged sum)
@@ -135,10 +139,10 @@ child_takes place track ident size now none =
 cluster_takes : (track : TrackNumbers) (place : Place) → place.group ≡ 0 → Takes Any (amount place) (left_after place) (cluster_read track place)
 unfolding cluster_read known_child first_child
 cluster_takes track place none =
-    takes_then (element_read place.cluster place.sum) (cluster_rest track place) (more (element_takes place.cluster place.sum)) (λ p _. child p.0.ident (cluster_at place p.0.left p.1) p.0.size refl)
+    takes_then (element_in is_outside place.cluster place.sum) (cluster_rest track place) (more (inside_takes is_outside place.cluster place.sum)) (λ p _. child p.0.ident (cluster_at place p.0.left p.1) p.0.size refl)
   where
-    more : Takes Any place.cluster (λ (p : Element × Sum). bytes_of p.0.size + p.0.left) (element_read place.cluster place.sum) →
-        Takes Any (amount place) (λ (p : Element × Sum). bytes_of p.0.size + amount (cluster_at place p.0.left p.1)) (element_read place.cluster place.sum)
+    more : Takes Any place.cluster (λ (p : Element × Sum). bytes_of p.0.size + p.0.left) (element_in is_outside place.cluster place.sum) →
+        Takes Any (amount place) (λ (p : Element × Sum). bytes_of p.0.size + amount (cluster_at place p.0.left p.1)) (element_in is_outside place.cluster place.sum)
     more h = record { only = λ text rest p is. (tt, omega (arith, none, (h.only text rest p is).1)) }
 
     crc_size : (ident n : ℕ) → is_crc ident n ≡ true → n ≡ 4

@@ -3,7 +3,7 @@ use Rattle.std.proofs.Common.{◌≡◌, ◌-◌, ◌<◌, ◌==◌, ◌&&◌, �
 use Rattle.ffv1_reads.specs.declared.fault.FileFault.TheVariants as fault
 use Rattle.ffv1_reads.specs.Reads.{given, refused, taken}
 use Rattle.ffv1_sum.specs.Sum.{number_of as low_number, turned}
-use Rattle.ffv1_ebml.specs.Elements.{content_passed, data_read, element_read, is_crc}
+use Rattle.ffv1_ebml.specs.Elements.{content_passed, data_read, element_read, is_crc, element_in}
 use Rattle.ffv1_ebml.specs.Sums.{kept_summed, passed_summed, taken_summed}
 use Rattle.ffv1_ebml.specs.declared.element.Data.{Data}
 use Rattle.ffv1_ebml.specs.declared.element.Element.{Element}
@@ -11,7 +11,7 @@ use Rattle.ffv1_ebml.specs.declared.sum.Sum.{Sum}
 use Rattle.ffv1_ebml.specs.declared.sum.Sum.TheVariants.{Absent, Begins, Awaits}
 use Rattle.ffv1_matroska.specs.Blocks.{block_read, block_rest, fields_read, frame_judged, is_unknown, lacing_of, passed_on}
 use Rattle.ffv1_matroska.specs.Places.{amount, closed, cluster_at, cluster_entered, frame_at, group_at, is_sound, segment_at, step_to, summed_at}
-use Rattle.ffv1_matroska.specs.Segments.{block, block_group, child_by, cluster, cluster_child, cluster_read, cluster_rest, crc_read, first_child, group_child, group_read, group_rest, header_read, is_filler, is_of_cluster, is_section, known_child, other_read, segment_child, segment_read, segment_rest, simple_block, step_read}
+use Rattle.ffv1_matroska.specs.Segments.{block, block_group, child_by, cluster, cluster_child, cluster_read, cluster_rest, crc_read, first_child, group_child, group_read, group_rest, header_read, is_filler, is_of_cluster, is_section, known_child, other_read, segment_child, segment_read, segment_rest, simple_block, step_read, is_outside}
 use Rattle.ffv1_matroska.specs.declared.place.Place.{Place}
 use Rattle.ffv1_matroska.specs.declared.place.Step.{Step}
 use Rattle.ffv1_matroska.proofs.StepBounds.{Gives, Lessens, gives_any, gives_given, gives_if, gives_refused, gives_then, step_less}
@@ -71,7 +71,7 @@ child_stays track ident size place =
 
 cluster_stays : (track : TrackNumbers) (place : Place) → Gives (Stays place.endless) (cluster_read track place)
 unfolding cluster_read known_child first_child
-cluster_stays track place = gives_any (Stays place.endless) (element_read place.cluster place.sum) (cluster_rest track place) (λ p. child p.0.ident (cluster_at place p.0.left p.1) p.0.size)
+cluster_stays track place = gives_any (Stays place.endless) (element_in is_outside place.cluster place.sum) (cluster_rest track place) (λ p. child p.0.ident (cluster_at place p.0.left p.1) p.0.size)
   where
     by_sum : (ident size : ℕ) (now : Place) (s : Sum) → Gives (Stays now.endless) (child_by track ident size now s)
     by_sum ident size now Begins =

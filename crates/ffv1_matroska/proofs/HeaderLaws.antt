@@ -3,13 +3,14 @@ use Rattle.std.proofs.Common.{◌≡◌, ◌≤◌, ◌+◌, ◌-◌, ◌∙◌,
 use Rattle.std.proofs.lemmas.Bool.{le-ltb, ltb-false}
 use Rattle.ffv1_reads.specs.Reads.{given, read_on, ◌>>=◌}
 use Rattle.ffv1_reads.proofs.Results.{ok_is, read_on_ok}
-use Rattle.ffv1_ebml.specs.Elements.{element_judged, element_read, element_rest}
+use Rattle.ffv1_ebml.specs.Elements.{element_in, element_judged, element_read, element_rest}
 use Rattle.ffv1_ebml.specs.Spelled.{SaysSize}
 use Rattle.ffv1_ebml.specs.Sums.{summed}
 use Rattle.ffv1_ebml.specs.Vints.{IsVint, number_of, size_of, vint_read}
 use Rattle.ffv1_ebml.specs.declared.element.Element.{Element}
 use Rattle.ffv1_ebml.specs.declared.sum.Sum.{Sum}
 use Rattle.ffv1_ebml.proofs.ElementLaws.{summed_twice}
+use Rattle.ffv1_ebml.proofs.OutsideLaws.{others_read}
 use Rattle.ffv1_ebml.proofs.VintLaws.{vint_complete, vint_sound}
 use Rattle.ffv1_matroska.specs.Internal.{bytes_of}
 
@@ -30,7 +31,7 @@ judged_known left ident (Some n) text fits = rw (le-ltb _ _ fits) refl
 
 pub header_complete : (left : ℕ) (sum : Sum) (ident size rest : List ℕ) (known : Option ℕ) → IsHeader left ident size known →
     element_read left sum ((ident ++ size) ++ rest) ≡ Ok ((header_of left ident size known, summed sum (ident ++ size)), rest)
-unfolding element_read
+unfolding element_in
 header_complete left sum ident size rest known h =
     let parts : length (ident ++ size) ≡ length ident + length size = length-append ident size in
     let id : length ident ≤ left = omega (arith, h.fits, parts) in
@@ -44,6 +45,15 @@ header_complete left sum ident size rest known h =
     ∙ ap (λ z. read_on z (element_rest left sum)) (vint_complete 4 left ident (size ++ rest) h.named h.few id)
     ∙ ap (λ z. read_on z (λ size. element_judged (left - length ident - length size) (number_of ident) (size_of size) >>= λ e. given (e, summed (summed sum ident) size))) (vint_complete 8 (left - length ident) size rest h.sized.0 h.sized.1 more)
     ∙ last
+
+-- and in a parent outside of which elements of some IDs stand
+pub header_inside : (outside : ℕ → Bool) (left : ℕ) (sum : Sum) (ident size rest : List ℕ) (known : Option ℕ) → IsHeader left ident size known → outside (number_of ident) ≡ false →
+    element_in outside left sum ((ident ++ size) ++ rest) ≡ Ok ((header_of left ident size known, summed sum (ident ++ size)), rest)
+header_inside outside left sum ident size rest known h inside =
+    let whole = append_assoc ident size rest in
+    let fits : length ident ≤ left = omega (arith, h.fits, length-append ident size) in
+    ap (element_in outside left sum) whole ∙ others_read outside left sum ident (size ++ rest) h.named h.few fits inside
+    ∙ ap (element_read left sum) (sym whole) ∙ header_complete left sum ident size rest known h
 
 -- what is read is the header of an element
 pub record HasHeader (left : ℕ) (sum : Sum) (text : List ℕ) (p : Element × Sum) (rest : List ℕ) : Type 0 where
@@ -77,7 +87,7 @@ judged_sound left ident (Some n) text p h = on_test (nat_lt left n) refl h
         subst P (ok_is (made, text) p (rw t at h)) (record { ident_is = refl; size_is = refl; left_is = omega (arith, fits); text_is = refl })
 
 pub header_sound : (left : ℕ) (sum : Sum) (text : List ℕ) (p : Element × Sum) (rest : List ℕ) → element_read left sum text ≡ Ok (p, rest) → HasHeader left sum text p rest
-unfolding element_read
+unfolding element_in
 header_sound left sum text p rest h =
     let first = read_on_ok (vint_read 4 left text) (element_rest left sum) (p, rest) h in
     let one = vint_sound 4 left text first.0 first.1 in

@@ -1,12 +1,13 @@
 -- The elements that a Cluster lists, in words.
-use Rattle.std.proofs.Common.{◌≡◌, ◌⊎◌, inl, inr, ℕ, ◌≤◌, ◌==◌, ◌||◌, Bool, true, false, Err, List, length, ap, ◌∙◌, refl}
+use Rattle.std.proofs.Common.{◌≡◌, ◌⊎◌, inl, inr, ℕ, ◌≤◌, ◌==◌, ◌||◌, Bool, true, false, Err, List, length, ap, ◌∙◌, ◌++◌, refl}
 use Rattle.std.proofs.lemmas.Bool.{eqb-true, le-leb, leb-true}
 use Rattle.ffv1_reads.specs.declared.fault.FileFault.TheVariants as fault
-use Rattle.ffv1_reads.specs.Reads.{Met}
+use Rattle.ffv1_reads.specs.Reads.{Met, read_on}
 use Rattle.ffv1_ebml.specs.Elements.{crc_ident}
-use Rattle.ffv1_ebml.specs.Vints.{number_of}
-use Rattle.ffv1_matroska.specs.Elements.{IsListed, IsNumberIdent, IsPassedIdent, IsPiece, Leaf, Single, content_text, stands_single}
-use Rattle.ffv1_matroska.specs.Segments.{block_group, cluster_child, is_beside, is_filler, simple_block}
+use Rattle.ffv1_ebml.specs.Vints.{IsVint, number_of}
+use Rattle.ffv1_ebml.proofs.OutsideLaws.{outside_refused}
+use Rattle.ffv1_matroska.specs.Elements.{IsListed, IsNumberIdent, IsPassedIdent, IsPiece, Leaf, Piece, Single, Group, content_text, piece_ident, stands_single}
+use Rattle.ffv1_matroska.specs.Segments.{block_group, cluster_child, cluster_read, cluster_rest, is_beside, is_filler, is_outside, outside_idents, simple_block}
 use Rattle.ffv1_matroska.specs.declared.place.Place.{Place}
 use Rattle.ffv1_matroska.specs.declared.track.TrackNumbers.{TrackNumbers}
 
@@ -41,7 +42,7 @@ passed_are ident h = on_last (one_is (ident == 22612 || ident == 175) (is_filler
     on_last (inl k) = on_first (one_is (ident == 22612) (ident == 175) k)
     on_last (inr k) = on_filler (one_is (ident == 236) (ident == crc_ident) k)
 
-listed_is : (ident size : ℕ) → stands_single ident size ≡ true → IsListed ident size
+pub listed_is : (ident size : ℕ) → stands_single ident size ≡ true → IsListed ident size
 unfolding is_beside
 listed_is ident size h = on_block (one_is (ident == simple_block) (is_beside ident size) h)
   where
@@ -75,3 +76,31 @@ others_refused track ident size place rest apart none = on_tests (ident == simpl
     on_tests true b p q = absurd (cc (rw p at none))
     on_tests false true p q = absurd (cc (rw (p, q) at none))
     on_tests false false p q = rw (p, apart, q) refl
+
+-- what may stand in a Cluster does not stand only outside of it
+pub listed_inside : (ident size : ℕ) → IsListed ident size → is_outside ident ≡ false
+unfolding outside_idents
+listed_inside ident size (inl is) = ap is_outside is
+listed_inside ident size (inr (inl (inl is, few))) = ap is_outside is
+listed_inside ident size (inr (inl (inr (inl is), few))) = ap is_outside is
+listed_inside ident size (inr (inl (inr (inr is), few))) = ap is_outside is
+listed_inside ident size (inr (inr (inl is))) = ap is_outside is
+listed_inside ident size (inr (inr (inr (inl is)))) = ap is_outside is
+listed_inside ident size (inr (inr (inr (inr (inl is))))) = ap is_outside is
+listed_inside ident size (inr (inr (inr (inr (inr is))))) = ap is_outside is
+
+pub group_inside : (ident : ℕ) → ident ≡ block_group → is_outside ident ≡ false
+unfolding outside_idents
+group_inside ident is = ap is_outside is
+
+pub crc_inside : (ident : ℕ) → ident ≡ crc_ident → is_outside ident ≡ false
+unfolding outside_idents
+crc_inside ident is = ap is_outside is
+
+pub piece_inside : (track : TrackNumbers) (p : Piece) → IsPiece track p → is_outside (piece_ident p) ≡ false
+piece_inside track (Single l) is = listed_inside (number_of l.ident) (length (content_text l.content)) (listed_is (number_of l.ident) (length (content_text l.content)) is.2)
+piece_inside track (Group ident size ls) is = group_inside (number_of ident) is.0.2
+
+pub outside_ends : (track : TrackNumbers) (place : Place) (ident rest : List ℕ) → IsVint ident → length ident ≤ 4 → length ident ≤ place.cluster → is_outside (number_of ident) ≡ true → cluster_read track place (ident ++ rest) ≡ Err (Met fault.BadElement rest)
+unfolding cluster_read
+outside_ends track place ident rest is few fits there = ap (λ z. read_on z (cluster_rest track place)) (outside_refused is_outside place.cluster place.sum ident rest is few fits there)

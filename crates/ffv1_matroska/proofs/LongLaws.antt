@@ -1,4 +1,5 @@
 -- Elements that pass what they stand in.
+use Rattle.ffv1_matroska.proofs.ListedElements.{group_inside}
 use Rattle.std.proofs.Common.{◌≡◌, ◌≤◌, ◌<◌, ◌+◌, ◌-◌, ◌==◌, ◌||◌, ◌∙◌, ◌++◌, [], ℕ, suc, zero, List, Bool, true, false, nat_lt, Some, None, Result, Ok, Err, inl, length, refl, sym, ap, subst, arith, append-nil, length-append, Option}
 use Rattle.std.proofs.lemmas.Bool.{eq-eqb, lt-ltb}
 use Rattle.ffv1_reads.specs.declared.fault.FileFault.TheVariants as fault
@@ -14,7 +15,7 @@ use Rattle.ffv1_matroska.specs.Given.{GivesThen}
 use Rattle.ffv1_matroska.specs.MatroskaFiles.{IsTracks}
 use Rattle.ffv1_matroska.specs.Opened.{begin_up_to}
 use Rattle.ffv1_matroska.specs.Places.{cluster_at, cluster_entered, group_at, segment_at}
-use Rattle.ffv1_matroska.specs.Segments.{block, block_group, child_by, cluster, cluster_child, cluster_read, first_child, group_read, is_filler, is_of_cluster, segment_child, segment_read, segment_rest, step_read}
+use Rattle.ffv1_matroska.specs.Segments.{block, block_group, child_by, cluster, cluster_child, cluster_read, first_child, group_read, is_filler, is_of_cluster, segment_child, segment_read, segment_rest, step_read, is_outside}
 use Rattle.ffv1_matroska.specs.Tracks.{Track}
 use Rattle.ffv1_matroska.specs.declared.place.Place.{Place}
 use Rattle.ffv1_matroska.proofs.FrameTurns.{added, added_none, run, run_on, run_turn, step_kept, turn_added, turn_read}
@@ -23,7 +24,7 @@ use Rattle.ffv1_matroska.proofs.OpenedLaws.{Same, begins_complete, tops_begun, t
 use Rattle.ffv1_matroska.proofs.PartLaws.{first_part, segment_header}
 use Rattle.ffv1_matroska.proofs.PieceLaws.{header_some, known_header, leaves_part, sound_group}
 use Rattle.ffv1_matroska.proofs.SegmentLaws.{loose_child, loose_complete, parts_run}
-use Rattle.ffv1_matroska.proofs.TrackLaws.{HasStart, header_passes, header_refused, segment_start}
+use Rattle.ffv1_matroska.proofs.TrackLaws.{HasStart, header_passes, header_refused, segment_start, passes_inside}
 use Rattle.ffv1_matroska.specs.declared.track.TrackNumbers.{TrackNumbers}
 
 -- the bytes that a header has
@@ -37,11 +38,11 @@ segment_refused track base loose left ident size rest p =
     run_turn track (segment_at base loose left) ((ident ++ size) ++ rest)
     ∙ ap (λ z. run_on track (read_on (read_on z (segment_rest track (segment_at base loose left))) step_kept)) (header_refused base loose left ident size rest p)
 
-cluster_refused : (track : TrackNumbers) (base : Place) (left : ℕ) (s : Sum) (ident size rest : List ℕ) → Passes left ident size → run track (cluster_at base left s) ((ident ++ size) ++ rest) ≡ ([], Err (Met fault.Truncated rest))
+cluster_refused : (track : TrackNumbers) (base : Place) (left : ℕ) (s : Sum) (ident size rest : List ℕ) → Passes left ident size → is_outside (number_of ident) ≡ false → run track (cluster_at base left s) ((ident ++ size) ++ rest) ≡ ([], Err (Met fault.Truncated rest))
 unfolding step_read cluster_read
-cluster_refused track base left s ident size rest p =
+cluster_refused track base left s ident size rest p inside =
     let test : nat_lt 0 left ≡ true = lt-ltb _ _ (passes_some left ident size p) in
-    run_turn track (cluster_at base left s) ((ident ++ size) ++ rest) ∙ rw (test, header_passes left s ident size rest p) refl
+    run_turn track (cluster_at base left s) ((ident ++ size) ++ rest) ∙ rw (test, passes_inside is_outside left s ident size rest p inside) refl
 
 group_refused : (track : TrackNumbers) (base : Place) (left : ℕ) (s : Sum) (ident size rest : List ℕ) → Passes left ident size → run track (group_at base left s) ((ident ++ size) ++ rest) ≡ ([], Err (Met fault.Truncated rest))
 unfolding step_read group_read
@@ -138,10 +139,10 @@ cluster_reached file track left rest some b =
     let P : List (List ℕ) → Type 0 = λ fs. Reaches file track fs (cluster_at now left part.0) rest in
     record { base = now; s = part.0; at = subst P (no_more before (pieces_frames b.pieces)) (reaches_on file track (before ++ []) (pieces_frames b.pieces) (cluster_entered place k) (cluster_at now left part.0) (body ++ rest) rest entered part.1) }
 
-pub cluster_passes : (file : List ℕ) (track : Track) (left : ℕ) (ident said rest : List ℕ) (b : ClusterBegins file track left ((ident ++ said) ++ rest)) → Passes left ident said → GivesThen file track.head (parts_frames b.segment.parts ++ pieces_frames b.pieces) (Met fault.Truncated rest)
-cluster_passes file track left ident said rest b p =
+pub cluster_passes : (file : List ℕ) (track : Track) (left : ℕ) (ident said rest : List ℕ) (b : ClusterBegins file track left ((ident ++ said) ++ rest)) → Passes left ident said → is_outside (number_of ident) ≡ false → GivesThen file track.head (parts_frames b.segment.parts ++ pieces_frames b.pieces) (Met fault.Truncated rest)
+cluster_passes file track left ident said rest b p inside =
     let r = cluster_reached file track left ((ident ++ said) ++ rest) (passes_some left ident said p) b in
-    refused_there file track (parts_frames b.segment.parts ++ pieces_frames b.pieces) (cluster_at r.base left r.s) ((ident ++ said) ++ rest) (Met fault.Truncated rest) r.at (cluster_refused track.numbers r.base left r.s ident said rest p)
+    refused_there file track (parts_frames b.segment.parts ++ pieces_frames b.pieces) (cluster_at r.base left r.s) ((ident ++ said) ++ rest) (Met fault.Truncated rest) r.at (cluster_refused track.numbers r.base left r.s ident said rest p inside)
 
 -- a BlockGroup is entered, in a Cluster of known size
 opened_by : (track : TrackNumbers) (base : Place) (k m : ℕ) (rest : List ℕ) → 0 < k → (x : Sum) → (s : Sum) × (run_on track ((child_by track block_group k (cluster_at base m x) x >>= step_kept) rest) ≡ run track (group_at (cluster_at base m s) k s) rest)
@@ -157,7 +158,7 @@ group_opened track base ident size k m s rest some is says =
     let on = opened_by track base k m rest some x in (
       on.0,
       run_turn track (cluster_at base (length (ident ++ size) + (k + m)) s) ((ident ++ size) ++ rest)
-          ∙ ap (run_on track) (known_header track base ident size k m s rest is.0 is.1 says)
+          ∙ ap (run_on track) (known_header track base ident size k m s rest is.0 is.1 says (group_inside (number_of ident) is.2))
           ∙ ap (λ n. run_on track ((child_by track n k (cluster_at base m x) x >>= step_kept) rest)) is.2
           ∙ on.1,
     )

@@ -1,4 +1,5 @@
 -- The parts of a Segment are read as their frames.
+use Rattle.ffv1_matroska.proofs.ListedElements.{piece_inside}
 use Rattle.std.proofs.Common.{◌≡◌, ◌⊎◌, ◌≤◌, ◌<◌, ◌+◌, ◌-◌, ◌==◌, ◌||◌, ◌&&◌, ◌∙◌, ◌++◌, ◌∷◌, [], ℕ, List, Bool, true, false, if◌then◌else◌, Option, Some, Result, Ok, inl, inr, length, refl, sym, ap, subst, arith, append_assoc, length-append}
 use Rattle.std.proofs.lemmas.Bool.{cases_eq, eq-eqb, eqb-true, ne_eqb}
 use Rattle.ffv1_reads.specs.Reads.{Stop, given, read_on, ◌>>=◌}
@@ -65,7 +66,7 @@ crc_complete track base l m rest is crc apart stands sound =
     let body = content_text l.content in
     let four = crc_number (number_of l.ident) (length body) crc in
     run_turn track (cluster_at base (length (leaf_text l) + m) Begins) (leaf_text l ++ rest)
-    ∙ ap (run_on track) (cluster_header track base p (piece_parts track p (is, apart, stands)) m Begins rest)
+    ∙ ap (run_on track) (cluster_header track base p (piece_parts track p (is, apart, stands)) m Begins rest (piece_inside track p (is, apart, stands)))
     ∙ rw (crc, taken_complete 4 body rest four.1, sound) (added_none _)
 
 -- or another one, without one
@@ -74,7 +75,7 @@ plain_complete : (track : TrackNumbers) (base : Place) (p : Piece) (m : ℕ) (re
 unfolding first_child
 plain_complete track base p m rest is no_crc sound =
     run_turn track (cluster_at base (length (piece_text p) + m) Begins) (piece_text p ++ rest)
-    ∙ ap (run_on track) (cluster_header track base p (piece_parts track p is) m Begins rest)
+    ∙ ap (run_on track) (cluster_header track base p (piece_parts track p is) m Begins rest (piece_inside track p is))
     ∙ rw no_crc (child_complete track (cluster_at base m Absent) Absent p rest is sound)
 
 -- elements of a Cluster after the first are sound

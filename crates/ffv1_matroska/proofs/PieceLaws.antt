@@ -1,4 +1,5 @@
 -- Elements of a BlockGroup, of a Cluster and of a Segment are read as their frames.
+use Rattle.ffv1_matroska.proofs.ListedElements.{piece_inside}
 use Rattle.std.proofs.Common.{◌≡◌, ◌≤◌, ◌<◌, ◌+◌, ◌-◌, ◌==◌, ◌||◌, ◌∙◌, ◌++◌, ◌∷◌, [], ℕ, List, Bool, true, false, nat_lt, Some, Ok, length, refl, sym, ap, arith, append_assoc, length-append}
 use Rattle.std.proofs.lemmas.Bool.{eq-eqb, lt-ltb}
 use Rattle.ffv1_reads.specs.Reads.{read_on, ◌>>=◌}
@@ -11,11 +12,11 @@ use Rattle.ffv1_ebml.specs.declared.sum.Sum.TheVariants.{Absent, Begins, Awaits}
 use Rattle.ffv1_ebml.proofs.ElementLaws.{summed_twice}
 use Rattle.ffv1_matroska.specs.Elements.{AreLeaves, ArePieces, IsContent, IsLeaf, IsPiece, Leaf, Piece, Single, Group, content_text, leaf_frames, leaf_text, leaves_frames, leaves_text, piece_frames, piece_ident, piece_text, pieces_frames, pieces_text, stands_single}
 use Rattle.ffv1_matroska.specs.Places.{cluster_at, group_at, is_sound}
-use Rattle.ffv1_matroska.specs.Segments.{block, block_group, child_by, cluster_child, cluster_read, cluster_rest, group_child, group_read, group_rest, is_beside, known_child, simple_block, step_read}
+use Rattle.ffv1_matroska.specs.Segments.{block, block_group, child_by, cluster_child, cluster_read, cluster_rest, group_child, group_read, group_rest, is_beside, known_child, simple_block, step_read, is_outside}
 use Rattle.ffv1_matroska.specs.declared.place.Place.{Place}
 use Rattle.ffv1_matroska.proofs.BlockLaws.{after_bytes, content_complete, content_read}
 use Rattle.ffv1_matroska.proofs.FrameTurns.{added, added_none, added_twice, run, run_on, run_turn, step_kept, turn_added, turn_read}
-use Rattle.ffv1_matroska.proofs.HeaderLaws.{IsHeader, header_complete}
+use Rattle.ffv1_matroska.proofs.HeaderLaws.{IsHeader, header_complete, header_inside}
 use Rattle.ffv1_matroska.specs.declared.track.TrackNumbers.{TrackNumbers}
 
 pub summed_none : (s : Sum) → summed s [] ≡ s
@@ -174,31 +175,31 @@ by_past track ident size place Begins h = absurd h
 by_past track ident size place (Awaits stated so_far) h = refl
 
 -- an element of a Cluster is read by what comes after its header
-pub known_header : (track : TrackNumbers) (base : Place) (ident size : List ℕ) (k m : ℕ) (s : Sum) (rest : List ℕ) → IsVint ident → length ident ≤ 4 → SaysSize size (Some k) →
+pub known_header : (track : TrackNumbers) (base : Place) (ident size : List ℕ) (k m : ℕ) (s : Sum) (rest : List ℕ) → IsVint ident → length ident ≤ 4 → SaysSize size (Some k) → is_outside (number_of ident) ≡ false →
     turn_read track (cluster_at base (length (ident ++ size) + (k + m)) s) ((ident ++ size) ++ rest)
     ≡ (child_by track (number_of ident) k (cluster_at base m (summed s (ident ++ size))) (summed s (ident ++ size)) >>= step_kept) rest
 unfolding step_read cluster_read known_child
-known_header track base ident size k m s rest named few sized =
+known_header track base ident size k m s rest named few sized inside =
     let head = ident ++ size in
     let n = length head + (k + m) in
     let some : 0 < n = omega (arith, header_some ident size [] named, length-append head []) in
     let header : IsHeader n ident size (Some k) = record { named = named; few = few; sized = sized; fits = omega arith } in
     let left : n - length head - k ≡ m = omega arith in
     rw (lt-ltb 0 n some) (
-    ap (λ z. read_on (read_on z (cluster_rest track (cluster_at base n s))) step_kept) (header_complete n s ident size rest (Some k) header)
+    ap (λ z. read_on (read_on z (cluster_rest track (cluster_at base n s))) step_kept) (header_inside is_outside n s ident size rest (Some k) header inside)
     ∙ ap (λ j. read_on (child_by track (number_of ident) k (cluster_at base j (summed s head)) (summed s head) rest) step_kept) left)
 
-pub cluster_header : (track : TrackNumbers) (base : Place) (p : Piece) (h : HasParts p) (m : ℕ) (s : Sum) (rest : List ℕ) →
+pub cluster_header : (track : TrackNumbers) (base : Place) (p : Piece) (h : HasParts p) (m : ℕ) (s : Sum) (rest : List ℕ) → is_outside (piece_ident p) ≡ false →
     turn_read track (cluster_at base (length (piece_text p) + m) s) (piece_text p ++ rest)
     ≡ (child_by track (piece_ident p) (length (piece_content p)) (cluster_at base m (summed s (h.ident ++ h.size))) (summed s (h.ident ++ h.size)) >>= step_kept) (piece_content p ++ rest)
-cluster_header track base p h m s rest =
+cluster_header track base p h m s rest inside =
     let head = h.ident ++ h.size in
     let body = piece_content p in
     let long : length (piece_text p) + m ≡ length head + (length body + m) = omega (arith, ap length h.text_is, length-append head body) in
     let whole : piece_text p ++ rest ≡ head ++ (body ++ rest) = ap (λ z. z ++ rest) h.text_is ∙ append_assoc head body rest in
     ap (λ n. turn_read track (cluster_at base n s) (piece_text p ++ rest)) long
     ∙ ap (turn_read track (cluster_at base (length head + (length body + m)) s)) whole
-    ∙ known_header track base h.ident h.size (length body) m s (body ++ rest) h.named h.few h.sized
+    ∙ known_header track base h.ident h.size (length body) m s (body ++ rest) h.named h.few h.sized (ap is_outside h.number ∙ inside)
     ∙ ap (λ j. read_on (child_by track j (length body) (cluster_at base m (summed s head)) (summed s head) (body ++ rest)) step_kept) h.number
 
 pub piece_complete : (track : TrackNumbers) (base : Place) (p : Piece) (m : ℕ) (s : Sum) (rest : List ℕ) → IsPiece track p → IsPast s → is_sound (cluster_at base m (summed s (piece_text p))) ≡ true →
@@ -211,7 +212,7 @@ piece_complete track base p m s rest is past sound =
     let sums : summed (summed s head) body ≡ summed s (piece_text p) = summed_twice s head body ∙ ap (summed s) (sym h.text_is) in
     let there : is_sound (group_at now 0 (summed (summed s head) body)) ≡ true = rw sums sound in
     run_turn track (cluster_at base (length (piece_text p) + m) s) (piece_text p ++ rest)
-    ∙ ap (run_on track) (cluster_header track base p h m s rest)
+    ∙ ap (run_on track) (cluster_header track base p h m s rest (piece_inside track p is))
     ∙ ap (λ r. run_on track (read_on (r (body ++ rest)) step_kept)) (by_past track (piece_ident p) (length body) now (summed s head) (past_summed s head past))
     ∙ child_complete track now (summed s head) p rest is there
     ∙ ap (λ (z : Sum). added (piece_frames p) (run track (cluster_at base m z) rest)) sums

@@ -1,4 +1,5 @@
 -- What is read in a Cluster is its elements.
+use Rattle.ffv1_ebml.proofs.OutsideLaws.{in_read}
 use Rattle.std.proofs.Common.{◌≡◌, ◌≤◌, ◌<◌, ◌+◌, ◌==◌, ◌∙◌, ◌++◌, ◌∷◌, [], ℕ, suc, zero, List, Bool, true, false, nat_lt, Option, Some, None, Ok, length, refl, sym, ap, subst, arith, append_assoc, length-append}
 use Rattle.std.proofs.lemmas.Bool.{eqb-true, lt-ltb}
 use Rattle.ffv1_reads.specs.declared.fault.FileFault.TheVariants as fault
@@ -6,7 +7,7 @@ use Rattle.ffv1_reads.specs.Reads.{Met, read_on, taken, ◌>>=◌}
 use Rattle.ffv1_reads.proofs.Results.{ok_is, read_on_ok}
 use Rattle.ffv1_reads.proofs.WantedBytes.{taken_sound}
 use Rattle.ffv1_sum.specs.Sum.{crc_of, number_of as low_number, turned}
-use Rattle.ffv1_ebml.specs.Elements.{crc_ident, element_read, is_crc}
+use Rattle.ffv1_ebml.specs.Elements.{crc_ident, element_read, is_crc, element_in}
 use Rattle.ffv1_ebml.specs.Spelled.{SaysSize}
 use Rattle.ffv1_ebml.specs.Sums.{is_met, summed}
 use Rattle.ffv1_ebml.specs.Vints.{IsVint, number_of}
@@ -17,7 +18,7 @@ use Rattle.ffv1_ebml.proofs.ElementLaws.{summed_twice}
 use Rattle.ffv1_matroska.specs.Elements.{ArePieces, AreSummed, IsContent, IsLeaf, IsPiece, Leaf, Piece, Single, Group, Plain, content_text, leaf_frames, leaves_text, piece_frames, piece_ident, piece_text, pieces_frames, pieces_text, stands_single}
 use Rattle.ffv1_matroska.specs.Files.{frames_read}
 use Rattle.ffv1_matroska.specs.Places.{closed, cluster_at, cluster_entered, group_at, is_sound, segment_at, step_to}
-use Rattle.ffv1_matroska.specs.Segments.{block_group, child_by, cluster_child, cluster_read, cluster_rest, crc_read, first_child, is_beside, is_filler, known_child, simple_block, step_read}
+use Rattle.ffv1_matroska.specs.Segments.{block_group, child_by, cluster_child, cluster_read, cluster_rest, crc_read, first_child, is_beside, is_filler, known_child, simple_block, step_read, is_outside}
 use Rattle.ffv1_matroska.specs.declared.place.Place.{Place}
 use Rattle.ffv1_matroska.specs.declared.place.Step.{Step}
 use Rattle.ffv1_matroska.proofs.BlockLaws.{content_read}
@@ -146,10 +147,10 @@ unfolding step_read cluster_read known_child
 head_turn track base c s text o rest some h =
     let place : Place = cluster_at base c s in
     let test : nat_lt 0 c ≡ true = lt-ltb _ _ some in
-    let whole : read_on (read_on (element_read c s text) (cluster_rest track place)) step_kept ≡ Ok (o, rest) = rw test at h in
-    let first = read_on_ok (read_on (element_read c s text) (cluster_rest track place)) step_kept (o, rest) whole in
-    let second = read_on_ok (element_read c s text) (cluster_rest track place) first.0 first.1 in
-    on_size second.0.0 second.0.1 first.0 (header_sound c s text second.0.0 second.0.1 second.1) second.0.0.0.size refl second.2 first.2
+    let whole : read_on (read_on (element_in is_outside c s text) (cluster_rest track place)) step_kept ≡ Ok (o, rest) = rw test at h in
+    let first = read_on_ok (read_on (element_in is_outside c s text) (cluster_rest track place)) step_kept (o, rest) whole in
+    let second = read_on_ok (element_in is_outside c s text) (cluster_rest track place) first.0 first.1 in
+    on_size second.0.0 second.0.1 first.0 (header_sound c s text second.0.0 second.0.1 (in_read is_outside c s text second.0 second.1).0) second.0.0.0.size refl second.2 first.2
   where
     on_size : (p : Element × Sum) (more : List ℕ) (q : Option Step × List ℕ) → HasHeader c s text p more → (size : Option ℕ) → p.0.size ≡ size →
         known_child track p.0.ident (cluster_at base p.0.left p.1) p.0.size more ≡ Ok q → step_kept q.0 q.1 ≡ Ok (o, rest) → HasHeadTurn track base c s text o rest

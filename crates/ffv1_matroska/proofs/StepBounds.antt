@@ -1,4 +1,5 @@
 -- Each step in a Segment leaves less of it.
+use Rattle.ffv1_ebml.proofs.OutsideLaws.{in_read}
 use Rattle.std.proofs.Common.{◌≡◌, ◌-◌, ◌+◌, ◌<◌, ◌≤◌, ◌==◌, ◌&&◌, ℕ, List, [], ◌∷◌, Option, Some, None, Result, Ok, Err, Bool, true, false, if◌then◌else◌, nat_lt, length, slice_index, refl, ap, subst, arith}
 use Rattle.std.proofs.lemmas.Bool.Decides.{nat_tests}
 use Rattle.ffv1_reads.specs.declared.fault.FileFault.{FileFault}
@@ -6,7 +7,7 @@ use Rattle.ffv1_reads.specs.declared.fault.FileFault.TheVariants as fault
 use Rattle.ffv1_reads.specs.Reads.{Reading, Stop, given, refused, taken, ◌>>=◌}
 use Rattle.ffv1_reads.proofs.Results.{ok_is, read_on_ok}
 use Rattle.ffv1_sum.specs.Sum.{number_of as low_number, turned}
-use Rattle.ffv1_ebml.specs.Elements.{content_passed, data_read, element_judged, element_or_end, element_read, element_rest, first_read, is_crc}
+use Rattle.ffv1_ebml.specs.Elements.{content_passed, data_read, element_in, element_judged, element_or_end, element_read, element_rest, first_read, is_crc}
 use Rattle.ffv1_ebml.specs.Sums.{passed_summed, taken_summed}
 use Rattle.ffv1_ebml.specs.Vints.{number_of, size_of, vint_read}
 use Rattle.ffv1_ebml.specs.declared.element.Data.{Data}
@@ -17,7 +18,7 @@ use Rattle.ffv1_ebml.proofs.VintLaws.{vint_sound}
 use Rattle.ffv1_matroska.specs.Blocks.{block_read, block_rest, fields_read, frame_judged, is_unknown, lacing_of, passed_on}
 use Rattle.ffv1_matroska.specs.Internal.{bytes_of}
 use Rattle.ffv1_matroska.specs.Places.{amount, closed, cluster_at, cluster_entered, frame_at, group_at, is_sound, segment_at, step_to, summed_at}
-use Rattle.ffv1_matroska.specs.Segments.{block, block_group, child_by, cluster, cluster_child, cluster_read, cluster_rest, crc_read, first_child, group_child, group_read, group_rest, header_read, is_filler, is_of_cluster, is_section, known_child, other_read, segment_child, segment_read, segment_rest, simple_block, step_read}
+use Rattle.ffv1_matroska.specs.Segments.{block, block_group, child_by, cluster, cluster_child, cluster_read, cluster_rest, crc_read, first_child, group_child, group_read, group_rest, header_read, is_filler, is_of_cluster, is_section, known_child, other_read, segment_child, segment_read, segment_rest, simple_block, step_read, is_outside}
 use Rattle.ffv1_matroska.specs.declared.place.Place.{Place}
 use Rattle.ffv1_matroska.specs.declared.place.Step.{Step}
 use Rattle.ffv1_reads.specs.Head.{limit}
@@ -67,7 +68,7 @@ judged_leaves left ident (Some n) = on_test (nat_lt left n) refl
     on_test false t = rw t (gives_given _ _ (grind (arith, nat_tests, t)))
 
 pub element_leaves : (left : ℕ) (sum : Sum) → Gives (Leaves left) (element_read left sum)
-unfolding element_read
+unfolding element_in
 element_leaves left sum = gives_then (λ ident. (1 ≤ length ident) × (length ident ≤ left)) (Leaves left) (vint_read 4 left) (element_rest left sum) (record { only = λ text rest x h. (let v = vint_sound 4 left text (x, rest) h in (v.is.0, v.fits)) }) on_ident
   where
     on_ident : (ident : List ℕ) → (1 ≤ length ident) × (length ident ≤ left) → Gives (Leaves left) (element_rest left sum ident)
@@ -75,6 +76,9 @@ element_leaves left sum = gives_then (λ ident. (1 ≤ length ident) × (length 
         gives_any (Leaves left) (vint_read 8 (left - length ident)) _ (λ size.
         gives_then (λ (e : Element). bytes_of e.size + e.left ≤ left - length ident - length size) (Leaves left) (element_judged (left - length ident - length size) (number_of ident) (size_of size)) _ (judged_leaves _ _ (size_of size))
         (λ e within. gives_given (Leaves left) _ (omega (arith, within, some.0, some.1))))
+
+pub inside_leaves : (outside : ℕ → Bool) (left : ℕ) (sum : Sum) → Gives (Leaves left) (element_in outside left sum)
+inside_leaves outside left sum = record { only = λ text rest x h. (element_leaves left sum).only text rest x (in_read outside left sum text (x, rest) h).0 }
 
 -- a step leaves less
 abbrev pub Lessens : ℕ → Option Step → Type 0
@@ -149,7 +153,7 @@ child_within track ident size n place none fits =
 
 cluster_less : (track : TrackNumbers) (place : Place) → place.group ≡ 0 → Gives (Lessens (amount place)) (cluster_read track place)
 unfolding cluster_read known_child first_child
-cluster_less track place none = gives_then (Leaves place.cluster) P (element_read place.cluster place.sum) (cluster_rest track place) (element_leaves place.cluster place.sum) (λ p less. child p.0.ident (cluster_at place p.0.left p.1) p.0.size refl (omega (arith, less, none)))
+cluster_less track place none = gives_then (Leaves place.cluster) P (element_in is_outside place.cluster place.sum) (cluster_rest track place) (inside_leaves is_outside place.cluster place.sum) (λ p less. child p.0.ident (cluster_at place p.0.left p.1) p.0.size refl (omega (arith, less, none)))
   where
     P : Option Step → Type 0
     P = Lessens (amount place)

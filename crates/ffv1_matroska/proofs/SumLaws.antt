@@ -1,4 +1,5 @@
 -- A Cluster that is read to its end has the sum that it states.
+use Rattle.ffv1_matroska.proofs.ListedElements.{crc_inside}
 use Rattle.std.proofs.Common.{◌≡◌, ◌⊎◌, ◌≤◌, ◌<◌, ◌+◌, ◌*◌, ◌^◌, All, ◌==◌, ◌∙◌, ◌++◌, ◌∷◌, [], ℕ, suc, zero, List, Bool, true, false, Option, Some, None, Ok, Err, inl, inr, length, drop, fold, bit_xor, refl, sym, ap, subst, arith, append_assoc, append-nil, length-append, length-drop}
 use Rattle.std.proofs.lemmas.Bool.{cases_lt, eqb-true}
 use Rattle.std.proofs.lemmas.List.Sums.{fold-append}
@@ -258,7 +259,7 @@ begun track place ident size stated content rest is says four = on_sound (is_sou
     turn =
         ap (λ n. turn_read track (cluster_at base n Begins) text) long
         ∙ ap (turn_read track (cluster_at base (length head + (4 + length content)) Begins)) (regrouped head stated content rest)
-        ∙ known_header track base ident size 4 (length content) Begins (stated ++ (content ++ rest)) is.0 is.1 says
+        ∙ known_header track base ident size 4 (length content) Begins (stated ++ (content ++ rest)) is.0 is.1 says (crc_inside (number_of ident) is.2)
 
     on_sound : (b : Bool) → is_sound now ≡ b →
         (Inside place (low_number stated) content rest now (content ++ rest) × (frame_read track start text ≡ frame_read track now (content ++ rest)))

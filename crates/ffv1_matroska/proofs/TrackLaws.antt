@@ -1,9 +1,10 @@
 -- Files without Tracks, and elements before the first Tracks that pass the Segment.
+use Rattle.ffv1_ebml.proofs.OutsideLaws.{others_read}
 use Rattle.std.proofs.Common.{◌≡◌, ◌≤◌, ◌<◌, ◌+◌, ◌-◌, ◌==◌, ◌∙◌, ◌++◌, [], ℕ, suc, zero, List, Bool, true, false, Option, Some, None, Err, inl, inr, length, refl, sym, ap, arith, append_assoc, length-append}
 use Rattle.std.proofs.lemmas.Bool.{eq-eqb, lt-ltb, ne_eqb}
 use Rattle.ffv1_reads.specs.declared.fault.FileFault.TheVariants as fault
 use Rattle.ffv1_reads.specs.Reads.{Met, Stop, given, read_on, ◌>>=◌}
-use Rattle.ffv1_ebml.specs.Elements.{element_judged, element_read, element_rest, first_read}
+use Rattle.ffv1_ebml.specs.Elements.{element_in, element_judged, element_read, element_rest, first_read}
 use Rattle.ffv1_ebml.specs.Spelled.{SaysSize}
 use Rattle.ffv1_ebml.specs.Sums.{summed}
 use Rattle.ffv1_ebml.specs.Vints.{number_of, size_of}
@@ -50,7 +51,7 @@ refused_at file content size why is h =
 
 -- a header whose element passes its parent
 pub header_passes : (left : ℕ) (sum : Sum) (ident size rest : List ℕ) → Passes left ident size → element_read left sum ((ident ++ size) ++ rest) ≡ Err (Met fault.Truncated rest)
-unfolding element_read
+unfolding element_in
 header_passes left sum ident size rest h =
     let parts : length (ident ++ size) ≡ length ident + length size = length-append ident size in
     let id : length ident ≤ left = omega (arith, h.header, parts) in
@@ -60,6 +61,13 @@ header_passes left sum ident size rest h =
     ∙ ap (λ z. read_on z (element_rest left sum)) (vint_complete 4 left ident (size ++ rest) h.named h.few id)
     ∙ ap (λ z. read_on z (λ size. element_judged (left - length ident - length size) (number_of ident) (size_of size) >>= λ e. given (e, summed (summed sum ident) size))) (vint_complete 8 (left - length ident) size rest h.sized.0 h.sized.1 more)
     ∙ rw (h.sized.2, lt-ltb _ _ few) refl
+
+pub passes_inside : (outside : ℕ → Bool) (left : ℕ) (sum : Sum) (ident size rest : List ℕ) → Passes left ident size → outside (number_of ident) ≡ false → element_in outside left sum ((ident ++ size) ++ rest) ≡ Err (Met fault.Truncated rest)
+passes_inside outside left sum ident size rest h inside =
+    let whole = append_assoc ident size rest in
+    let fits : length ident ≤ left = omega (arith, h.header, length-append ident size) in
+    ap (element_in outside left sum) whole ∙ others_read outside left sum ident (size ++ rest) h.named h.few fits inside
+    ∙ ap (element_read left sum) (sym whole) ∙ header_passes left sum ident size rest h
 
 pub header_refused : (base : Place) (loose : Bool) (left : ℕ) (ident size rest : List ℕ) → Passes left ident size → header_read (segment_at base loose left) ((ident ++ size) ++ rest) ≡ Err (Met fault.Truncated rest)
 header_refused base loose left ident size rest passes =

@@ -5,7 +5,7 @@ use Rattle.std.proofs.lemmas.Grind.{flat_map-append}
 use Rattle.std.proofs.lemmas.Nat.{mul-le}
 use Rattle.ffv1_reads.specs.Head.{Head, limit}
 use Rattle.ffv1_ebml.specs.Contents.{first_part, found_up_to}
-use Rattle.ffv1_ebml.specs.Elements.{element_read}
+use Rattle.ffv1_ebml.specs.Elements.{element_in}
 use Rattle.ffv1_ebml.specs.Spelled.{IsIdent, SaysSize, ident_bytes, ident_length, long, number_element, short}
 use Rattle.ffv1_ebml.specs.Vints.{length_of, number_of, size_of, vint_read}
 use Rattle.ffv1_ebml.proofs.SpelledLaws.{ident_spelled, long_spelled, short_spelled, unknown_spelled}
@@ -42,7 +42,7 @@ header_bytes =
     ++ short_element doc_type (codes "matroska") ++ number_element type_version 1 4 ++ number_element type_read_version 1 2
 
 header_judged : header_in header_bytes ≡ Ok tt
-unfolding header_in first_part found_up_to element_read length_of size_of vint_read ident_length
+unfolding header_in first_part found_up_to element_in length_of size_of vint_read ident_length
 header_judged = refl
 
 header_few : length header_bytes ≡ 35

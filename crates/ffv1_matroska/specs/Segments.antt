@@ -1,11 +1,12 @@
 -- Elements of a Segment (RFC 9559, 5.1), of a Cluster (5.1.3) and of a BlockGroup (5.1.3.5): each
 -- is a step, up to the next element, or up to a frame.
 use Rattle.std.specs.Prelude.{ℕ, ◌==◌, ◌||◌, ◌&&◌, Bool, true, false, if◌then◌else◌, nat_le, nat_lt}
-use Rattle.std.specs.Prelude.{Option, Some, None}
+use Rattle.std.specs.Prelude.{Option, Some, None, List, [], ◌∷◌}
 use Rattle.ffv1_reads.specs.Reads.{Reading, given, refused, taken, ◌>>=◌}
 use Rattle.ffv1_reads.specs.declared.fault.FileFault.TheVariants as fault
 use Rattle.ffv1_sum.specs.Sum.{number_of as low_number, turned}
-use Rattle.ffv1_ebml.specs.Elements.{content_passed, crc_ident, element_read, first_read, is_crc}
+use Rattle.ffv1_ebml.specs.Elements.{content_passed, crc_ident, element_in, element_read}
+use Rattle.ffv1_ebml.specs.Elements.{first_read, is_among, is_crc}
 use Rattle.ffv1_ebml.specs.declared.element.Element.{Element}
 use Rattle.ffv1_ebml.specs.declared.sum.Sum.{Sum}
 use Rattle.ffv1_ebml.specs.declared.sum.Sum.TheVariants.{Absent, Begins, Awaits}
@@ -99,8 +100,21 @@ known_child track ident place (Some size) = child_by track ident size place plac
 abbrev pub cluster_rest : TrackNumbers → Place → Element × Sum → Reading (Option Step)
 cluster_rest track place p = known_child track p.0.ident (cluster_at place p.0.left p.1) p.0.size
 
+-- the IDs of elements that stand only outside of Clusters: those of a Segment, which are SeekHead,
+-- Info, Tracks, Cues, Attachments, Chapters, Tags and Cluster; and EBML and Segment
+unfoldable pub outside_idents : List ℕ
+outside_idents =
+    290298740 ∷ 357149030 ∷ 374648427 ∷ 475249515 ∷ 423732329 ∷ 272869232 ∷ 307544935 ∷ 524531317
+    ∷ 440786851 ∷ 408125543 ∷ []
+
+-- where such a one begins in a Cluster, the Cluster says more bytes than it has; so it is refused
+-- before its size is looked at
+abbrev pub is_outside : ℕ → Bool
+is_outside ident = is_among outside_idents ident
+
 unfoldable pub cluster_read : TrackNumbers → Place → Reading (Option Step)
-cluster_read track place = element_read place.cluster place.sum >>= cluster_rest track place
+cluster_read track place =
+    element_in is_outside place.cluster place.sum >>= cluster_rest track place
 
 -- an element of a Segment that holds no frames, after its header: passed, with its CRC-32 judged
 -- where it has one; any other may not stand there

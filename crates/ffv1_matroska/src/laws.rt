@@ -31,14 +31,16 @@ ghost use Rattle.std.specs.Prelude.{None, ◌≤◌};
 ghost use Rattle.ffv1_reads.specs.Reads.{read_on};
 ghost use Rattle.ffv1_matroska.specs.Files.{frame_read, frames_read, more_frames};
 ghost use Rattle.ffv1_matroska.specs.Places.{ended};
-ghost use Rattle.ffv1_matroska.specs.Segments.{block_group, cluster, cluster_child};
+ghost use Rattle.ffv1_matroska.specs.Segments.{block_group, cluster, cluster_child, cluster_read};
+ghost use Rattle.ffv1_matroska.specs.Segments.{is_outside};
 ghost use Rattle.ffv1_matroska.specs.Tracks.{Track, entry, with_number};
 ghost use Rattle.ffv1_matroska.specs.declared.place.Place.{Place};
 
 /// A Cluster has only elements that may stand there: what is read in it, and is no BlockGroup, is a
 /// SimpleBlock; Timestamp, Position or PrevSize of at most 8 bytes; SilentTracks, EncryptedBlock,
 /// Void or CRC-32; and each of these may stand there. Any other is refused behind its header, and
-/// nothing after that is read.
+/// nothing after that is read. In a Cluster of known size one of a Segment's elements, EBML or
+/// Segment is refused behind its ID, whatever size it says; none that may stand there has its ID.
 pub fn clusters_hold_listed_elements()
     ensures pieces { (track : TrackNumbers) (leaf : Leaf) → IsPiece track (Single leaf) →
         IsListed (number_of leaf.ident) (length (content_text leaf.content)) }
@@ -46,6 +48,11 @@ pub fn clusters_hold_listed_elements()
     ensures refused { (track : TrackNumbers) (ident size : ℕ) (place : Place) (rest : List ℕ) →
         (ident == block_group) ≡ false → stands_single ident size ≡ false →
         cluster_child track ident size place rest ≡ Err (Met fault.BadElement rest) }
+    ensures outside { (track : TrackNumbers) (place : Place) (ident rest : List ℕ) →
+        IsVint ident → length ident ≤ 4 → length ident ≤ place.cluster →
+        is_outside (number_of ident) ≡ true →
+        cluster_read track place (ident ++ rest) ≡ Err (Met fault.BadElement rest) }
+    ensures apart { (ident size : ℕ) → IsListed ident size → is_outside ident ≡ false }
 {}
 
 /// A block is of a track that Tracks have: one whose number, up to 127, is that of no entry is
@@ -113,12 +120,12 @@ pub fn file_without_tracks_is_refused()
         open_read file ≡ Err (Met fault.NoTracks rest) }
 {}
 
-/// An element that passes what it stands in is truncated, and nothing after its header is read:
-/// in the Segment, before the first Tracks and after them; in a Cluster of known size; and in a
-/// BlockGroup of a Cluster. The frames before it are given, one by one. In the header of EBML, in
-/// Tracks and in a TrackEntry, which are in memory, it is met where what is looked for first does
-/// not stand before it, and nothing after the header or Tracks is read. What is refused so is not
-/// read as a whole file.
+/// An element that passes what it stands in is truncated, and nothing after its header is read: in
+/// the Segment, before the first Tracks and after them; in a Cluster of known size, if it is none
+/// of a Segment's elements, EBML or Segment; and in a BlockGroup of a Cluster. The frames before it
+/// are given, one by one. In the header of EBML, in Tracks and in a TrackEntry, which are in
+/// memory, it is met if what is looked for first does not stand before it, and nothing after the
+/// header or Tracks is read. What is refused so is not read as a whole file.
 pub fn long_element_is_truncated()
     ensures before { (file : List ℕ) (size : Option ℕ) (before : List TopLevel) (left : ℕ)
         (ident said rest : List ℕ) →
@@ -130,6 +137,7 @@ pub fn long_element_is_truncated()
         GivesThen file track.head (parts_frames b.parts) (Met fault.Truncated rest) }
     ensures cluster { (file : List ℕ) (track : Track) (left : ℕ) (ident said rest : List ℕ)
         (b : ClusterBegins file track left ((ident ++ said) ++ rest)) → Passes left ident said →
+        is_outside (number_of ident) ≡ false →
         GivesThen file track.head (parts_frames b.segment.parts ++ pieces_frames b.pieces)
         (Met fault.Truncated rest) }
     ensures group { (file text : List ℕ) (track : Track) (left more : ℕ)

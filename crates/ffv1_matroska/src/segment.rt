@@ -21,7 +21,7 @@ use crate::place::{
     Place, Step, closed, cluster_at, cluster_entered, group_at, segment_at, summed_at,
 };
 use crate::track::TrackNumbers;
-use ffv1_ebml::{Element, Sum, first_element, next_element, pass_content};
+use ffv1_ebml::{Element, Sum, first_element, next_element, next_element_in, pass_content};
 use ffv1_reads::{FileFault, take};
 use ffv1_wire::ByteIn;
 
@@ -34,6 +34,21 @@ const BLOCK_GROUP: u32 = 0xA0;
 const BLOCK: u32 = 0xA1;
 
 const CRC_32: u32 = 0xBF;
+
+/// The IDs of elements that stand only outside of Clusters: SeekHead, Info, Tracks, Cues,
+/// Attachments, Chapters, Tags, Cluster, EBML and Segment.
+const OUTSIDE: [u32; 10] = [
+    0x114D_9B74,
+    0x1549_A966,
+    0x1654_AE6B,
+    0x1C53_BB6B,
+    0x1941_A469,
+    0x1043_A770,
+    0x1254_C367,
+    0x1F43_B675,
+    0x1A45_DFA3,
+    0x1853_8067,
+];
 
 /// Whether an element of a Segment is one whose CRC-32 is judged: SeekHead, Info, Tracks, Cues,
 /// Attachments, Chapters or Tags.
@@ -249,7 +264,7 @@ fn read_cluster<R: ByteIn>(
     ensures less { IfOk result (λ o. IfSome o (λ s. amount s.place < amount place)) }
 {
     let mut sum = place.sum;
-    let element = next_element(input, place.cluster, &mut sum)?;
+    let element = next_element_in(input, &OUTSIDE, place.cluster, &mut sum)?;
     known_child(input, track, element, cluster_at(place, element.left, sum))
 }
 

@@ -121,3 +121,39 @@ fn closed_clusters(rt: HostRuntime) {
     assert!(rt; read(rt.alloc(), &UNKNOWN) == (0, Some(FileFault::BadElement), 146));
     assert!(rt; read(rt.alloc(), &NUMBER) == (1, Some(FileFault::BadElement), 172));
 }
+
+/// A file whose first Cluster says this size, and whose second one has this ID.
+fn changed(size: u8, ident: [u8; 4]) -> [u8; 209] {
+    let mut file = INNER;
+    file[142] = size;
+    file[157] = ident[0];
+    file[158] = ident[1];
+    file[159] = ident[2];
+    file[160] = ident[3];
+    file
+}
+
+/// What is read of that.
+fn ends(alloc: Global, size: u8, ident: [u8; 4]) -> (u32, Option<FileFault>, u64) {
+    read(alloc, &changed(size, ident))
+}
+
+/// One of an ID that stands only outside of Clusters is refused whatever its size, which passes the
+/// Cluster here; any other passes it, and so does an ID of which three bytes are left.
+#[test]
+fn closed_outside(rt: HostRuntime) {
+    let (bad, cut) = (FileFault::BadElement, FileFault::Truncated);
+    assert!(rt; ends(rt.alloc(), 32, [0x1F, 0x43, 0xB6, 0x75]) == (1, Some(bad), 157));
+    assert!(rt; ends(rt.alloc(), 18, [0x1F, 0x43, 0xB6, 0x75]) == (1, Some(bad), 157));
+    assert!(rt; ends(rt.alloc(), 17, [0x1F, 0x43, 0xB6, 0x75]) == (1, Some(cut), 157));
+    assert!(rt; ends(rt.alloc(), 32, [0x1F, 0x43, 0xB6, 0x74]) == (1, Some(cut), 157));
+    assert!(rt; ends(rt.alloc(), 32, [0x11, 0x4D, 0x9B, 0x74]) == (1, Some(bad), 157));
+    assert!(rt; ends(rt.alloc(), 32, [0x15, 0x49, 0xA9, 0x66]) == (1, Some(bad), 157));
+    assert!(rt; ends(rt.alloc(), 32, [0x16, 0x54, 0xAE, 0x6B]) == (1, Some(bad), 157));
+    assert!(rt; ends(rt.alloc(), 32, [0x1C, 0x53, 0xBB, 0x6B]) == (1, Some(bad), 157));
+    assert!(rt; ends(rt.alloc(), 32, [0x19, 0x41, 0xA4, 0x69]) == (1, Some(bad), 157));
+    assert!(rt; ends(rt.alloc(), 32, [0x10, 0x43, 0xA7, 0x70]) == (1, Some(bad), 157));
+    assert!(rt; ends(rt.alloc(), 32, [0x12, 0x54, 0xC3, 0x67]) == (1, Some(bad), 157));
+    assert!(rt; ends(rt.alloc(), 32, [0x1A, 0x45, 0xDF, 0xA3]) == (1, Some(bad), 157));
+    assert!(rt; ends(rt.alloc(), 32, [0x18, 0x53, 0x80, 0x67]) == (1, Some(bad), 157));
+}
