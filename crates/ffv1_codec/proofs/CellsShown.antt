@@ -1,7 +1,7 @@
 -- Where the lines that were made are those of a picture, the slices have read its coded samples.
 use Rattle.std.proofs.Common.{◌≡◌, refl, ℕ, ℤ, zero, suc, ◌+◌, ◌-◌, ◌*◌, ◌<◌, ◌≤◌, Bool, true, false, if◌then◌else◌, List, [], ◌∷◌, ◌++◌, map, length, get_or, inl, inr, ap, sym, subst, ◌∙◌, arith, unsigned_abs, pos}
 use Rattle.std.specs.List.{flat_map, range_with_len}
-use Rattle.std.proofs.lemmas.Bool.{cases_eq}
+use Rattle.std.proofs.lemmas.Bool.{cases_eq, cases_lt}
 use Rattle.std.proofs.lemmas.List.FromFn.{get_or-map-range_with_len}
 use Rattle.ffv1_wire.specs.Runs as wire
 use Rattle.ffv1_samples.specs.Samples.{bytes_of, samples_of}
@@ -21,6 +21,7 @@ use Rattle.ffv1_codec.proofs.LinesRead.{lines_at}
 use Rattle.ffv1_codec.proofs.LinesMade.{MadeOf, handed, joined_line}
 use Rattle.ffv1_codec.proofs.JoinedLines.{tiled_at, own_long, own_at, row_at}
 use Rattle.ffv1_codec.proofs.LineSizes.{by_number}
+use Rattle.ffv1_codec.proofs.NewPlanes.{all_new, new_one}
 use Rattle.ffv1_codec.proofs.Words.{get_or_bytes, row_samples, sample_row, green_few, blue_few}
 
 factor_zero : (p : ℕ) → factor_of 0 p ≡ 0
@@ -38,6 +39,13 @@ pub down_alike : (c : Configuration) → Alike c → (p : ℕ) → down (divisio
 down_alike c alike p =
     let side : ℕ → Side = λ log2. record { size = c.height; count = c.rows; log2 = log2 } in
     ap (λ n. side (factor_of n p)) alike.v ∙ ap side (factor_zero p)
+
+-- so no two slices have a sample in common
+pub alike_across : (c : Configuration) → Alike c → ((p : ℕ) → Tiles (across (division_of c) p)) → (p k : ℕ) → k < c.columns → shared_of (across (division_of c) p) k ≡ 0
+alike_across c alike tiles p k inside = ap (λ s. shared_of s k) (across_alike c alike p) ∙ (tiles 0).flat refl k inside
+
+pub alike_down : (c : Configuration) → Alike c → ((p : ℕ) → Tiles (down (division_of c) p)) → (p r : ℕ) → r < c.rows → shared_of (down (division_of c) p) r ≡ 0
+alike_down c alike tiles p r inside = ap (λ s. shared_of s r) (down_alike c alike p) ∙ (tiles 0).flat refl r inside
 
 -- a sample of a cell is a sample of the side
 pub inside_side : (s : Side) → Tiles s → (k x : ℕ) → k < s.count → x < coded_of s k → first_of s k + x < whole_of s
@@ -96,20 +104,50 @@ module _ (c : Configuration) (planes : Planes) where
         ∙ own_at c p k y (x - shared) (plane (slice k).cells p) begins here
         ∙ ap (λ n. get_or (plane (slice k).cells p) (y * width_in c p k + n) 0) from
 
-    nothing_shared : (p k x : ℕ) → k < c.columns → shared_of (across (division_of c) p) k ≤ x
-    nothing_shared p k x inside = omega (arith, (tiles p).none k inside)
+    nothing_shared : Alike c → (p k x : ℕ) → k < c.columns → shared_of (across (division_of c) p) k ≤ x
+    nothing_shared alike p k x inside = omega (arith, alike_across c alike tiles p k inside)
 
     -- a position of the picture's line
     picture_at : (y p k x : ℕ) → k < c.columns → x < width_in c p k → get_or (sample_row c planes y p) (left_of c p k + x) 0 ≡ sample_at c planes p (left_of c p k + x) y
     picture_at y p k x inside small = row_at (plane_width c p) y (left_of c p k + x) (plane_samples c planes p) (inside_side (across (division_of c) p) (tiles p) k x inside small)
 
-    plain_shown : (y p : ℕ) → is_rct c.colour ≡ false → ((k : ℕ) → k < c.columns → suc y * width_in c p k ≤ length (plane (slice k).cells p)) →
+    -- what slices have of the sample that they share with the one to the left
+    abbrev pub AgreesLeft : Line → Type 0
+    AgreesLeft l =
+        (j x : ℕ) → suc j < c.columns → x < shared_of (across (division_of c) l.plane) (suc j) →
+        get_or (plane (slice (suc j)).cells l.plane) (l.y * width_in c l.plane (suc j) + x) 0 ≡ get_or (plane (slice j).cells l.plane) (l.y * width_in c l.plane j + (width_in c l.plane j - 1)) 0
+
+    -- column by column
+    by_column : (y p : ℕ) → AgreesLeft (record { plane = p; y = y }) →
+        ((k x : ℕ) → k < c.columns → x < width_in c p k → shared_of (across (division_of c) p) k ≤ x →
+        get_or (plane (slice k).cells p) (y * width_in c p k + x) 0 ≡ coded_at c planes p (left_of c p k + x) (top_of c p r + y)) → Shown (record { plane = p; y = y })
+    by_column y p beside own zero x inside small = own zero x inside small (omega arith)
+    by_column y p beside own (suc j) x inside small = elim (cases_lt x (shared_of (across (division_of c) p) (suc j))) [
+      | inl shared ↦
+          let side = across (division_of c) p in
+          let w = width_in c p j in
+          let here : j < c.columns = omega (arith, inside) in
+          let some : 0 < w = (tiles p).some j here in
+          let few = (tiles p).few (suc j) inside in
+          let begins : first_of side (suc j) ≤ first_of side j + w = (tiles p).begins (suc j) inside in
+          let shares : (first_of side j + w) - first_of side (suc j) ≤ 1 = few in
+          let less : x < (first_of side j + w) - first_of side (suc j) = shared in
+          let place : left_of c p j + (w - 1) ≡ left_of c p (suc j) + x = omega (arith, some, shares, begins, less) in
+          beside j x inside shared ∙ by_column y p beside own j (w - 1) here (omega (arith, some)) ∙ ap (λ n. coded_at c planes p n (top_of c p r + y)) place
+      | inr owned ↦ own (suc j) x inside small (omega (arith, owned))
+    ]
+
+    plain_shown : (y p : ℕ) → is_rct c.colour ≡ false → ((k : ℕ) → k < c.columns → suc y * width_in c p k ≤ length (plane (slice k).cells p)) → AgreesLeft (record { plane = p; y = y }) →
         joined_line c slice y p ≡ sample_row c planes (top_of c p r + y) p → Shown (record { plane = p; y = y })
-    plain_shown y p rct there same = λ k x inside small.
-        sym (joined_at y p k x there inside small (nothing_shared p k x inside))
+    plain_shown y p rct there beside same =
+        let side = across (division_of c) p in
+        let own : (k x : ℕ) → k < c.columns → x < width_in c p k → shared_of side k ≤ x →
+        get_or (plane (slice k).cells p) (y * width_in c p k + x) 0 ≡ coded_at c planes p (left_of c p k + x) (top_of c p r + y) = λ k x inside small owned.
+        sym (joined_at y p k x there inside small owned)
         ∙ ap (λ xs. get_or xs (left_of c p k + x) 0) same
         ∙ picture_at (top_of c p r + y) p k x inside small
-        ∙ ap (λ b. if b then transformed_at c planes p (left_of c p k + x) (top_of c p r + y) else sample_at c planes p (left_of c p k + x) (top_of c p r + y)) (sym rct)
+        ∙ ap (λ b. if b then transformed_at c planes p (left_of c p k + x) (top_of c p r + y) else sample_at c planes p (left_of c p k + x) (top_of c p r + y)) (sym rct) in
+        by_column y p beside own
 
     module _ (rct : is_rct c.colour ≡ true) (alike : Alike c) (wide : (p : ℕ) → plane_width c p ≡ c.width) (few : AreFew c (plane_count c))
         (y : ℕ) (out : List (List ℕ)) (f : FinishesBy true c (map (joined_line c slice y) (range_with_len 0 (plane_count c))) out)
@@ -183,7 +221,7 @@ module _ (c : Configuration) (planes : Planes) where
       pub colours_shown : (p : ℕ) → p < plane_count c → ((k : ℕ) → k < c.columns → suc y * width_in c p k ≤ length (plane (slice k).cells p)) → Shown (record { plane = p; y = y })
       colours_shown p inside there = λ k x here small.
           let place : left_of c p k + x < c.width = subst (λ n. left_of c p k + x < n) (wide p) (inside_side (across (division_of c) p) (tiles p) k x here small) in
-          sym (joined_at y p k x there here small (nothing_shared p k x here))
+          sym (joined_at y p k x there here small (nothing_shared alike p k x here))
           ∙ transformed p (left_of c p k + x) inside place
           ∙ ap (λ b. if b then transformed_at c planes p (left_of c p k + x) (top_of c p r + y) else sample_at c planes p (left_of c p k + x) (top_of c p r + y)) (sym rct)
 
@@ -196,42 +234,62 @@ module _ (c : Configuration) (planes : Planes) where
       made_lines y made ips lines.1,
     )
 
-    all_plain : (y i : ℕ) (out : List (List ℕ)) (ps : List ℕ) → is_rct c.colour ≡ false → Each IsThere (lines_at ps y) →
+    all_plain : (y i : ℕ) (out : List (List ℕ)) (ps : List ℕ) → is_rct c.colour ≡ false → Each IsThere (lines_at ps y) → Each AgreesLeft (lines_at ps y) →
         Each (λ (ip : ℕ × ℕ). get_or out ip.0 [] ≡ joined_line c slice y ip.1) (numbered i ps) →
         Each (λ (ip : ℕ × ℕ). get_or out ip.0 [] ≡ sample_row c planes (top_of c ip.1 r + y) ip.1) (numbered i ps) → Each Shown (lines_at ps y)
-    all_plain y i out [] rct there same lines = tt
-    all_plain y i out (p ∷ ps) rct there same lines =
-        (plain_shown y p rct there.0 (sym same.0 ∙ lines.0), all_plain y (suc i) out ps rct there.1 same.1 lines.1)
+    all_plain y i out [] rct there beside same lines = tt
+    all_plain y i out (p ∷ ps) rct there beside same lines =
+        (plain_shown y p rct there.0 beside.0 (sym same.0 ∙ lines.0), all_plain y (suc i) out ps rct there.1 beside.1 same.1 lines.1)
 
     all_colours : (ps : List ℕ) (y : ℕ) → Each (λ p. p < plane_count c) ps → Each IsThere (lines_at ps y) →
         ((p : ℕ) → p < plane_count c → ((k : ℕ) → k < c.columns → suc y * width_in c p k ≤ length (plane (slice k).cells p)) → Shown (record { plane = p; y = y })) → Each Shown (lines_at ps y)
     all_colours [] y inside there shown = tt
     all_colours (p ∷ ps) y inside there shown = (shown p inside.0 there.0, all_colours ps y inside.1 there.1 shown)
 
-    group_shown : InRct c → (rct : Bool) → is_rct c.colour ≡ rct → (g : Group) (made : List (List ℕ)) → IsGroup c r g → Each IsThere (group_lines g) →
+    group_shown : InRct c → (rct : Bool) → is_rct c.colour ≡ rct → (g : Group) (made : List (List ℕ)) → IsGroup c r g → Each IsThere (group_lines g) → Each AgreesLeft (group_lines g) →
         FinishesBy rct c (map (joined_line c slice g.y) g.planes) made →
         Each (λ (ip : ℕ × ℕ). get_or made ip.0 [] ≡ sample_row c planes (top_of c ip.1 r + g.y) ip.1) (numbered 0 g.planes) → Each Shown (group_lines g)
-    group_shown in_rct true e g made is there f lines =
+    group_shown in_rct true e g made is there beside f lines =
         let own : (p : ℕ) → p < plane_count c → get_or made p [] ≡ sample_row c planes (top_of c p r + g.y) p = λ p inside.
         at_own (λ (ip : ℕ × ℕ). get_or made ip.0 [] ≡ sample_row c planes (top_of c ip.1 r + g.y) ip.1) 0 (plane_count c) p (omega arith) (omega (arith, inside))
         (subst (λ ps. Each (λ (ip : ℕ × ℕ). get_or made ip.0 [] ≡ sample_row c planes (top_of c ip.1 r + g.y) ip.1) (numbered 0 ps)) (is.rct e) lines) in
         all_colours g.planes g.y is.inside there
         (colours_shown e (in_rct.alike e) (in_rct.wide e) (in_rct.few e) g.y made (subst (λ ps. FinishesBy true c (map (joined_line c slice g.y) ps) made) (is.rct e) f) own)
-    group_shown in_rct false e g made is there f lines =
-        all_plain g.y 0 made g.planes e there
+    group_shown in_rct false e g made is there beside f lines =
+        all_plain g.y 0 made g.planes e there beside
         (subst (λ xs. Each (λ (ip : ℕ × ℕ). get_or xs ip.0 [] ≡ joined_line c slice g.y ip.1) (numbered 0 g.planes)) (sym f) (by_number (joined_line c slice g.y) [] g.planes)) lines
 
-    -- where each line is handed over
-    pub groups_shown : InRct c → ((ps : List ℕ) (y : ℕ) → new_planes c r ps y ≡ ps) → (gs : List Group) (ls : List wire.Line) → Each (IsGroup c r) gs → Each IsThere (flat_map group_lines gs) → MadeOf c r slice gs ls → Each IsLine ls →
-        Each Shown (flat_map group_lines gs)
-    groups_shown in_rct new [] ls are there made lines = tt
-    groups_shown in_rct new (g ∷ gs) ls are there made lines =
+    -- a line that the row above has handed over is shown by what slices have of it
+    abbrev pub IsOld : Line → Type 0
+    IsOld l = l.y < shared_of (down (division_of c) l.plane) r → Shown l
+
+    group_by : InRct c → (is_rct c.colour ≡ true → (p : ℕ) → shared_of (down (division_of c) p) r ≡ 0) → (rct : Bool) → is_rct c.colour ≡ rct → (g : Group) (made : List (List ℕ)) → IsGroup c r g →
+        Each IsThere (group_lines g) → Each AgreesLeft (group_lines g) → Each IsOld (group_lines g) → FinishesBy rct c (map (joined_line c slice g.y) g.planes) made →
+        Each (λ (ip : ℕ × ℕ). get_or made ip.0 [] ≡ sample_row c planes (top_of c ip.1 r + g.y) ip.1) (numbered 0 (new_planes c r g.planes g.y)) → Each Shown (group_lines g)
+    group_by in_rct flat true e g made is there beside old f lines =
+        let new = all_new c r g.planes g.y (λ p. let none = flat e p in omega (arith, none)) in
+        group_shown in_rct true e g made is there beside f (subst (λ ps. Each (λ (ip : ℕ × ℕ). get_or made ip.0 [] ≡ sample_row c planes (top_of c ip.1 r + g.y) ip.1) (numbered 0 ps)) new lines)
+    group_by in_rct flat false e g made is there beside old f lines =
+        let one = is.one e in
+        let p = one.0 in
+        elim (cases_lt g.y (shared_of (down (division_of c) p) r)) [
+          | inl shared ↦ subst (λ ps. Each Shown (lines_at ps g.y)) (sym one.1) ((subst (λ ps. Each IsOld (lines_at ps g.y)) one.1 old).0 shared, tt)
+          | inr fresh ↦
+              let new : new_planes c r g.planes g.y ≡ g.planes = ap (λ ps. new_planes c r ps g.y) one.1 ∙ new_one c r p g.y (omega (arith, fresh)) ∙ sym one.1 in
+              group_shown in_rct false e g made is there beside f (subst (λ ps. Each (λ (ip : ℕ × ℕ). get_or made ip.0 [] ≡ sample_row c planes (top_of c ip.1 r + g.y) ip.1) (numbered 0 ps)) new lines)
+        ]
+
+    pub groups_shown : InRct c → (is_rct c.colour ≡ true → (p : ℕ) → shared_of (down (division_of c) p) r ≡ 0) → (gs : List Group) (ls : List wire.Line) → Each (IsGroup c r) gs →
+        Each IsThere (flat_map group_lines gs) → Each AgreesLeft (flat_map group_lines gs) → Each IsOld (flat_map group_lines gs) → MadeOf c r slice gs ls → Each IsLine ls → Each Shown (flat_map group_lines gs)
+    groups_shown in_rct flat [] ls are there beside old made lines = tt
+    groups_shown in_rct flat (g ∷ gs) ls are there beside old made lines =
         let ips = numbered 0 (new_planes c r g.planes g.y) in
         let here = map (handed c r g.y made.0) ips in
         let f = made.2 in
         let all : Each IsLine (here ++ made.1) = subst (Each IsLine) made.4 lines in
-        each_append Shown (group_lines g) (flat_map group_lines gs)
-        (group_shown in_rct (is_rct c.colour) refl g f.made are.0 (each_left IsThere (group_lines g) (flat_map group_lines gs) there) f.by
-        (subst (λ ps. Each (λ (ip : ℕ × ℕ). get_or f.made ip.0 [] ≡ sample_row c planes (top_of c ip.1 r + g.y) ip.1) (numbered 0 ps)) (new g.planes g.y)
-        (made_lines g.y f.made ips (subst (λ out. Each IsLine (map (handed c r g.y out) ips)) f.bytes (each_left IsLine here made.1 all)))))
-        (groups_shown in_rct new gs made.1 are.1 (each_right IsThere (group_lines g) (flat_map group_lines gs) there) made.3 (each_right IsLine here made.1 all))
+        let gl = group_lines g in
+        let rest = flat_map group_lines gs in
+        each_append Shown gl rest
+        (group_by in_rct flat (is_rct c.colour) refl g f.made are.0 (each_left IsThere gl rest there) (each_left AgreesLeft gl rest beside) (each_left IsOld gl rest old) f.by
+        (made_lines g.y f.made ips (subst (λ out. Each IsLine (map (handed c r g.y out) ips)) f.bytes (each_left IsLine here made.1 all))))
+        (groups_shown in_rct flat gs made.1 are.1 (each_right IsThere gl rest there) (each_right AgreesLeft gl rest beside) (each_right IsOld gl rest old) made.3 (each_right IsLine here made.1 all))

@@ -85,7 +85,10 @@ module _ (a : Accepted) (coded : ℕ → List ℕ) where
     | inl stop ↦ own_by f.fault fault.SymbolTooLong (ap (λ (z : FrameFault). z.fault) stop.3) refl
     | inr looked ↦ elim looked [
       | inl over ↦ own_by f.fault fault.Overread (ap (λ (z : FrameFault). z.fault) over.3) refl
-      | inr late ↦ own_by f.fault fault.Ending (ap (λ (z : FrameFault). z.fault) late.3) refl
+      | inr later ↦ elim later [
+        | inl late ↦ own_by f.fault fault.Ending (ap (λ (z : FrameFault). z.fault) late.3) refl
+        | inr differs ↦ own_by f.fault fault.Overlap (ap (λ (z : FrameFault). z.fault) differs.4) refl
+      ]
     ]
   ]
   event_own s t (Finish r planes y) f h = own_by f.fault fault.Colour (ap (λ (z : FrameFault). z.fault) h.4) refl

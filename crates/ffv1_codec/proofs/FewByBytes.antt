@@ -1,5 +1,5 @@
 -- In Wide few decisions are made for the coded bytes of a payload, wherever decoding stands.
-use Rattle.std.proofs.Common.{◌≡◌, ℕ, zero, suc, ◌+◌, ◌-◌, ◌*◌, ◌/◌, ◌^◌, ◌<◌, ◌≤◌, max, true, List, ◌++◌, length, drop, ap, ◌∙◌, arith, length-append, mul_assoc}
+use Rattle.std.proofs.Common.{◌≡◌, refl, ℕ, zero, suc, ◌+◌, ◌-◌, ◌*◌, ◌/◌, ◌^◌, ◌<◌, ◌≤◌, max, true, List, ◌++◌, length, drop, ap, ◌∙◌, arith, length-append, mul_assoc}
 use Rattle.std.specs.List.{range_with_len}
 use Rattle.std.proofs.Math.Nat.{mul-le-mul_left, le-max_left, le-max_right}
 use Rattle.std.proofs.Math.Pow.{pow_pos}
@@ -144,7 +144,7 @@ module _ (a : Accepted) (payload : List ℕ) (spans : ℕ → ℕ) (each most : 
   all_rows = range_with_len 0 a.configuration.rows
 
   across_row : total (λ k. width_in a.configuration 0 k) all_columns ≡ a.configuration.width
-  across_row = total_parts (across (division_of a.configuration) 0) (tiles_h 0) ∙ reduced_none a.configuration.width
+  across_row = total_parts (across (division_of a.configuration) 0) (tiles_h 0) ((tiles_h 0).flat refl) ∙ reduced_none a.configuration.width
 
   row_sum : (r : ℕ) → total (λ k. each * sizes r k + most + 63 * width_in a.configuration 0 k) all_columns ≡ each * total (sizes r) all_columns + (most * a.configuration.columns + 63 * a.configuration.width)
   row_sum r =

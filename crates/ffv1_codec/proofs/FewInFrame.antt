@@ -190,9 +190,14 @@ module _ (a : Accepted) (coded : ℕ → List ℕ) (slice_most : ℕ → ℕ →
             | inl over ↦
                 let next = after_line q (steps_of_line a coded q p (width_in c p i) y over.0 over.1) p over.1 in
                 refused_at s t i next kind.1 l over.4 (laws.overread r i p y q over.0 over.1 kind.1 kind.2 kind.3 (l.few i kind.1) over.2)
-            | inr late ↦
-                let next = after_line q (steps_of_line a coded q p (width_in c p i) y late.0 late.1) p late.1 in
-                refused_at s t i next kind.1 l late.4 (laws.overread r i p y q late.0 late.1 kind.1 kind.2 kind.3 (l.few i kind.1) late.2)
+            | inr later ↦ elim later [
+              | inl late ↦
+                  let next = after_line q (steps_of_line a coded q p (width_in c p i) y late.0 late.1) p late.1 in
+                  refused_at s t i next kind.1 l late.4 (laws.overread r i p y q late.0 late.1 kind.1 kind.2 kind.3 (l.few i kind.1) late.2)
+              | inr differs ↦
+                  let next = after_line q (steps_of_line a coded q p (width_in c p i) y differs.0 differs.1) p differs.1 in
+                  refused_at s t i next kind.1 l differs.5 (laws.overread r i p y q differs.0 differs.1 kind.1 kind.2 kind.3 (l.few i kind.1) differs.3)
+            ]
           ]
         ]
     line_fault s t (Finish j planes y) f kind l h = line_bounded t (line_same s t (ap (λ (z : State). z.done) h.5) (ap (λ (z : State). z.columns) h.5) l)

@@ -1,5 +1,5 @@
 -- Where the bytes of all slices code a picture, decoding runs to its end.
-use Rattle.std.proofs.Common.{◌≡◌, ◌≢◌, refl, ℕ, zero, suc, ◌+◌, ◌*◌, ◌<◌, ◌≤◌, ◌⊎◌, Option, Some, None, List, [], ◌∷◌, ◌++◌, map, length, replicate, inl, inr, ap, sym, subst, ◌∙◌, arith, append-nil, append_assoc, length-set, get_or-set_same, get_or-set_other}
+use Rattle.std.proofs.Common.{◌≡◌, ◌≢◌, refl, ℕ, zero, suc, ◌+◌, ◌-◌, ◌*◌, ◌<◌, ◌≤◌, ◌⊎◌, Option, Some, None, List, [], ◌∷◌, ◌++◌, map, length, replicate, inl, inr, ap, sym, subst, ◌∙◌, arith, append-nil, append_assoc, length-append, get_or, get_or-append-add, length-set, get_or-set_same, get_or-set_other}
 use Rattle.std.specs.List.{flat_map, range_with_len}
 use Rattle.std.proofs.lemmas.Bool.{cases_eq}
 use Rattle.std.proofs.lemmas.List.{length-replicate}
@@ -11,14 +11,14 @@ use Rattle.ffv1_slice.specs.declared.head.SliceHead.{SliceHead}
 use Rattle.ffv1_slice.specs.Grid.{across, division_of, whole_of}
 use Rattle.ffv1_slice.specs.Head.{IsHead, CodesHead, key_steps, head_steps}
 use Rattle.ffv1_codec.specs.Sides.{HasPart}
-use Rattle.ffv1_codec.specs.Picture.{Planes, IsPicture, plane_count}
+use Rattle.ffv1_codec.specs.Picture.{Planes, IsPicture, plane, plane_count, coded_at}
 use Rattle.ffv1_codec.specs.SliceList.{Said, said_by, IsBody}
 use Rattle.ffv1_codec.specs.Order.{row_events, series_events, series_of, lines_down}
 use Rattle.ffv1_codec.specs.Order.Event.{Open, Close}
 use Rattle.ffv1_codec.specs.Runs.{Runs}
 use Rattle.ffv1_codec.specs.Lines.{lines_of, lines_of_series}
-use Rattle.ffv1_codec.specs.Decoding.{State, Slice, StepsBy, AgreesWith, Decodes, at_first, slice_at, slice_number, width_in, put_slice, opened, unread}
-use Rattle.ffv1_codec.proofs.Machines.{runs_append}
+use Rattle.ffv1_codec.specs.Decoding.{State, Slice, StepsBy, AgreesWith, Decodes, at_first, slice_at, slice_number, width_in, left_of, top_of, put_slice, opened, unread}
+use Rattle.ffv1_codec.proofs.Machines.{Each, runs_append}
 use Rattle.ffv1_codec.proofs.LinesRead.{row_lines}
 use Rattle.ffv1_codec.proofs.Groups.{groups_of, group_lines, group_out, groups_are, row_by_groups, lines_by_groups, out_by_groups}
 use Rattle.ffv1_codec.proofs.LinesMade.{AllHave}
@@ -27,7 +27,9 @@ use Rattle.ffv1_codec.proofs.Keys.{rows_of_lines}
 use Rattle.ffv1_codec.proofs.PictureLines.{ColourLaws}
 use Rattle.ffv1_codec.proofs.PictureMade.{PictureLaws, alike_lines, some_wide}
 use Rattle.ffv1_codec.proofs.SlicesRead.{FrontLaws, Coding, cell_at}
-use Rattle.ffv1_codec.proofs.RowsRead.{Standing, AllStand, groups_go}
+use Rattle.ffv1_codec.proofs.RowsRead.{Standing, AllStand, AboveShows, line_shown, groups_go}
+use Rattle.ffv1_codec.proofs.SliceBodies.{IsRead}
+use Rattle.ffv1_codec.proofs.SlicesMade.{at_line}
 use Rattle.ffv1_codec.specs.Overread.{IsWithin}
 use Rattle.ffv1_codec.proofs.TooFar.{within_front}
 use Rattle.ffv1_codec.proofs.SliceEnds.{ending_within}
@@ -158,11 +160,15 @@ module _ (a : Accepted) (coded : ℕ → List ℕ) (planes : Planes) (info : Sai
       pub runs : Runs (StepsBy a coded) s (row_events a.configuration r) end
       pub lines : end.lines ≡ s.lines ++ flat_map (lines_of_series a.configuration planes r) (series_of a.configuration r)
       pub says : end.info ≡ Some info
+      pub deep : length end.done ≡ suc r * a.configuration.columns
+      pub shows : (k p x : ℕ) → k < a.configuration.columns → p < plane_count a.configuration → x < width_in a.configuration p k →
+          get_or (plane (get_or end.done (slice_number a.configuration r k) unread).cells p) ((lines_down a.configuration p r - 1) * width_in a.configuration p k + x) 0
+          ≡ coded_at a.configuration planes p (left_of a.configuration p k + x) (top_of a.configuration p r + (lines_down a.configuration p r - 1))
       pub columns : end.columns ≡ replicate a.configuration.columns unread
 
     pub row_goes : IsPicture a.configuration planes → ((p x : ℕ) → x < whole_of (across (division_of a.configuration) p) → HasPart (across (division_of a.configuration) p) x) → ColourLaws → r < a.configuration.rows →
-        (s : State) → s.columns ≡ replicate a.configuration.columns unread → MaySay s.info → RowGoes s
-    row_goes picture part colours inside s fresh may =
+        (s : State) → s.columns ≡ replicate a.configuration.columns unread → MaySay s.info → length s.done ≡ r * a.configuration.columns → AboveShows a coded planes info r s.done → RowGoes s
+    row_goes picture part colours inside s fresh may deep above =
         let c = a.configuration in
         let long : length s.columns ≡ c.columns = ap (λ qs. length qs) fresh ∙ length-replicate {A = Slice} c.columns unread in
         let open_all = opens_go 0 c.columns s (omega arith) long may in
@@ -174,9 +180,12 @@ module _ (a : Accepted) (coded : ℕ → List ℕ) (planes : Planes) (info : Sai
         let groups = groups_are c r (λ rct p. alike_lines a laws rct p r) in
         let stand : AllStand a coded planes info r (λ k. flat_map group_lines gs) o = λ k inside.
         subst (λ ls. Standing a coded planes info r k ls (slice_at o k)) (lines_by_groups c r) (open_all.stand k (omega arith) (omega (arith, inside))) in
-        let go = groups_go a coded planes info r laws.cells front (some_wide a laws)
-        (has_last c r (λ rct p. alike_lines a laws rct p r) (planes_some c) (λ p. (laws.tiles_v p).some r inside)) picture laws.tiles_h laws.tiles_v part colours laws.in_rct inside gs [] o groups o_long stand have in
+        let last = has_last c r (λ rct p. alike_lines a laws rct p r) (planes_some c) (λ p. (laws.tiles_v p).some r inside) in
+        let go = groups_go a coded planes info r laws.cells front (some_wide a laws) last picture laws.tiles_h laws.tiles_v part colours laws.in_rct inside gs [] o groups o_long
+        (subst (AboveShows a coded planes info r) (sym done.done) above) stand have in
         let e = go.end in
+        let e_done : length e.done ≡ r * c.columns = ap (λ (qs : List Slice). length qs) (go.done ∙ done.done) ∙ deep in
+        let e_long : length e.columns ≡ c.columns = go.long ∙ o_long in
         let closed : State = record e { done = e.done ++ e.columns; columns = replicate c.columns unread } in
         let run : Runs (StepsBy a coded) o (flat_map (series_events c r) (series_of c r)) e =
         subst (λ es. Runs (StepsBy a coded) o es e) (sym (row_by_groups c r)) go.runs in
@@ -187,6 +196,20 @@ module _ (a : Accepted) (coded : ℕ → List ℕ) (planes : Planes) (info : Sai
               (runs_append (StepsBy a coded) o e closed (flat_map (series_events c r) (series_of c r)) (Close ∷ []) run (closed, refl, refl));
           lines = go.lines ∙ ap (λ ls. ls ++ flat_map (group_out c planes r) gs) open_all.lines ∙ ap (λ ls. s.lines ++ ls) (sym (out_by_groups c planes r));
           says = go.info_same ∙ open_all.says laws.columns;
+          deep =
+              let all = length-append e.done e.columns in
+              let more : suc r * c.columns ≡ r * c.columns + c.columns = omega arith in
+              omega (arith, all, e_done, e_long, more);
+          shows = λ k p x k_inside p_inside small.
+              let w = width_in c p k in
+              let high = lines_down c p r in
+              let tall = (laws.tiles_v p).some r inside in
+              let here : get_or (e.done ++ e.columns) (slice_number c r k) unread ≡ slice_at e k =
+              ap (λ n. get_or (e.done ++ e.columns) (n + k) unread) (sym e_done) ∙ get_or-append-add {A = Slice} e.done e.columns k unread in
+              let are : Each (IsRead a coded r k (slice_at e k)) (row_lines c r) = subst (Each (IsRead a coded r k (slice_at e k))) (sym (lines_by_groups c r)) (go.have k k_inside).are in
+              let is = at_line c (IsRead a coded r k (slice_at e k)) r p (high - 1) (λ rct. alike_lines a laws rct p r) p_inside (omega (arith, tall)) are in
+              ap (λ (q : Slice). get_or (plane q.cells p) ((high - 1) * w + x) 0) here
+              ∙ line_shown a coded planes info r laws.cells front (some_wide a laws) last laws.tiles_h laws.tiles_v inside k p (high - 1) x [] (slice_at e k) k_inside p_inside (go.stand k k_inside) is small;
           columns = refl;
         }
 
@@ -208,13 +231,19 @@ module _ (a : Accepted) (coded : ℕ → List ℕ) (planes : Planes) (info : Sai
     pub says : 0 < count → end.info ≡ Some info
     pub kept : s.info ≡ Some info → end.info ≡ Some info
 
-  rows_go : (from count : ℕ) (s : State) → from + count ≤ a.configuration.rows → s.columns ≡ replicate a.configuration.columns unread → MaySay a coded planes info 0 s.info → RowsGo from count s
-  rows_go from zero s fits fresh may = record { end = s; runs = refl; lines = sym (append-nil s.lines); says = λ some. absurd (omega (arith, some)); kept = λ is. is }
-  rows_go from (suc count) s fits fresh may =
+  rows_go : (from count : ℕ) (s : State) → from + count ≤ a.configuration.rows → s.columns ≡ replicate a.configuration.columns unread → MaySay a coded planes info 0 s.info →
+      length s.done ≡ from * a.configuration.columns → AboveShows a coded planes info from s.done → RowsGo from count s
+  rows_go from zero s fits fresh may deep above = record { end = s; runs = refl; lines = sym (append-nil s.lines); says = λ some. absurd (omega (arith, some)); kept = λ is. is }
+  rows_go from (suc count) s fits fresh may deep above =
       let c = a.configuration in
       let inside : from < c.rows = omega (arith, fits) in
-      let first = row_goes a coded planes info from laws (λ k. front from k inside) (λ k. known from k inside) picture part colours inside s fresh may in
-      let rest = rows_go (from + 1) count first.end (omega (arith, fits)) first.columns (inr first.says) in
+      let first = row_goes a coded planes info from laws (λ k. front from k inside) (λ k. known from k inside) picture part colours inside s fresh may deep above in
+      let last : from + 1 - 1 ≡ from = omega arith in
+      let next : suc from * c.columns ≡ (from + 1) * c.columns = omega arith in
+      let below : AboveShows a coded planes info (from + 1) first.end.done = λ k p x any k_inside p_inside small.
+      subst (λ n. get_or (plane (get_or first.end.done (slice_number c n k) unread).cells p) ((lines_down c p n - 1) * width_in c p k + x) 0
+      ≡ coded_at c planes p (left_of c p k + x) (top_of c p n + (lines_down c p n - 1))) (sym last) (first.shows k p x k_inside p_inside small) in
+      let rest = rows_go (from + 1) count first.end (omega (arith, fits)) first.columns (inr first.says) (first.deep ∙ next) below in
       let here = flat_map (lines_of_series c planes from) (series_of c from) in
       let more = flat_map (λ r. flat_map (lines_of_series c planes r) (series_of c r)) (range_with_len (from + 1) count) in
       record {
@@ -227,5 +256,5 @@ module _ (a : Accepted) (coded : ℕ → List ℕ) (planes : Planes) (info : Sai
 
   pub frame_goes : FrameGoes a coded planes info
   frame_goes =
-      let go = rows_go 0 a.configuration.rows (at_first a.configuration) (omega arith) refl (inl refl) in
+      let go = rows_go 0 a.configuration.rows (at_first a.configuration) (omega arith) refl (inl refl) (omega arith) (λ k p x any k_inside p_inside small. absurd (omega (arith, any))) in
       record { end = go.end; decodes = go.runs; says = go.says laws.rows; lines = go.lines }

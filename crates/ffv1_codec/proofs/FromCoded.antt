@@ -7,7 +7,7 @@ use Rattle.ffv1_range.specs.Codes.{AreBytes}
 use Rattle.ffv1_line.specs.Cell.{Cell}
 use Rattle.ffv1_record.specs.Configuration.{Configuration, is_rct}
 use Rattle.ffv1_record.specs.Accepted.{Accepted}
-use Rattle.ffv1_slice.specs.Grid.{coded_of as length_in, across, division_of, whole_of}
+use Rattle.ffv1_slice.specs.Grid.{coded_of as length_in, across, down, division_of, whole_of, shared_of}
 use Rattle.ffv1_slice.specs.Cutting.{coded_of}
 use Rattle.ffv1_codec.specs.Sides.{Alike, HasPart, Sides}
 use Rattle.ffv1_codec.specs.Picture.{Planes, IsPicture, plane_width, plane_height, coded_at}
@@ -19,7 +19,7 @@ use Rattle.ffv1_codec.proofs.LinesRead.{row_lines}
 use Rattle.ffv1_codec.proofs.SliceBodies.{CellLaws}
 use Rattle.ffv1_codec.proofs.RowsDone.{SuitsFew}
 use Rattle.ffv1_codec.proofs.JoinedLines.{take_small}
-use Rattle.ffv1_codec.proofs.CellsShown.{across_alike, down_alike}
+use Rattle.ffv1_codec.proofs.CellsShown.{across_alike, down_alike, alike_down}
 use Rattle.ffv1_codec.proofs.LineFinished.{reduced_none}
 use Rattle.ffv1_codec.proofs.PictureLines.{ColourLaws}
 use Rattle.ffv1_codec.proofs.PictureMade.{PictureLaws}
@@ -36,6 +36,10 @@ high_in_rct c alike p = ap whole_of (down_alike c alike p) ∙ reduced_none c.he
 -- in RCT all planes have as many lines
 pub lines_alike : (c : Configuration) → Sides c → is_rct c.colour ≡ true → (p r : ℕ) → lines_down c p r ≡ lines_down c 0 r
 lines_alike c sides e p r = ap (λ s. length_in s r) (down_alike c (sides.rct e) p)
+
+-- and no two rows of slices have a line of a plane in common
+pub flat_rows : (c : Configuration) → Sides c → is_rct c.colour ≡ true → (p r : ℕ) → r < c.rows → shared_of (down (division_of c) p) r ≡ 0
+flat_rows c sides e p r inside = alike_down c (sides.rct e) sides.rows_tile p r inside
 
 pub picture_laws : (a : Accepted) → Sides a.configuration → CellLaws → SuitsFew → PictureLaws a
 picture_laws a sides cells few = record {

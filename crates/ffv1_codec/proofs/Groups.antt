@@ -54,6 +54,7 @@ pub record IsGroup (c : Configuration) (r : ℕ) (g : Group) : Type 0 where
   pub inside : Each (λ p. p < plane_count c) g.planes
   pub down : Each (λ p. g.y < lines_down c p r) g.planes
   pub rct : is_rct c.colour ≡ true → g.planes ≡ range_with_len 0 (plane_count c)
+  pub one : is_rct c.colour ≡ false → (p : ℕ) × (g.planes ≡ p ∷ [])
 
 groups_are_by : (c : Configuration) (r : ℕ) (rct : Bool) → is_rct c.colour ≡ rct → (is_rct c.colour ≡ true → (p : ℕ) → lines_down c p r ≡ lines_down c 0 r) →
     Each (IsGroup c r) (flat_map groups_in
@@ -65,6 +66,7 @@ groups_are_by c r true e same =
       inside = each_numbers (λ p. p < plane_count c) 0 (plane_count c) (λ p low high. omega (arith, high));
       down = each_numbers (λ p. y < lines_down c p r) 0 (plane_count c) (λ p low high. rw (same e p) (omega (arith, most)));
       rct = λ is. refl;
+      one = λ not. cc;
     }))
 groups_are_by c r false e same =
     let one : ℕ → Series = λ p. record { planes = p ∷ []; height = lines_down c p r } in
@@ -74,6 +76,7 @@ groups_are_by c r false e same =
       inside = (omega (arith, high), tt);
       down = (omega (arith, most), tt);
       rct = λ is. cc;
+      one = λ not. (p, refl);
     })))
 
 pub groups_are : (c : Configuration) (r : ℕ) → (is_rct c.colour ≡ true → (p : ℕ) → lines_down c p r ≡ lines_down c 0 r) → Each (IsGroup c r) (groups_of c r)

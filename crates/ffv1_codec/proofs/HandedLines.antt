@@ -468,7 +468,10 @@ module _ (a : Accepted) (coded : ℕ → List ℕ) (laws : PictureLaws a) where
     | inl stops ↦ ap (λ (z : State). z.lines) stops.4
     | inr looked ↦ elim looked [
       | inl far ↦ ap (λ (z : State). z.lines) far.4
-      | inr late ↦ ap (λ (z : State). z.lines) late.4
+      | inr later ↦ elim later [
+        | inl late ↦ ap (λ (z : State). z.lines) late.4
+        | inr differs ↦ ap (λ (z : State). z.lines) differs.5
+      ]
     ]
   ]
   fault_lines s t (Finish j planes y) f h = ap (λ (z : State). z.lines) h.5

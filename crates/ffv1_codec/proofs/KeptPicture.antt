@@ -6,7 +6,7 @@ use Rattle.std.proofs.lemmas.List.{ext_get_or}
 use Rattle.ffv1_wire.specs.Runs as wire
 use Rattle.ffv1_wire.specs.Runs.{Grows}
 use Rattle.ffv1_record.specs.Configuration.{Configuration, is_rct}
-use Rattle.ffv1_slice.specs.Grid.{down, division_of, whole_of}
+use Rattle.ffv1_slice.specs.Grid.{down, division_of, whole_of, shared_of}
 use Rattle.ffv1_codec.specs.Sides.{Tiles}
 use Rattle.ffv1_codec.specs.Picture.{Planes, AreOf, Fits, plane}
 use Rattle.ffv1_codec.specs.SliceList.{Line}
@@ -112,11 +112,11 @@ module _ (c : Configuration) (planes : Planes) (q z : ℕ) (inside : q < (divisi
         ]
       ]
 
-module _ (c : Configuration) (tiles : (p : ℕ) → Tiles (down (division_of c) p)) (same_lines : is_rct c.colour ≡ true → (p r : ℕ) → lines_down c p r ≡ lines_down c 0 r) where
+module _ (c : Configuration) (tiles : (p : ℕ) → Tiles (down (division_of c) p)) (flat : is_rct c.colour ≡ true → (q r : ℕ) → r < c.rows → shared_of (down (division_of c) q) r ≡ 0) (same_lines : is_rct c.colour ≡ true → (p r : ℕ) → lines_down c p r ≡ lines_down c 0 r) where
   rows_kept : (planes : Planes) (s t : Kept) → s.grid ≡ division_of c → AreOf s.grid s.planes → Grows Keeps s (lines_of c planes) t → (q z : ℕ) → q < (division_of c).planes →
       z < whole_of (down (division_of c) q) → row_of c q z t.planes ≡ row_of c q z planes
   rows_kept planes s t own are grows q z inside below =
-      let rows = rows_of_plane c q inside tiles (λ rct r. same_lines rct q r) in
+      let rows = rows_of_plane c q inside tiles flat (λ rct r. same_lines rct q r) in
       kept_from c planes q z inside below s t s.planes (keys_of c) own (subst (λ d. AreOf d s.planes) own are) (subst (λ ls. Grows Keeps s ls t) (lines_by_keys c planes) grows)
       (inr (among_rows q z (keys_of c) (subst (Has z) (sym rows) (has_range z 0 (whole_of (down (division_of c) q)) (omega arith) (omega (arith, below))))))
 

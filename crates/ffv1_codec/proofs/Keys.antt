@@ -71,11 +71,10 @@ parts_joined s tiles =
     parts.ranges ∙ ap (λ k. range_with_len k parts.many) tiles.first
     ∙ ap (range_with_len 0) (let many : parts.many ≡ whole_of s = omega (arith, parts.ends, tiles.first, end) in many)
 
--- a cell has its part of the side, since no cell has a sample of another
-pub own_lines : (s : Side) → Tiles s → (k : ℕ) → k < s.count → range_with_len (first_of s k) (coded_of s k) ≡ range_with_len (begin_of s k) (length_of s k)
-own_lines s tiles k inside =
+-- a cell has its part of the side, where it has no sample of another
+pub own_lines : (s : Side) → Tiles s → (k : ℕ) → k < s.count → shared_of s k ≡ 0 → range_with_len (first_of s k) (coded_of s k) ≡ range_with_len (begin_of s k) (length_of s k)
+own_lines s tiles k inside none =
     let begins = tiles.begins k inside in
-    let none = tiles.none k inside in
     let first : first_of s k ≡ begin_of s k = omega (arith, begins, none) in
     let long : coded_of s k ≡ length_of s k = omega (arith, begins, none) in
     ap (λ n. range_with_len n (coded_of s k)) first ∙ ap (range_with_len (begin_of s k)) long
@@ -197,13 +196,13 @@ module _ (c : Configuration) where
         ∙ range_raised (top_of c p r) (0 + (shared_of s r - 0)) (0 + coded_of s r - (0 + (shared_of s r - 0)))
         ∙ ap (λ n. range_with_len n (0 + coded_of s r - (0 + (shared_of s r - 0)))) first ∙ ap (range_with_len (begin_of s r)) long
 
-    row_by : (r : ℕ) (rct : Bool) → is_rct c.colour ≡ rct → ((q : ℕ) → Tiles (down (division_of c) q)) → r < c.rows → (is_rct c.colour ≡ true → lines_down c p r ≡ lines_down c 0 r) →
+    row_by : (r : ℕ) (rct : Bool) → is_rct c.colour ≡ rct → ((q : ℕ) → Tiles (down (division_of c) q)) → (is_rct c.colour ≡ true → (q r : ℕ) → r < c.rows → shared_of (down (division_of c) q) r ≡ 0) → r < c.rows → (is_rct c.colour ≡ true → lines_down c p r ≡ lines_down c 0 r) →
         rows_in p (flat_map (λ (s : Series). flat_map (λ y. keys_at r (new_planes c r s.planes y) y) (range_with_len 0 s.height))
         (if rct then record { planes = range_with_len 0 (plane_count c); height = lines_down c 0 r } ∷ [] else map (λ j. record { planes = j ∷ []; height = lines_down c j r }) (range_with_len 0 (plane_count c))))
         ≡ range_with_len (begin_of (down (division_of c) p) r) (length_of (down (division_of c) p) r)
-    row_by r true e tiles here same =
+    row_by r true e tiles flat here same =
         let all = range_with_len 0 (plane_count c) in
-        let none : (q : ℕ) → shared_of (down (division_of c) q) r ≡ 0 = λ q. (tiles q).none r here in
+        let none : (q : ℕ) → shared_of (down (division_of c) q) r ≡ 0 = λ q. flat e q r here in
         ap (rows_in p) (append-nil (flat_map (λ y. keys_at r (new_planes c r all y) y) (range_with_len 0 (lines_down c 0 r))))
         ∙ ap (rows_in p) (flat_same (λ y. keys_at r (new_planes c r all y) y) (keys_at r all) (range_with_len 0 (lines_down c 0 r))
         (λ y. ap (λ ps. keys_at r ps y) (all_new c r all y (λ q. let n = none q in omega (arith, n)))))
@@ -212,8 +211,8 @@ module _ (c : Configuration) where
         ∙ ap (λ n. flat_map (λ y. (top_of c p r + y) ∷ []) (range_with_len 0 n)) (sym (same e))
         ∙ range_raised (top_of c p r) 0 (lines_down c p r)
         ∙ ap (λ k. range_with_len k (lines_down c p r)) (let first : top_of c p r + 0 ≡ top_of c p r = omega arith in first)
-        ∙ own_lines (down (division_of c) p) (tiles p) r here
-    row_by r false e tiles here same =
+        ∙ own_lines (down (division_of c) p) (tiles p) r here (none p)
+    row_by r false e tiles flat here same =
         let one : ℕ → Series = λ j. record { planes = j ∷ []; height = lines_down c j r } in
         let keys : Series → List Line = λ s. flat_map (λ y. keys_at r (new_planes c r s.planes y) y) (range_with_len 0 s.height) in
         ap (rows_in p) (flat_map-map keys one (range_with_len 0 (plane_count c)))
@@ -222,10 +221,10 @@ module _ (c : Configuration) where
         ∙ new_of p r p true (eq-eqb p p refl)
         ∙ own_rows r (tiles p) here
 
-    row_rows : (r : ℕ) → ((q : ℕ) → Tiles (down (division_of c) q)) → r < c.rows → (is_rct c.colour ≡ true → lines_down c p r ≡ lines_down c 0 r) →
+    row_rows : (r : ℕ) → ((q : ℕ) → Tiles (down (division_of c) q)) → (is_rct c.colour ≡ true → (q r : ℕ) → r < c.rows → shared_of (down (division_of c) q) r ≡ 0) → r < c.rows → (is_rct c.colour ≡ true → lines_down c p r ≡ lines_down c 0 r) →
         rows_in p (row_keys r) ≡ range_with_len (begin_of (down (division_of c) p) r) (length_of (down (division_of c) p) r)
-    row_rows r tiles here same =
-        ap (rows_in p) (sym (regrouped (λ ps y. keys_at r (new_planes c r ps y) y) (series_of c r))) ∙ row_by r (is_rct c.colour) refl tiles here same
+    row_rows r tiles flat here same =
+        ap (rows_in p) (sym (regrouped (λ ps y. keys_at r (new_planes c r ps y) y) (series_of c r))) ∙ row_by r (is_rct c.colour) refl tiles flat here same
 
     -- so have those of the slices
     pub rows_of_lines : (r : ℕ) → (is_rct c.colour ≡ true → lines_down c p r ≡ lines_down c 0 r) → rows_in p (row_lines c r) ≡ range_with_len 0 (lines_down c p r)
@@ -235,14 +234,14 @@ module _ (c : Configuration) where
         ∙ own_range 0 (lines_down c p r)
 
     -- each plane has each of its rows once, from the top
-    pub rows_of_plane : ((q : ℕ) → Tiles (down (division_of c) q)) → (is_rct c.colour ≡ true → (r : ℕ) → lines_down c p r ≡ lines_down c 0 r) →
+    pub rows_of_plane : ((q : ℕ) → Tiles (down (division_of c) q)) → (is_rct c.colour ≡ true → (q r : ℕ) → r < c.rows → shared_of (down (division_of c) q) r ≡ 0) → (is_rct c.colour ≡ true → (r : ℕ) → lines_down c p r ≡ lines_down c 0 r) →
         rows_in p keys_of ≡ range_with_len 0 (plane_height c p)
-    rows_of_plane tiles same =
+    rows_of_plane tiles flat same =
         flat_flat (row_if p) row_keys (range_with_len 0 c.rows)
         ∙ flat_range_same (λ r. rows_in p (row_keys r)) (λ r. range_with_len (begin_of (down (division_of c) p) r) (length_of (down (division_of c) p) r)) 0 c.rows
         (λ r least most.
         let here : r < c.rows = omega (arith, most) in
-        row_rows r tiles here (λ e. same e r))
+        row_rows r tiles flat here (λ e. same e r))
         ∙ parts_joined (down (division_of c) p) (tiles p)
 
   keys_inside : (r : ℕ) (planes : List ℕ) (y : ℕ) → Each (λ p. p < plane_count c) planes → Each (λ (k : Line). k.plane < plane_count c) (keys_at r planes y)

@@ -9,7 +9,7 @@ use Rattle.ffv1_record.specs.Accepted.{Accepted}
 use Rattle.ffv1_codec.specs.Picture.{plane}
 use Rattle.ffv1_codec.specs.SliceList.{Line, IsBody, lines_in}
 use Rattle.ffv1_codec.specs.Order.{Event, events_of, row_events, series_events, series_of}
-use Rattle.ffv1_codec.specs.Order.Event.{Open, Read, Finish, Hand, Close}
+use Rattle.ffv1_codec.specs.Order.Event.{Open, Close}
 use Rattle.ffv1_codec.specs.Runs.{Runs}
 use Rattle.ffv1_codec.specs.Decoding.{State, Slice, StepsBy, Decodes, at_first, slice_at, slice_number, width_in, unread}
 use Rattle.ffv1_codec.specs.Answer.{slices_in, decisions_in}
@@ -20,6 +20,7 @@ use Rattle.ffv1_codec.proofs.Groups.{groups_of, groups_are, row_by_groups}
 use Rattle.ffv1_codec.proofs.ColumnSteps.{IsOfRow, columns_kept_along}
 use Rattle.ffv1_codec.proofs.SliceBodies.{HasRead}
 use Rattle.ffv1_codec.proofs.LinesMade.{AllHave, have_more, groups_of_row}
+use Rattle.ffv1_codec.proofs.Agreed.{row_keeps}
 use Rattle.ffv1_codec.proofs.RowsDone.{opens}
 use Rattle.ffv1_codec.proofs.PictureMade.{PictureLaws, alike_lines, some_wide}
 use Rattle.ffv1_codec.proofs.FromCoded.{row_and_column}
@@ -115,12 +116,7 @@ module _ (a : Accepted) (coded : ℕ → List ℕ) (laws : PictureLaws a) where
       ]
 
   pub done_kept : (r : ℕ) (es : List Event) (s t : State) → Each (IsOfRow a.configuration r) es → Runs (StepsBy a coded) s es t → t.done ≡ s.done
-  done_kept r [] s t all f = ap (λ (z : State). z.done) f
-  done_kept r (Open j k ∷ es) s t all f = absurd all.0
-  done_kept r (Read j k p y ∷ es) s t all f = done_kept r es f.0 t all.1 f.2 ∙ ap (λ (z : State). z.done) f.1.3
-  done_kept r (Finish j planes y ∷ es) s t all f = done_kept r es f.0 t all.1 f.2 ∙ ap (λ (z : State). z.done) f.1.2
-  done_kept r (Hand j i p y ∷ es) s t all f = done_kept r es f.0 t all.1 f.2 ∙ ap (λ (z : State). z.done) f.1
-  done_kept r (Close ∷ es) s t all f = absurd all.0
+  done_kept r es s t all f = row_keeps a coded r es s t all f
 
   pub above_same : (r : ℕ) (s t : State) → t.done ≡ s.done → Above r s → Above r t
   above_same r s t same above = record {

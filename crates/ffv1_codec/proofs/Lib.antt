@@ -2,6 +2,7 @@ pub mod CodedSamples
 pub mod Lines
 pub mod PlacesOnce
 pub mod NewPlanes
+pub mod Agreed
 pub mod HandedLines
 pub mod HandedAnswers
 pub mod FrameCost
@@ -28,6 +29,10 @@ mod SegmentReads
 mod Outcomes
 mod PartPlaces
 mod SegmentTied
+mod SharedColumns
+mod KeptLines
+mod KeptSeries
+mod KeptPlanes
 mod SegmentLooked
 mod ColumnsOpen
 mod RunsInRow
@@ -91,4 +96,5 @@ mod OfferedLines
 pub mod KeptPicture
 pub mod LinePlaces
 pub mod DecodeFaults
+pub mod NoOverlap
 mod SinkFaults

@@ -1,13 +1,12 @@
 -- A line that was read is what its columns have, and is above the next one.
-use Rattle.std.proofs.Common.{◌≡◌, refl, ℕ, zero, suc, ◌+◌, ◌-◌, ◌*◌, ◌^◌, ◌<◌, ◌≤◌, inl, inr, min, List, ◌++◌, length, get_or, slice_index, take, drop, ap, sym, subst, ◌∙◌, arith}
+use Rattle.std.proofs.Common.{◌≡◌, ℕ, zero, suc, ◌+◌, ◌*◌, ◌^◌, ◌<◌, ◌≤◌, inl, inr, List, ◌++◌, slice_index, take, drop, ap, sym, subst, ◌∙◌, arith}
 use Rattle.std.specs.List.{flat_map, range_with_len}
 use Rattle.std.proofs.lemmas.Bool.{cases_lt}
 use Rattle.std.proofs.lemmas.List.{drop-drop, drop-take, get_or_past, get_or-drop, length-take}
-use Rattle.std.proofs.lemmas.Grind.{same_number_lists}
 use Rattle.std.proofs.Math.Seq.{take-add}
 use Rattle.ffv1_record.specs.Configuration.{Configuration}
 use Rattle.ffv1_record.specs.Accepted.{Accepted}
-use Rattle.ffv1_line.specs.Cell.{Rolls, Above, cell_of, seen}
+use Rattle.ffv1_line.specs.Cell.{Rolls}
 use Rattle.ffv1_slice.specs.Grid.{Side, division_of, across, begin_of, length_of, first_of, coded_of, shared_of}
 use Rattle.ffv1_codec.specs.declared.decode.column.Column.{Column}
 use Rattle.ffv1_codec.specs.Picture.{plane, plane_width}
@@ -18,27 +17,10 @@ use Rattle.ffv1_codec.specs.Internal.Stands.{window}
 use Rattle.ffv1_codec.specs.Internal.Tied.{TiedColumns, TiedLine, TiedPlanes, part_of}
 use Rattle.ffv1_codec.specs.Internal.Tied.{row_slices, rolling_lines, plane_group}
 use Rattle.ffv1_codec.specs.Internal.Finished.{StandRead}
-use Rattle.ffv1_codec.proofs.WrittenParts.{window_at, window_long}
+use Rattle.ffv1_codec.proofs.WrittenParts.{window_at}
 use Rattle.ffv1_codec.proofs.Ranges.{joined_more}
 use Rattle.ffv1_codec.proofs.SegmentTied.{small_both}
-
--- the row above is the last one that was read
-module _ (w y : ℕ) (samples two one : List ℕ) (rolls : Rolls w samples two one (suc y)) where
-  abbrev all : Above (cell_of w samples) (suc y) two one
-  all = rolls.above (cell_of w samples) refl (record { each = λ x z h upto. refl })
-
-  at_place : (x : ℕ) → x < w → get_or one x 0 ≡ get_or samples (y * w + x) 0
-  unfolding seen
-  at_place x h =
-      let least : min x (w - 1) ≡ x = omega (arith, h) in
-      all.first.each x h ∙ ap (λ i. get_or samples (y * w + i) 0) least
-
-  pub rolled_row : one ≡ row_in w y samples
-  rolled_row =
-      let fits : y * w + w ≤ length samples = omega (arith, rolls.long) in
-      let long : length (row_in w y samples) ≡ w = window_long (y * w) w samples fits in
-      same_number_lists one (row_in w y samples) (rolls.one_long ∙ sym long)
-      (λ i h. let h : i < w = omega (arith, h, rolls.one_long) in at_place i h ∙ sym (window_at (y * w) w samples i h))
+use Rattle.ffv1_codec.proofs.SharedColumns.{rolled_row}
 
 -- the samples of a line are those of its columns
 module _ (c : Configuration) (p offset y : ℕ) (two one cur : List ℕ) (s : State) (tied : TiedLine c p offset c.columns y (rolling_lines two one cur) s) (are : AreParts (across (division_of c) p)) where

@@ -19,7 +19,7 @@ use Rattle.ffv1_codec.specs.Lines.{line_in, lines_of, lines_of_series, places_of
 use Rattle.ffv1_codec.proofs.Machines.{stops_at}
 use Rattle.ffv1_codec.proofs.FlatLists.{flat_flat, flat_same, flat_range_same, flat_none, map_flat}
 use Rattle.ffv1_codec.proofs.Keys.{parts_joined, own_lines}
-use Rattle.ffv1_codec.proofs.CellsShown.{down_alike}
+use Rattle.ffv1_codec.proofs.CellsShown.{down_alike, alike_down}
 use Rattle.ffv1_codec.proofs.NewPlanes.{all_new}
 use Rattle.ffv1_codec.proofs.LineFinished.{reduced_none}
 
@@ -130,7 +130,10 @@ module _ (a : Accepted) (coded : ℕ → List ℕ) where
     | inl stop ↦ ap (λ (z : State). places z) stop.4
     | inr looked ↦ elim looked [
       | inl over ↦ ap (λ (z : State). places z) over.4
-      | inr late ↦ ap (λ (z : State). places z) late.4
+      | inr later ↦ elim later [
+        | inl late ↦ ap (λ (z : State). places z) late.4
+        | inr differs ↦ ap (λ (z : State). places z) differs.5
+      ]
     ]
   ]
   fault_places s t (Finish r planes y) f h = ap (λ (z : State). places z) h.5
@@ -179,7 +182,7 @@ module _ (c : Configuration) (sides : Sides c) (rct : is_rct c.colour ≡ true) 
   row_colours : (r : ℕ) → r < c.rows → flat_map (places_of_series c r) (series_of c r) ≡ flat_map three_at (range_with_len (top_of c 0 r) (lines_down c 0 r))
   row_colours r r_inside =
       let new : (y : ℕ) → new_planes c r (range_with_len 0 (plane_count c)) y ≡ range_with_len 0 (plane_count c) = λ y.
-      all_new c r (range_with_len 0 (plane_count c)) y (λ p. let none = (sides.rows_tile p).none r r_inside in omega (arith, none)) in
+      all_new c r (range_with_len 0 (plane_count c)) y (λ p. let none = alike_down c (sides.rct rct) sides.rows_tile p r r_inside in omega (arith, none)) in
       let one : Series = record { planes = range_with_len 0 (plane_count c); height = lines_down c 0 r } in
       let others : List Series = map (λ p. record { planes = p ∷ []; height = lines_down c p r }) (range_with_len 0 (plane_count c)) in
       ap (λ b. flat_map (places_of_series c r) (if b then one ∷ [] else others)) rct
@@ -194,7 +197,7 @@ module _ (c : Configuration) (sides : Sides c) (rct : is_rct c.colour ≡ true) 
   colour_places =
       let side = down (division_of c) 0 in
       flat_range_same (λ r. flat_map (places_of_series c r) (series_of c r)) (λ r. flat_map three_at (range_with_len (begin_of side r) (length_of side r))) 0 c.rows
-      (λ r least most. row_colours r (omega (arith, most)) ∙ ap (flat_map three_at) (own_lines side (sides.rows_tile 0) r (omega (arith, most))))
+      (λ r least most. row_colours r (omega (arith, most)) ∙ ap (flat_map three_at) (own_lines side (sides.rows_tile 0) r (omega (arith, most)) ((sides.rows_tile 0).flat refl r (omega (arith, most)))))
       ∙ sym (flat_flat three_at (λ r. range_with_len (begin_of side r) (length_of side r)) (range_with_len 0 c.rows))
       ∙ ap (flat_map three_at) (parts_joined side (sides.rows_tile 0))
       ∙ ap (λ n. flat_map three_at (range_with_len 0 n)) (reduced_none c.height)

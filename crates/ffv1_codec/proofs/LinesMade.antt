@@ -55,7 +55,7 @@ row_before width y samples more long =
     ap (take width) (drop-append-le (y * width) samples more front) ∙ take-append-le width (drop (y * width) samples) more back
 
 module _ (c : Configuration) (r : ℕ) where
-  column_of_row : (planes : List ℕ) (k y : ℕ) → k < c.columns → Each (λ p. p < plane_count c) planes → Each (IsOfRow c r) (column_events r planes y k)
+  pub column_of_row : (planes : List ℕ) (k y : ℕ) → k < c.columns → Each (λ p. p < plane_count c) planes → Each (IsOfRow c r) (column_events r planes y k)
   column_of_row [] k y here inside = tt
   column_of_row (p ∷ planes) k y here inside = ((refl, here, inside.0), column_of_row planes k y here inside.1)
 
@@ -77,7 +77,7 @@ module _ (a : Accepted) (coded : ℕ → List ℕ) (r k : ℕ) where
     pub many : length q.cells ≡ plane_count a.configuration
     pub more : Longer a coded r k first q
 
-  longer_again : (q m t : Slice) → Longer a coded r k q m → Longer a coded r k m t → Longer a coded r k q t
+  pub longer_again : (q m t : Slice) → Longer a coded r k q m → Longer a coded r k m t → Longer a coded r k q t
   longer_again q m t f g = record {
     head = g.head ∙ f.head;
     many = g.many ∙ f.many;

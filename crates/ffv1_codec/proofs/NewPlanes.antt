@@ -65,3 +65,6 @@ line_new c r first (suc count) y some new = ap (λ b. if b then [] else range_wi
 pub line_old : (c : Configuration) (r first count y : ℕ) → 0 < count → y < shared_of (down (division_of c) first) r → new_planes c r (range_with_len first count) y ≡ []
 line_old c r first zero y some old = absurd (omega (arith, some))
 line_old c r first (suc count) y some old = ap (λ b. if b then [] else range_with_len first (suc count)) (lt-ltb y (shared_of (down (division_of c) first) r) old)
+
+pub new_one : (c : Configuration) (r p y : ℕ) → shared_of (down (division_of c) p) r ≤ y → new_planes c r (p ∷ []) y ≡ p ∷ []
+new_one c r p y new = ap (λ b. if b then [] else p ∷ []) (le-ltb y (shared_of (down (division_of c) p) r) new)

@@ -262,7 +262,10 @@ module _ (a : Accepted) (coded : ℕ → List ℕ) where
     | inl stop ↦ other_fault f.fault fault.SymbolTooLong (ap (λ (z : FrameFault). z.fault) stop.3) (λ e. cc)
     | inr looked ↦ elim looked [
       | inl over ↦ other_fault f.fault fault.Overread (ap (λ (z : FrameFault). z.fault) over.3) (λ e. cc)
-      | inr late ↦ other_fault f.fault fault.Ending (ap (λ (z : FrameFault). z.fault) late.3) (λ e. cc)
+      | inr later ↦ elim later [
+        | inl late ↦ other_fault f.fault fault.Ending (ap (λ (z : FrameFault). z.fault) late.3) (λ e. cc)
+        | inr differs ↦ other_fault f.fault fault.Overlap (ap (λ (z : FrameFault). z.fault) differs.4) (λ e. cc)
+      ]
     ]
   ]
   event_own s t (Finish r planes y) f h = other_fault f.fault fault.Colour (ap (λ (z : FrameFault). z.fault) h.4) (λ e. cc)

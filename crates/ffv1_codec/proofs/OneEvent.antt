@@ -1,5 +1,6 @@
 -- At each state an event makes one step at most, or is refused in one way.
-use Rattle.std.proofs.Common.{◌≡◌, ℕ, ℤ, ◌+◌, ◌<◌, ◌++◌, true, Some, List, map, length, inl, inr, ap, sym, subst, ◌∙◌}
+use Rattle.std.proofs.Common.{◌≡◌, ℕ, ℤ, ◌+◌, ◌<◌, ◌++◌, arith, slice_index, true, Some, List, map, length, inl, inr, ap, sym, subst, ◌∙◌}
+use Rattle.std.proofs.lemmas.Bool.{cases_lt}
 use Rattle.std.proofs.lemmas.List.{length-map}
 use Rattle.ffv1_range.specs.Symbols.{Step}
 use Rattle.ffv1_record.specs.Configuration.{Configuration, is_rct}
@@ -12,7 +13,7 @@ use Rattle.ffv1_codec.specs.declared.fault.FrameFault.{FrameFault}
 use Rattle.ffv1_codec.specs.SliceList.{said_by}
 use Rattle.ffv1_codec.specs.Order.{Event}
 use Rattle.ffv1_codec.specs.Order.Event.{Open, Read, Finish, Hand, Close}
-use Rattle.ffv1_codec.specs.Decoding.{State, StepsBy, FaultsWith, StopsAt, OverreadsAt, LacksEndingAt, slice_at, slice_number, width_in, left_of, top_of, put_slice, opened, after_line, after_steps, decided_in, steps_of_line, steps_of_stop, coded_line, in_slice}
+use Rattle.ffv1_codec.specs.Decoding.{State, StepsBy, FaultsWith, StopsAt, OverreadsAt, LacksEndingAt, DiffersAt, slice_at, slice_number, width_in, left_of, top_of, put_slice, opened, after_line, after_steps, decided_in, steps_of_line, steps_of_stop, coded_line, in_slice}
 use Rattle.ffv1_codec.proofs.Machines.{OneEach}
 use Rattle.ffv1_codec.proofs.OneLine.{RowLaws, one_line, line_or_stop, one_stop}
 use Rattle.ffv1_codec.proofs.OneColour.{AreFew, one_finish, finish_or_colourless, one_colourless}
@@ -73,15 +74,22 @@ module _ (a : Accepted) (coded : ℕ → List ℕ) (laws : BytesLaws a coded) wh
           subst (λ row. IsWithin a (coded n) (q.past ++ steps_of_line a coded q p width y over.0 row)) same.1
           (subst (λ qs. IsWithin a (coded n) (q.past ++ steps_of_line a coded q p width y qs g.1)) same.0 g.4) in
           not_overread a (coded n) (q.past ++ steps_of_line a coded q p width y over.0 over.1) within over.5
-      | inr late ↦
-          let n = slice_number a.configuration r k in
-          let q = slice_at s k in
-          let width = width_in a.configuration p k in
-          let same = one_line a coded n (laws.rows n) p width y (laws.wide p k kind) q g.0 late.0 g.1 late.1 g.2 late.2 in
-          let ending : HasEnding a (coded n) (q.past ++ steps_of_line a coded q p width y late.0 late.1) =
-          subst (λ row. HasEnding a (coded n) (q.past ++ steps_of_line a coded q p width y late.0 row)) same.1
-          (subst (λ qs. HasEnding a (coded n) (q.past ++ steps_of_line a coded q p width y qs g.1)) same.0 (g.5 late.6)) in
-          ends_or_lacks a (coded n) (q.past ++ steps_of_line a coded q p width y late.0 late.1) ending late.7
+      | inr later ↦ elim later [
+        | inl late ↦
+            let n = slice_number a.configuration r k in
+            let q = slice_at s k in
+            let width = width_in a.configuration p k in
+            let same = one_line a coded n (laws.rows n) p width y (laws.wide p k kind) q g.0 late.0 g.1 late.1 g.2 late.2 in
+            let ending : HasEnding a (coded n) (q.past ++ steps_of_line a coded q p width y late.0 late.1) =
+            subst (λ row. HasEnding a (coded n) (q.past ++ steps_of_line a coded q p width y late.0 row)) same.1
+            (subst (λ qs. HasEnding a (coded n) (q.past ++ steps_of_line a coded q p width y qs g.1)) same.0 (g.5 late.6)) in
+            ends_or_lacks a (coded n) (q.past ++ steps_of_line a coded q p width y late.0 late.1) ending late.7
+        | inr differs ↦
+            let n = slice_number a.configuration r k in
+            let width = width_in a.configuration p k in
+            let same = one_line a coded n (laws.rows n) p width y (laws.wide p k kind) (slice_at s k) g.0 differs.0 g.1 differs.1 g.2 differs.3 in
+            differs.11 (ap (λ row. slice_index row differs.2) (sym same.1) ∙ g.6 differs.2 differs.9 differs.7 differs.10)
+      ]
     ]
   ]
   apart s x z (Finish r planes y) f kind g h =
@@ -146,6 +154,53 @@ module _ (a : Accepted) (coded : ℕ → List ℕ) (laws : BytesLaws a coded) wh
       (subst (λ qs. IsWithin a (coded n) (q.past ++ steps_of_line a coded q p width y qs j.1)) same.0 j.5) in
       not_overread a (coded n) (q.past ++ steps_of_line a coded q p width y h.0 h.1) within h.5
 
+  -- the place of the first sample that differs is one
+  differs_same : (s x z : State) (r k p y : ℕ) (f g : FrameFault) → k < a.configuration.columns → DiffersAt a coded s r k p y f x → DiffersAt a coded s r k p y g z → (f ≡ g) × (x ≡ z)
+  differs_same s x z r k p y f g kind h j =
+      let n = slice_number a.configuration r k in
+      let q = slice_at s k in
+      let width = width_in a.configuration p k in
+      let same = one_line a coded n (laws.rows n) p width y (laws.wide p k kind) q h.0 j.0 h.1 j.1 h.3 j.3 in
+      let here : h.2 ≡ j.2 = elim (cases_lt h.2 j.2) [
+        | inl sooner ↦ absurd (h.11 (ap (λ row. slice_index row h.2) same.1 ∙ j.8 h.2 h.9 sooner h.10))
+        | inr other ↦ elim (cases_lt j.2 h.2) [
+          | inl later ↦ absurd (j.11 (ap (λ row. slice_index row j.2) (sym same.1) ∙ h.8 j.2 j.9 later j.10))
+          | inr rest ↦ omega (arith, other, rest)
+        ]
+      ] in
+      let place : ℕ → FrameFault = λ i. record {
+        fault = fault.Overlap;
+        slice = n;
+        plane = p;
+        line = top_of a.configuration p r + y;
+        x = left_of a.configuration p k + i;
+      } in
+      let after : List ℤ → List ℕ → State = λ qs row. put_slice s k (after_line q (steps_of_line a coded q p width y qs row) p row) in
+      (h.4 ∙ ap place here ∙ sym j.4, h.5 ∙ ap (λ qs. after qs h.1) same.0 ∙ ap (after j.0) same.1 ∙ sym j.5)
+
+  stop_or_differs : (s x z : State) (r k p y : ℕ) (f g : FrameFault) → k < a.configuration.columns → StopsAt a coded s r k p y f x → DiffersAt a coded s r k p y g z → ⊥
+  stop_or_differs s x z r k p y f g kind h j =
+      let n = slice_number a.configuration r k in
+      line_or_stop a coded n (laws.rows n) p (width_in a.configuration p k) y (laws.wide p k kind) (slice_at s k) j.0 h.0 j.1 h.1 j.3 h.2
+
+  over_or_differs : (s x z : State) (r k p y : ℕ) (f g : FrameFault) → k < a.configuration.columns → OverreadsAt a coded s r k p y f x → DiffersAt a coded s r k p y g z → ⊥
+  over_or_differs s x z r k p y f g kind h j =
+      let n = slice_number a.configuration r k in
+      let q = slice_at s k in
+      let width = width_in a.configuration p k in
+      let same = one_line a coded n (laws.rows n) p width y (laws.wide p k kind) q j.0 h.0 j.1 h.1 j.3 h.2 in
+      let within : IsWithin a (coded n) (q.past ++ steps_of_line a coded q p width y h.0 h.1) =
+      subst (λ row. IsWithin a (coded n) (q.past ++ steps_of_line a coded q p width y h.0 row)) same.1
+      (subst (λ qs. IsWithin a (coded n) (q.past ++ steps_of_line a coded q p width y qs j.1)) same.0 j.6) in
+      not_overread a (coded n) (q.past ++ steps_of_line a coded q p width y h.0 h.1) within h.5
+
+  late_or_differs : (s x z : State) (r k p y : ℕ) (f g : FrameFault) → k < a.configuration.columns → LacksEndingAt a coded s r k p y f x → DiffersAt a coded s r k p y g z → ⊥
+  late_or_differs s x z r k p y f g kind h j =
+      let n = slice_number a.configuration r k in
+      let width = width_in a.configuration p k in
+      let same = one_line a coded n (laws.rows n) p width y (laws.wide p k kind) (slice_at s k) h.0 j.0 h.1 j.1 h.2 j.3 in
+      j.11 (ap (λ row. slice_index row j.2) (sym same.1) ∙ h.8 j.2 j.9 j.7 j.10)
+
   fault_same : (s x z : State) (e : Event) (f g : FrameFault) → IsEvent a.configuration e → FaultsWith a coded s e f x → FaultsWith a coded s e g z → (f ≡ g) × (x ≡ z)
   fault_same s x z (Open r k) f g kind h j =
       let n = slice_number a.configuration r k in
@@ -158,7 +213,10 @@ module _ (a : Accepted) (coded : ℕ → List ℕ) (laws : BytesLaws a coded) wh
       | inl other ↦ stop_same s x z r k p y f g kind stop other
       | inr looked ↦ elim looked [
         | inl over ↦ absurd (stop_or_over s x z r k p y f g kind stop over)
-        | inr late ↦ absurd (stop_or_late s x z r k p y f g kind stop late)
+        | inr later ↦ elim later [
+          | inl late ↦ absurd (stop_or_late s x z r k p y f g kind stop late)
+          | inr differs ↦ absurd (stop_or_differs s x z r k p y f g kind stop differs)
+        ]
       ]
     ]
     | inr looked ↦ elim looked [
@@ -166,14 +224,32 @@ module _ (a : Accepted) (coded : ℕ → List ℕ) (laws : BytesLaws a coded) wh
         | inl stop ↦ absurd (stop_or_over s z x r k p y g f kind stop over)
         | inr more ↦ elim more [
           | inl other ↦ over_same s x z r k p y f g kind over other
-          | inr late ↦ absurd (over_or_late s x z r k p y f g kind over late)
+          | inr later ↦ elim later [
+            | inl late ↦ absurd (over_or_late s x z r k p y f g kind over late)
+            | inr differs ↦ absurd (over_or_differs s x z r k p y f g kind over differs)
+          ]
         ]
       ]
-      | inr late ↦ elim j [
-        | inl stop ↦ absurd (stop_or_late s z x r k p y g f kind stop late)
-        | inr more ↦ elim more [
-          | inl over ↦ absurd (over_or_late s z x r k p y g f kind over late)
-          | inr other ↦ late_same s x z r k p y f g kind late other
+      | inr last ↦ elim last [
+        | inl late ↦ elim j [
+          | inl stop ↦ absurd (stop_or_late s z x r k p y g f kind stop late)
+          | inr more ↦ elim more [
+            | inl over ↦ absurd (over_or_late s z x r k p y g f kind over late)
+            | inr later ↦ elim later [
+              | inl other ↦ late_same s x z r k p y f g kind late other
+              | inr differs ↦ absurd (late_or_differs s x z r k p y f g kind late differs)
+            ]
+          ]
+        ]
+        | inr differs ↦ elim j [
+          | inl stop ↦ absurd (stop_or_differs s z x r k p y g f kind stop differs)
+          | inr more ↦ elim more [
+            | inl over ↦ absurd (over_or_differs s z x r k p y g f kind over differs)
+            | inr later ↦ elim later [
+              | inl late ↦ absurd (late_or_differs s z x r k p y g f kind late differs)
+              | inr other ↦ differs_same s x z r k p y f g kind differs other
+            ]
+          ]
         ]
       ]
     ]

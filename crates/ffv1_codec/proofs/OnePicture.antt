@@ -7,7 +7,7 @@ use Rattle.std.proofs.Math.Seq.{take-add}
 use Rattle.ffv1_wire.specs.Runs as wire
 use Rattle.ffv1_samples.specs.Samples.{sample_bytes}
 use Rattle.ffv1_record.specs.Configuration.{Configuration, is_rct}
-use Rattle.ffv1_slice.specs.Grid.{down, division_of}
+use Rattle.ffv1_slice.specs.Grid.{down, division_of, shared_of}
 use Rattle.ffv1_codec.specs.Picture.{Planes, AreOf, Fits, plane, plane_count, plane_width, plane_height, line_bytes}
 use Rattle.ffv1_codec.specs.SliceList.{Line}
 use Rattle.ffv1_codec.specs.Decoding.{row_in}
@@ -66,13 +66,13 @@ plane_by_rows c planes fits p inside =
     ∙ ap (λ n. take (height * width) (drop n xs)) (let none : 0 * width ≡ 0 = omega arith in none)
     ∙ take_all (height * width) xs (omega (arith, long))
 
-module _ (c : Configuration) (tiles : (p : ℕ) → Tiles (down (division_of c) p)) (same_lines : is_rct c.colour ≡ true → (p r : ℕ) → lines_down c p r ≡ lines_down c 0 r) where
+module _ (c : Configuration) (tiles : (p : ℕ) → Tiles (down (division_of c) p)) (flat : is_rct c.colour ≡ true → (q r : ℕ) → r < c.rows → shared_of (down (division_of c) q) r ≡ 0) (same_lines : is_rct c.colour ≡ true → (p r : ℕ) → lines_down c p r ≡ lines_down c 0 r) where
   -- a plane is the samples of its lines
   plane_of_lines : (planes : Planes) → AreOf (division_of c) planes → (p : ℕ) → p < plane_count c → samples_in p (lines_of c planes) ≡ plane planes p
   plane_of_lines planes fits p inside =
       ap (samples_in p) (lines_by_keys c planes)
       ∙ rows_are c planes p (keys_of c)
-      ∙ ap (flat_map (row c planes p)) (rows_of_plane c p inside tiles (λ rct r. same_lines rct p r))
+      ∙ ap (flat_map (row c planes p)) (rows_of_plane c p inside tiles flat (λ rct r. same_lines rct p r))
       ∙ plane_by_rows c planes fits p inside
 
   -- planes with the same lines are the same
@@ -108,4 +108,4 @@ module _ (c : Configuration) (tiles : (p : ℕ) → Tiles (down (division_of c) 
       rows_filtered p (lines_of c planes)
       ∙ ap (λ ls. rows_in p (map key_of ls)) (lines_by_keys c planes)
       ∙ ap (rows_in p) (own_keys planes (keys_of c))
-      ∙ rows_of_plane c p inside tiles (λ rct r. same_lines rct p r)
+      ∙ rows_of_plane c p inside tiles flat (λ rct r. same_lines rct p r)

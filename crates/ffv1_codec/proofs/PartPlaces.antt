@@ -18,11 +18,9 @@ module _ (s : Side) (are : AreParts s) where
       let h = rises_by (k - j) j (omega (arith, less, upto)) in
       subst (λ n. begin_of s j ≤ begin_of s n) same h
 
-  -- a cell ends at or before a later one begins
-  pub before : (j k : ℕ) → j < k → k < s.count → first_of s j + coded_of s j ≤ first_of s k
-  before j k less here =
-      let h : first_of s j + coded_of s j ≤ begin_of s k = rises (suc j) k (omega (arith, less)) (omega (arith, here)) in
-      omega (arith, h, are.begins k here, are.none k here)
+  -- a cell ends at or before the own part of a later one begins
+  pub before : (j k : ℕ) → j < k → k < s.count → first_of s j + coded_of s j ≤ begin_of s k
+  before j k less here = rises (suc j) k (omega (arith, less)) (omega (arith, here))
 
   -- and within the whole
   pub inside : (k : ℕ) → k < s.count → first_of s k + coded_of s k ≤ s.size

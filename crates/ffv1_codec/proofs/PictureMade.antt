@@ -15,7 +15,7 @@ use Rattle.ffv1_codec.specs.Sides.{Tiles}
 use Rattle.ffv1_codec.specs.Picture.{Planes, AreOf, IsPicture, plane, plane_count, plane_width, plane_height, line_bytes}
 use Rattle.ffv1_codec.specs.SliceList.{Line, Said}
 use Rattle.ffv1_codec.specs.Order.{lines_down}
-use Rattle.ffv1_codec.specs.Decoding.{row_in, width_in}
+use Rattle.ffv1_codec.specs.Decoding.{Slice, row_in, width_in}
 use Rattle.ffv1_codec.specs.Lines.{lines_of}
 use Rattle.ffv1_codec.proofs.Machines.{each_both, Each, each_append}
 use Rattle.ffv1_codec.proofs.LinesRead.{row_lines}
@@ -27,7 +27,7 @@ use Rattle.ffv1_codec.proofs.Keys.{keys_of, row_keys, line_of, lines_by_keys, ma
 use Rattle.ffv1_codec.proofs.JoinedLines.{joined_small}
 use Rattle.ffv1_codec.proofs.Words.{none_samples}
 use Rattle.ffv1_codec.proofs.LineSizes.{IsSized, IsThere, sized_groups, each_back}
-use Rattle.ffv1_codec.proofs.CellsShown.{InRct, down_alike, IsLine}
+use Rattle.ffv1_codec.proofs.CellsShown.{InRct, down_alike, alike_down, IsLine}
 
 turned : (b w h : ℕ) → h * (b * w) ≡ b * (w * h)
 turned b w h = omega arith
@@ -58,8 +58,8 @@ module _ (a : Accepted) (laws : PictureLaws a) where
     abbrev pub Part : ℕ → List wire.Line → Type 0
     Part r ls = RowPart a coded laws.cells laws.few some_wide alike_lines r info ls
 
-    abbrev pub Rows : List ℕ → List wire.Line → Type 0
-    Rows rs ls = AllRows a coded laws.cells laws.few some_wide alike_lines info rs ls
+    abbrev pub Rows : (ℕ → Slice) → List ℕ → List wire.Line → Type 0
+    Rows above rs ls = AllRows a coded laws.cells laws.few some_wide alike_lines info above rs ls
 
     -- each line was read in each slice of its row
     pub all_there : (r : ℕ) (ls : List wire.Line) → (part : Part r ls) → Each (IsThere a.configuration part.slice laws.tiles_h laws.in_rct.wide laws.in_rct.few r) (flat_map group_lines (groups_of a.configuration r))
@@ -72,18 +72,18 @@ module _ (a : Accepted) (laws : PictureLaws a) where
         sized_groups a.configuration part.slice laws.tiles_h laws.in_rct.wide laws.in_rct.few r (λ k p i inside. part.small k p i inside) laws.deep
         (groups_of a.configuration r) ls (groups_are a.configuration r (λ rct p. alike_lines rct p r)) (all_there r ls part) part.made
 
-    pub all_sized : (rs : List ℕ) (ls : List wire.Line) → Rows rs ls → Each (IsSized a.configuration) ls
-    all_sized [] ls rows = subst (Each (IsSized a.configuration)) (sym rows) tt
-    all_sized (r ∷ rs) ls rows =
+    pub all_sized : (above : ℕ → Slice) (rs : List ℕ) (ls : List wire.Line) → Rows above rs ls → Each (IsSized a.configuration) ls
+    all_sized above [] ls rows = subst (Each (IsSized a.configuration)) (sym rows) tt
+    all_sized above (r ∷ rs) ls rows =
         subst (Each (IsSized a.configuration)) (sym rows.4)
-        (each_append (IsSized a.configuration) rows.0 rows.1 (part_sized r rows.0 rows.2) (all_sized rs rows.1 rows.3))
+        (each_append (IsSized a.configuration) rows.0 rows.1 (part_sized r rows.0 rows.2) (all_sized rows.2.slice rs rows.1 rows.3))
 
-    pub all_keys : (rs : List ℕ) (ls : List wire.Line) → Rows rs ls → map key_of ls ≡ flat_map (row_keys a.configuration) rs
-    all_keys [] ls rows = ap (map key_of) rows
-    all_keys (r ∷ rs) ls rows =
+    pub all_keys : (above : ℕ → Slice) (rs : List ℕ) (ls : List wire.Line) → Rows above rs ls → map key_of ls ≡ flat_map (row_keys a.configuration) rs
+    all_keys above [] ls rows = ap (map key_of) rows
+    all_keys above (r ∷ rs) ls rows =
         ap (map key_of) rows.4 ∙ map-append key_of rows.0 rows.1
         ∙ ap (λ z. z ++ map key_of rows.1) (made_keys a.configuration r rows.2.slice (groups_of a.configuration r) rows.0 rows.2.made)
-        ∙ ap (λ z. row_keys a.configuration r ++ z) (all_keys rs rows.1 rows.3)
+        ∙ ap (λ z. row_keys a.configuration r ++ z) (all_keys rows.2.slice rs rows.1 rows.3)
 
   -- the planes of some lines
   pub planes_made : List wire.Line → Planes
@@ -107,7 +107,7 @@ module _ (a : Accepted) (laws : PictureLaws a) where
         stand (line_bytes a.configuration p) p 0 (plane_height a.configuration p) ls
         (each_both (IsSized a.configuration) (λ (l : wire.Line). l.plane ≡ p → length l.samples ≡ line_bytes a.configuration p) ls sized
         (λ l is same. is.long ∙ ap (line_bytes a.configuration) same))
-        (ap (rows_in p) keys ∙ rows_of_plane a.configuration p inside laws.tiles_v (λ rct r. alike_lines rct p r))
+        (ap (rows_in p) keys ∙ rows_of_plane a.configuration p inside laws.tiles_v (λ rct q r. alike_down a.configuration (laws.in_rct.alike rct) laws.tiles_v q r) (λ rct r. alike_lines rct p r))
 
     lines_stand : (some : List wire.Line) → Each (λ (l : wire.Line). l.plane < plane_count a.configuration) some →
         ((p : ℕ) → p < plane_count a.configuration → Each (IsRowOf (line_bytes a.configuration p) p 0 (samples_in p ls)) some) → Each (IsLine a.configuration (planes_made ls)) some

@@ -4,7 +4,7 @@ use Rattle.std.specs.List.{range_with_len, filter}
 use Rattle.std.proofs.lemmas.Bool.{cases_eq, cases_lt, eq-eqb, ne_eqb}
 use Rattle.ffv1_wire.specs.Runs as wire
 use Rattle.ffv1_record.specs.Configuration.{Configuration, is_rct}
-use Rattle.ffv1_slice.specs.Grid.{down, division_of}
+use Rattle.ffv1_slice.specs.Grid.{down, division_of, shared_of}
 use Rattle.ffv1_codec.specs.Sides.{Tiles}
 use Rattle.ffv1_codec.specs.Picture.{Planes, plane_count, plane_height}
 use Rattle.ffv1_codec.specs.SliceList.{Line}
@@ -78,13 +78,13 @@ module _ (c : Configuration) (planes : Planes) where
       let other : k.plane ≢ p = omega (arith, first, past) in
       ap (λ b. (if b then k.y ∷ [] else []) ++ rows_in p ks) (ne_eqb k.plane p other) ∙ no_rows p ks past all.1
 
-  module _ (tiles : (p : ℕ) → Tiles (down (division_of c) p)) (same_lines : is_rct c.colour ≡ true → (p r : ℕ) → lines_down c p r ≡ lines_down c 0 r) where
+  module _ (tiles : (p : ℕ) → Tiles (down (division_of c) p)) (flat : is_rct c.colour ≡ true → (q r : ℕ) → r < c.rows → shared_of (down (division_of c) q) r ≡ 0) (same_lines : is_rct c.colour ≡ true → (p r : ℕ) → lines_down c p r ≡ lines_down c 0 r) where
     by_rows : (p y : ℕ) (rows : List ℕ) → rows_in p (keys_of c) ≡ rows → lines_at p y (lines_of c planes) ≡ map (λ z. line_in c planes z p) (only y rows)
     by_rows p y rows are =
         ap (lines_at p y) (lines_by_keys c planes) ∙ at_keys p y (keys_of c) ∙ ap (λ zs. map (λ z. line_in c planes z p) (only y zs)) are
 
     rows_are : (p : ℕ) → p < plane_count c → rows_in p (keys_of c) ≡ range_with_len 0 (plane_height c p)
-    rows_are p inside = rows_of_plane c p inside tiles (λ rct r. same_lines rct p r)
+    rows_are p inside = rows_of_plane c p inside tiles flat (λ rct r. same_lines rct p r)
 
     past_plane : (p y : ℕ) → plane_count c ≤ p → lines_at p y (lines_of c planes) ≡ []
     past_plane p y past = by_rows p y [] (no_rows p (keys_of c) past (keys_are c same_lines))

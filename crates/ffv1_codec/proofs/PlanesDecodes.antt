@@ -10,7 +10,8 @@ use Rattle.ffv1_codec.specs.Picture.{plane_count}
 use Rattle.ffv1_codec.specs.Runs.{Runs}
 use Rattle.ffv1_codec.specs.Order.{Event, Series, series_of, series_events, lines_down}
 use Rattle.ffv1_codec.specs.Decoding.{State, StepsBy}
-use Rattle.ffv1_codec.specs.Internal.Progress.{Decoded, SeriesDecoded, FailsIn, series_at}
+use Rattle.ffv1_codec.specs.Internal.Progress.{Decoded, PlanesKept, SeriesDecoded, FailsIn, series_at}
+use Rattle.ffv1_codec.specs.Internal.Shared.{AreLast}
 use Rattle.ffv1_codec.proofs.Ranges.{joined_more, rest_of}
 use Rattle.ffv1_codec.proofs.RunsInRow.{runs_append}
 use Rattle.ffv1_codec.proofs.SeriesDecodes.{fails_sooner, fails_later}
@@ -81,3 +82,15 @@ module _ {S : Type 0} (takes refuses : LineStep S) (a : Accepted) (coded : ℕ �
     planes_decoded e all =
         let one = subst (λ n. Decoded takes refuses a coded initial r n payload (upto n) columns states now s) all before in
         subst (λ es. Decoded takes refuses a coded initial r (plane_count a.configuration) payload es columns states now s) (sym (series_apart a.configuration r e)) one
+
+    -- with what is kept of their last lines
+    pub plane_kept : (after : List Column) (new kept : List ℕ) (later : S) → (made : SeriesDecoded takes refuses a coded initial r payload p 1 after new later before.state) → AreLast a.configuration r (p + 1) kept made.state →
+        PlanesKept takes refuses a coded initial r (p + 1) payload (upto (p + 1)) after new kept later s
+    unfolding plane_decoded
+    plane_kept after new kept later made last = record { decoded = plane_decoded after new later made; last = last }
+
+  pub planes_kept : (p : ℕ) (columns : List Column) (states kept : List ℕ) (now : S) → PlanesKept takes refuses a coded initial r p payload (upto p) columns states kept now s → is_rct a.configuration.colour ≡ false → p ≡ plane_count a.configuration →
+      PlanesKept takes refuses a coded initial r (plane_count a.configuration) payload (all_series a.configuration r) columns states kept now s
+  planes_kept p columns states kept now before e all =
+      let one = subst (λ n. PlanesKept takes refuses a coded initial r n payload (upto n) columns states kept now s) all before in
+      subst (λ es. PlanesKept takes refuses a coded initial r (plane_count a.configuration) payload es columns states kept now s) (sym (series_apart a.configuration r e)) one

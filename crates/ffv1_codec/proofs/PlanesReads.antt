@@ -1,5 +1,5 @@
 -- A line of several planes is read column by column, and in each column plane by plane: its run.
-use Rattle.std.proofs.Common.{◌≡◌, ◌≢◌, refl, ℕ, suc, ◌+◌, ◌*◌, ◌<◌, ◌≤◌, ◌⊎◌, inl, inr, List, [], ◌∷◌, ◌++◌, length, ap, sym, subst, ◌∙◌, arith, append_assoc, append-nil}
+use Rattle.std.proofs.Common.{◌≡◌, ◌≢◌, refl, ℕ, suc, ◌+◌, ◌-◌, ◌*◌, ◌<◌, ◌≤◌, ◌⊎◌, inl, inr, List, [], ◌∷◌, ◌++◌, length, get_or, slice_index, ap, sym, subst, ◌∙◌, arith, append_assoc, append-nil}
 use Rattle.std.specs.List.{flat_map, range_with_len}
 use Rattle.std.proofs.lemmas.Bool.{cases_eq, cases_lt}
 use Rattle.ffv1_record.specs.Configuration.{Configuration}
@@ -11,11 +11,11 @@ use Rattle.ffv1_codec.specs.declared.fault.FrameFault.{FrameFault}
 use Rattle.ffv1_codec.specs.Picture.{plane}
 use Rattle.ffv1_codec.specs.Runs.{Runs, Stops}
 use Rattle.ffv1_codec.specs.Internal.Places.{AreParts}
-use Rattle.ffv1_codec.specs.Order.{Event, column_events}
+use Rattle.ffv1_codec.specs.Order.{Event, column_events, lines_down}
 use Rattle.ffv1_codec.specs.Order.Event.{Read}
-use Rattle.ffv1_codec.specs.Decoding.{State, StepsBy, FaultsWith, slice_at, left_of, width_in}
+use Rattle.ffv1_codec.specs.Decoding.{State, StepsBy, FaultsWith, slice_at, slice_number, unread, left_of, width_in}
 use Rattle.ffv1_codec.specs.Internal.Stands.{window}
-use Rattle.ffv1_codec.specs.Internal.Tied.{TiedColumns, TiedLine, TiedPlanes, StepMade, PlanesRead, Stopped, reads_upto, part_of}
+use Rattle.ffv1_codec.specs.Internal.Tied.{TiedColumns, TiedLine, TiedKept, TiedPlanes, StepMade, PlanesRead, Stopped, reads_upto, part_of}
 use Rattle.ffv1_codec.specs.Internal.Tied.{row_slices, rolling_lines, plane_group}
 use Rattle.ffv1_codec.proofs.Sizes.{part_apart}
 use Rattle.ffv1_codec.proofs.PartPlaces.{inside}
@@ -32,6 +32,12 @@ line_other c p offset n y two one cur new s t cells parts tied = record {
       let one_is = subst (λ z. Rolls (width_in c p k) z (part_of c p offset k one) (part_of c p offset k cur) (suc y)) (sym (cells k)) (tied.read k upto h) in
       subst (λ z. Rolls (width_in c p k) (plane (slice_at t k).cells p) (part_of c p offset k one) z (suc y)) (sym (parts k h)) one_is;
 }
+
+-- what is kept is of the rows that are done
+pub kept_stays : (c : Configuration) (r p y : ℕ) (kept : List ℕ) (s t : State) → t.done ≡ s.done → TiedKept c r p y kept s → TiedKept c r p y kept t
+kept_stays c r p y kept s t done tied = λ shared k x inside small.
+    tied shared k x inside small
+    ∙ ap (λ d. slice_index (plane (get_or d (slice_number c (r - 1) k) unread).cells p) ((lines_down c p (r - 1) - 1) * width_in c p k + x)) (sym done)
 
 module _ (a : Accepted) (coded : ℕ → List ℕ) (r next : ℕ) (payload : List ℕ) (first count y : ℕ) where
   pub upto_more : (k i : ℕ) → reads_upto a coded r next payload first count y k (suc i) ≡ reads_upto a coded r next payload first count y k i ++ (Read r k (first + i) y ∷ [])

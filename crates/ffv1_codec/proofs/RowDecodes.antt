@@ -13,7 +13,8 @@ use Rattle.ffv1_codec.specs.Order.Event.{Open}
 use Rattle.ffv1_codec.specs.Decoding.{State, Slice, StepsBy, FaultsWith, slice_at, slice_number}
 use Rattle.ffv1_codec.specs.Internal.Stands.{Stands, window}
 use Rattle.ffv1_codec.specs.Internal.Tied.{TiedColumns, column_at, slots_in, row_slices}
-use Rattle.ffv1_codec.specs.Internal.Progress.{Decoded, FailsIn}
+use Rattle.ffv1_codec.specs.Internal.Progress.{PlanesKept, FailsIn}
+use Rattle.ffv1_codec.specs.Internal.Shared.{AreAbove, kept_line}
 use Rattle.ffv1_codec.specs.Internal.Opened.{IsOpened, RowOpened, RowRefused, row_heads}
 use Rattle.ffv1_codec.specs.Internal.Rows.{RowDecoded, open_events}
 use Rattle.ffv1_codec.proofs.Sizes.{part_apart}
@@ -22,6 +23,7 @@ use Rattle.ffv1_codec.proofs.RunsInRow.{runs_append, stops_sooner}
 use Rattle.ffv1_codec.proofs.SegmentReads.{Telling}
 use Rattle.ffv1_codec.proofs.SegmentTied.{tied_told}
 use Rattle.ffv1_codec.proofs.SeriesDecodes.{fails_later}
+use Rattle.ffv1_codec.proofs.PlanesReads.{kept_stays}
 
 empty_at : (n p : ℕ) → get_or (replicate {A = List ℕ} n []) p [] ≡ []
 empty_at zero p = refl
@@ -79,13 +81,21 @@ module _ {S : Type 0} (takes refuses : LineStep S) (a : Accepted) (coded : ℕ �
     pub lines_fail : (after : List Column) (f : FrameFault) (now : S) → FailsIn takes refuses a coded initial r after lines f now opened.state → FailsIn takes refuses a coded initial r after (open_events a.configuration r) f now s
     lines_fail after f now fails = fails_later takes refuses a coded initial r after f now s opened.state opens lines opened.runs (ap (λ (z : State). z.done) opened.same) fails
 
-    pub row_decoded : Telling → (after : List Column) (states : List ℕ) (now : S) → length after ≡ a.configuration.columns → Decoded takes refuses a coded initial r (plane_count a.configuration) payload lines after states now opened.state →
-        RowDecoded takes refuses a coded initial r after first now s
-    row_decoded telling after states now long made = record {
-      state = made.state;
-      runs = runs_append (StepsBy a coded) s opened.state made.state opens lines opened.runs made.runs;
-      told = tied_told a coded r (plane_count a.configuration) payload after states made.state made.columns_are telling long;
-      says = made.kept.info ∙ ap (λ (z : State). z.info) opened.same;
-      done = made.kept.done ∙ ap (λ (z : State). z.done) opened.same;
-      grows = made.grows;
-    }
+    pub row_decoded : Telling → (after : List Column) (states kept : List ℕ) (now : S) → length after ≡ a.configuration.columns → (0 < length kept → 3 ≤ plane_count a.configuration) →
+        PlanesKept takes refuses a coded initial r (plane_count a.configuration) payload lines after states kept now opened.state → RowDecoded takes refuses a coded initial r after kept first now s
+    row_decoded telling after states kept now long chroma all =
+        let made = all.decoded in
+        record {
+          state = made.state;
+          runs = runs_append (StepsBy a coded) s opened.state made.state opens lines opened.runs made.runs;
+          told = tied_told a coded r (plane_count a.configuration) payload after states made.state made.columns_are telling long;
+          says = made.kept.info ∙ ap (λ (z : State). z.info) opened.same;
+          done = made.kept.done ∙ ap (λ (z : State). z.done) opened.same;
+          known = made.columns_are.known;
+          last = λ some p is upto. all.last some p is (let three = chroma some in omega (arith, upto, three));
+          grows = made.grows;
+        }
+
+    -- what is kept of the row above stays so
+    pub opened_above : (kept : List ℕ) → AreAbove a.configuration r kept s → AreAbove a.configuration r kept opened.state
+    opened_above kept above = λ some p y is. kept_stays a.configuration r p y (kept_line a.configuration p kept) s opened.state (ap (λ (z : State). z.done) opened.same) (above some p y is)

@@ -1,5 +1,5 @@
 -- Rows of slices are decoded one below the other: their run, and the answer.
-use Rattle.std.proofs.Common.{◌≡◌, refl, ℕ, zero, suc, ◌+◌, ◌<◌, ◌⊎◌, inl, inr, Option, Some, List, [], ◌∷◌, ◌++◌, map, length, get_or, replicate, ap, sym, subst, ◌∙◌, arith, append_assoc}
+use Rattle.std.proofs.Common.{◌≡◌, refl, ℕ, zero, suc, ◌+◌, ◌<◌, ◌⊎◌, inl, inr, Option, Some, None, List, [], ◌∷◌, ◌++◌, map, length, get_or, replicate, ap, sym, subst, ◌∙◌, arith, append_assoc, length-append}
 use Rattle.std.specs.List.{flat_map, range_with_len}
 use Rattle.std.proofs.lemmas.List.{length-replicate}
 use Rattle.ffv1_wire.specs.Runs.{LineStep}
@@ -15,14 +15,16 @@ use Rattle.ffv1_codec.specs.Runs.{Runs, Stops}
 use Rattle.ffv1_codec.specs.Order.{Event, row_events, events_of, series_of, series_events}
 use Rattle.ffv1_codec.specs.Order.Event.{Open, Hand, Close}
 use Rattle.ffv1_codec.specs.Decoding.{State, Slice, StepsBy, FaultsWith, at_first, unread}
-use Rattle.ffv1_codec.specs.Answer.{Ends, Faults, SinkRefuses, HasDecided}
-use Rattle.ffv1_codec.specs.Internal.Tied.{AreTold}
+use Rattle.ffv1_codec.specs.Answer.{Ends, Faults, SinkRefuses, HasDecided, no_tally}
+use Rattle.ffv1_codec.specs.Internal.Tied.{AreTold, TiedKept}
+use Rattle.ffv1_codec.specs.Internal.Shared.{kept_line}
 use Rattle.ffv1_codec.specs.Internal.Progress.{FailsIn}
 use Rattle.ffv1_codec.specs.Internal.Tallies.{tally_over}
 use Rattle.ffv1_codec.specs.Internal.Rows.{IsBetween, RowDecoded, RowsDecoded, open_events}
 use Rattle.ffv1_codec.proofs.Ranges.{joined_more, rest_of}
 use Rattle.ffv1_codec.proofs.RunsInRow.{runs_append, runs_one, stops_later}
 use Rattle.ffv1_codec.proofs.SeriesDecodes.{fails_sooner}
+use Rattle.ffv1_codec.proofs.KeptLines.{kept_closed}
 use Rattle.ffv1_codec.proofs.TalliesUp.{decided_is, tally_unread}
 
 -- what was decided, in another state with the same slices done and columns
@@ -41,7 +43,20 @@ module _ {S : Type 0} (takes refuses : LineStep S) (a : Accepted) (coded : ℕ �
   close_last : (r : ℕ) → row r ≡ open_events a.configuration r ++ (Close ∷ [])
   close_last r = sym (append_assoc (map (Open r) (range_with_len 0 a.configuration.columns)) (flat_map (series_events a.configuration r) (series_of a.configuration r)) (Close ∷ []))
 
-  module _ (r : ℕ) (tally : Tally) (first : Option Said) (now : S) (done : RowsDecoded takes refuses a coded initial r tally first now) where
+  -- before the first row nothing is kept that it shares
+  pub rows_none : (tally : Tally) (kept : List ℕ) → tally ≡ no_tally → RowsDecoded takes refuses a coded initial 0 tally kept None initial
+  rows_none tally kept none = record {
+    state = at_first a.configuration;
+    runs = refl;
+    columns_are = refl;
+    says = refl;
+    decided = none;
+    rows = omega arith;
+    above = λ some p y is shared k x inside small. absurd (omega (arith, shared));
+    grows = refl;
+  }
+
+  module _ (r : ℕ) (tally : Tally) (kept : List ℕ) (first : Option Said) (now : S) (done : RowsDecoded takes refuses a coded initial r tally kept first now) where
     pub between : IsBetween a.configuration first done.state
     between = record {
       known = ap (λ (z : List Slice). length z) done.columns_are ∙ length-replicate a.configuration.columns unread;
@@ -50,8 +65,8 @@ module _ {S : Type 0} (takes refuses : LineStep S) (a : Accepted) (coded : ℕ �
     }
 
     module _ (columns : List Column) (new : Tally) (adds : Adding tally a.table columns new) where
-      pub rows_more : (next : Option Said) (later : S) → RowDecoded takes refuses a coded initial r columns next later done.state → RowsDecoded takes refuses a coded initial (r + 1) new next later
-      rows_more next later made =
+      pub rows_more : (lines : List ℕ) (next : Option Said) (later : S) → RowDecoded takes refuses a coded initial r columns lines next later done.state → RowsDecoded takes refuses a coded initial (r + 1) new lines next later
+      rows_more lines next later made =
           let m = made.state in
           let t : State = record m { done = m.done ++ m.columns; columns = replicate a.configuration.columns unread } in
           let before : tally ≡ tally_over a.table m.done = done.decided ∙ ap (tally_over a.table) (sym made.done) in
@@ -67,6 +82,14 @@ module _ {S : Type 0} (takes refuses : LineStep S) (a : Accepted) (coded : ℕ �
             columns_are = refl;
             says = made.says;
             decided = (adds m before made.told).by_kind;
+            rows =
+                let long = length-append m.done m.columns in
+                let done_long = ap (λ (z : List Slice). length z) made.done ∙ done.rows in
+                omega (arith, long, done_long, made.known);
+            above = λ some p y is.
+                let long = ap (λ (z : List Slice). length z) made.done ∙ done.rows in
+                subst (λ n. TiedKept a.configuration n p y (kept_line a.configuration p lines) t) more
+                (kept_closed a.configuration r p y (kept_line a.configuration p lines) m t long refl (made.last some p is is.1).last);
             grows = made.grows;
           }
 

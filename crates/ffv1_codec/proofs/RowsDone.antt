@@ -1,5 +1,5 @@
 -- What is known of each row of slices at the end of decoding.
-use Rattle.std.proofs.Common.{◌≡◌, ◌≢◌, refl, ℕ, ℤ, zero, suc, ◌+◌, ◌*◌, ◌^◌, ◌<◌, ◌≤◌, true, Option, Some, List, [], ◌∷◌, ◌++◌, map, length, get_or, replicate, inl, inr, ap, sym, subst, ◌∙◌, arith, append-nil, append_assoc, length-append, length-set, get_or-set_same, get_or-set_other}
+use Rattle.std.proofs.Common.{◌≡◌, ◌≢◌, refl, ℕ, ℤ, zero, suc, ◌+◌, ◌-◌, ◌*◌, ◌^◌, ◌<◌, ◌≤◌, true, Option, Some, List, [], ◌∷◌, ◌++◌, map, length, get_or, replicate, inl, inr, ap, sym, subst, ◌∙◌, arith, append-nil, append_assoc, length-append, length-set, get_or-set_same, get_or-set_other}
 use Rattle.std.specs.List.{flat_map, range_with_len}
 use Rattle.std.proofs.lemmas.Bool.{cases_lt, cases_eq}
 use Rattle.std.proofs.lemmas.Nat.{pow_pos}
@@ -20,8 +20,9 @@ use Rattle.ffv1_codec.specs.Runs.{Runs}
 use Rattle.ffv1_codec.specs.Decoding.{State, Slice, StepsBy, AgreesWith, slice_at, slice_number, width_in, opened, unread}
 use Rattle.ffv1_codec.proofs.Machines.{Each, runs_split}
 use Rattle.ffv1_codec.proofs.LinesRead.{read_at, reads_of, row_lines, row_reads}
-use Rattle.ffv1_codec.proofs.Groups.{groups_of, group_events, row_by_groups, groups_are}
-use Rattle.ffv1_codec.proofs.ColumnSteps.{IsOfRow, ReadsNext, column_runs}
+use Rattle.ffv1_codec.proofs.Groups.{groups_of, group_events, row_by_groups, groups_are, lines_by_groups}
+use Rattle.ffv1_codec.proofs.ColumnSteps.{IsOfRow, ReadsNext, column_runs, columns_kept_along}
+use Rattle.ffv1_codec.proofs.Agreed.{IsAgreed, row_keeps, groups_agreed}
 use Rattle.ffv1_codec.proofs.SliceBodies.{CellLaws, HasRead, longer, plane_is, plane_put, plane_beside}
 use Rattle.ffv1_codec.proofs.LinesMade.{MadeOf, goes_on, AllHave, have_more, row_made, groups_of_row}
 use Rattle.ffv1_codec.specs.Overread.{IsWithin}
@@ -187,7 +188,10 @@ module _ (a : Accepted) (coded : ℕ → List ℕ) (laws : CellLaws) (few : Suit
     (same : is_rct a.configuration.colour ≡ true → (p r : ℕ) → lines_down a.configuration p r ≡ lines_down a.configuration 0 r) where
   -- what a row of slices has read, what it says, and the lines that were made of it
   pub record RowPart (r : ℕ) (info : Option Said) (ls : List wire.Line) : Type 0 where
+    pub state : State
     pub slice : ℕ → Slice
+    pub is : (k : ℕ) → slice k ≡ slice_at state k
+    pub agreed : (k : ℕ) → k < a.configuration.columns → Each (IsAgreed a coded r state k) (row_lines a.configuration r)
     pub done : (k : ℕ) → k < a.configuration.columns → HasRead a coded r k (row_lines a.configuration r) (slice k)
     pub says : (k : ℕ) → k < a.configuration.columns → info ≡ Some (said_by a.profile (slice k).head)
     pub small : (k p i : ℕ) → k < a.configuration.columns → get_or (plane (slice k).cells p) i 0 < 2 ^ bits_of a.configuration
@@ -196,6 +200,11 @@ module _ (a : Accepted) (coded : ℕ → List ℕ) (laws : CellLaws) (few : Suit
   pub record RowDone (r : ℕ) (s t : State) : Type 0 where
     pub lines : List wire.Line
     pub part : RowPart r t.info lines
+    pub state : State
+    pub stands : part.state ≡ state
+    pub above : state.done ≡ s.done
+    pub closed : t.done ≡ s.done ++ state.columns
+    pub wide : length state.columns ≡ a.configuration.columns
     pub behind : t.lines ≡ s.lines ++ lines
     pub info : (i : Said) → s.info ≡ Some i → t.info ≡ Some i
     pub columns : t.columns ≡ replicate a.configuration.columns unread
@@ -217,12 +226,22 @@ module _ (a : Accepted) (coded : ℕ → List ℕ) (laws : CellLaws) (few : Suit
       let o_long : length o.columns ≡ c.columns = opened.long ∙ long in
       let have : AllHave a coded r laws some [] o = λ k inside. (opened.each k (omega arith) (omega (arith, inside))).0 in
       let made = row_made a coded r laws some (groups_of c r) [] o e groups o_long have run in
+      let e_done : e.done ≡ s.done = row_keeps a coded r events o e all run ∙ opened.done in
+      let e_long : length e.columns ≡ c.columns = columns_kept_along a coded r events o e all run ∙ o_long in
       let info : e.info ≡ o.info = info_kept a coded r events o e all run in
       let t_info : t.info ≡ o.info = ap (λ (z : State). z.info) close ∙ info in
       record {
         lines = made.lines;
+        state = e;
+        stands = refl;
+        above = e_done;
+        closed = ap (λ (z : State). z.done) close ∙ ap (λ qs. qs ++ e.columns) e_done;
+        wide = e_long;
         part = record {
+          state = e;
           slice = slice_at e;
+          is = λ k. refl;
+          agreed = λ k inside. subst (Each (IsAgreed a coded r e k)) (sym (lines_by_groups c r)) (groups_agreed a coded r some (groups_of c r) o e groups o_long (λ k inside. (have k inside).many) run k inside);
           done = λ k inside.
               subst (λ ls. HasRead a coded r k ls (slice_at e k)) (ap (reads_of k) (sym (row_by_groups c r)) ∙ row_reads c r k inside)
               (have_more a coded r laws some events [] o e all o_long run have k inside);
@@ -239,37 +258,59 @@ module _ (a : Accepted) (coded : ℕ → List ℕ) (laws : CellLaws) (few : Suit
       }
 
   -- the parts of some rows, one after the other
-  abbrev pub AllRows : Option Said → List ℕ → List wire.Line → Type 0
-  AllRows info [] ls = ls ≡ []
-  AllRows info (r ∷ rs) ls = (first : List wire.Line) × (more : List wire.Line) × RowPart r info first × AllRows info rs more × (ls ≡ first ++ more)
+  -- and the slices of each row are those above the next one
+  abbrev pub IsBelow : (ℕ → Slice) → ℕ → State → Type 0
+  IsBelow before r s = (k : ℕ) → 0 < r → k < a.configuration.columns → get_or s.done (slice_number a.configuration (r - 1) k) unread ≡ before k
 
-  pub record AllDone (from count : ℕ) (s t : State) : Type 0 where
+  abbrev pub AllRows : Option Said → (ℕ → Slice) → List ℕ → List wire.Line → Type 0
+  AllRows info before [] ls = ls ≡ []
+  AllRows info before (r ∷ rs) ls =
+      (first : List wire.Line) × (more : List wire.Line) × (part : RowPart r info first) × AllRows info part.slice rs more × (ls ≡ first ++ more) × IsBelow before r part.state
+
+  pub record AllDone (before : ℕ → Slice) (from count : ℕ) (s t : State) : Type 0 where
     pub lines : List wire.Line
-    pub parts : AllRows t.info (range_with_len from count) lines
+    pub parts : AllRows t.info before (range_with_len from count) lines
     pub behind : t.lines ≡ s.lines ++ lines
     pub info : (i : Said) → s.info ≡ Some i → t.info ≡ Some i
 
-  pub all_done : 0 < a.configuration.columns → (from count : ℕ) (s t : State) → s.columns ≡ replicate a.configuration.columns unread →
-      Runs (StepsBy a coded) s (flat_map (row_events a.configuration) (range_with_len from count)) t → AllDone from count s t
-  all_done any from zero s t fresh f = record {
+  pub all_done : 0 < a.configuration.columns → (before : ℕ → Slice) (from count : ℕ) (s t : State) → s.columns ≡ replicate a.configuration.columns unread →
+      length s.done ≡ from * a.configuration.columns → IsBelow before from s →
+      Runs (StepsBy a coded) s (flat_map (row_events a.configuration) (range_with_len from count)) t → AllDone before from count s t
+  all_done any before from zero s t fresh deep below f = record {
     lines = [];
     parts = refl;
     behind = ap (λ (z : State). z.lines) f ∙ sym (append-nil s.lines);
     info = λ i is. ap (λ (z : State). z.info) f ∙ is;
   }
-  all_done any from (suc count) s t fresh f =
+  all_done any before from (suc count) s t fresh deep below f =
       let c = a.configuration in
       let parts = runs_split (StepsBy a coded) s t (row_events c from) (flat_map (row_events c) (range_with_len (from + 1) count)) f in
       let m = parts.0 in
       let first = row_done from s m fresh parts.1 in
-      let rest = all_done any (from + 1) count m t first.columns parts.2 in
+      let e = first.state in
+      let last : from + 1 - 1 ≡ from = omega arith in
+      let m_deep : length m.done ≡ (from + 1) * c.columns =
+      let long = ap (λ (qs : List Slice). length qs) first.closed ∙ length-append s.done e.columns in
+      let row = first.wide in
+      let next : (from + 1) * c.columns ≡ from * c.columns + c.columns = omega arith in
+      omega (arith, long, deep, row, next) in
+      let m_below : IsBelow first.part.slice (from + 1) m = λ k some inside.
+      ap (λ n. get_or m.done (slice_number c n k) unread) last
+      ∙ ap (λ qs. get_or qs (from * c.columns + k) unread) first.closed
+      ∙ ap (λ n. get_or (s.done ++ e.columns) (n + k) unread) (sym deep)
+      ∙ get_or-append-add {A = Slice} s.done e.columns k unread
+      ∙ sym (first.part.is k ∙ ap (λ z. slice_at z k) first.stands) in
+      let rest = all_done any first.part.slice (from + 1) count m t first.columns m_deep m_below parts.2 in
       record {
         lines = first.lines ++ rest.lines;
         parts = (
           first.lines,
           rest.lines,
           record {
+            state = first.part.state;
             slice = first.part.slice;
+            is = first.part.is;
+            agreed = first.part.agreed;
             done = first.part.done;
             says = λ k inside. rest.info (said_by a.profile (first.part.slice k).head) (first.part.says k inside);
             small = first.part.small;
@@ -277,6 +318,7 @@ module _ (a : Accepted) (coded : ℕ → List ℕ) (laws : CellLaws) (few : Suit
           },
           rest.parts,
           refl,
+          λ k some inside. ap (λ (z : State). get_or z.done (slice_number c (from - 1) k) unread) first.stands ∙ ap (λ qs. get_or qs (slice_number c (from - 1) k) unread) first.above ∙ below k some inside,
         );
         behind = rest.behind ∙ ap (λ ls. ls ++ rest.lines) first.behind ∙ append_assoc s.lines first.lines rest.lines;
         info = λ i is. rest.info i (first.info i is);

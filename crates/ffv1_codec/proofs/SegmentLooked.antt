@@ -1,5 +1,6 @@
--- It was looked at how far the slice of a segment was read, and whether it ends there.
-use Rattle.std.proofs.Common.{◌≡◌, ◌<◌, ℕ, Some, List, [], ◌∷◌, length, inl, ap, sym, subst}
+-- It was looked at how far the slice of a segment was read, whether slices before say the same of
+-- its samples, and whether it ends there.
+use Rattle.std.proofs.Common.{◌≡◌, ◌≢◌, ◌<◌, ℕ, slice_index, Some, List, [], ◌∷◌, length, inl, ap, sym, subst}
 use Rattle.ffv1_range.specs.Interval.{interval_of}
 use Rattle.ffv1_range.specs.Reading.{Pause, At, resumed}
 use Rattle.ffv1_range.specs.Symbols.{Step}
@@ -11,9 +12,9 @@ use Rattle.ffv1_codec.specs.Order.{IsLastLine}
 use Rattle.ffv1_codec.specs.Order.Event.{Read}
 use Rattle.ffv1_codec.specs.Overread.{IsWithin, IsOverread}
 use Rattle.ffv1_codec.specs.Ending.{HasEnding, LacksEnding}
-use Rattle.ffv1_codec.specs.Decoding.{State, FaultsWith, slice_at, slice_number}
+use Rattle.ffv1_codec.specs.Decoding.{State, FaultsWith, slice_at, slice_number, width_in, Agrees, SaidBefore}
 use Rattle.ffv1_codec.specs.Internal.Stands.{told_by, tally_after}
-use Rattle.ffv1_codec.specs.Internal.Tied.{SegmentMade, StepMade, Stopped, column_at, bytes_in, overread_in, unended_in}
+use Rattle.ffv1_codec.specs.Internal.Tied.{SegmentMade, StepMade, Stopped, column_at, bytes_in, overread_in, unended_in, overlap_in}
 use Rattle.ffv1_codec.proofs.SegmentReads.{Telling, stands_tells}
 use Rattle.ffv1_codec.proofs.SegmentTied.{tied_told}
 
@@ -52,13 +53,13 @@ module _ (a : Accepted) (coded : ℕ → List ℕ) (r next : ℕ) (payload : Lis
     done = ap (λ (z : State). z.done) made.same;
   }
 
-  pub step_looked : LooksFar (IsWithin a) → LooksWhere (λ bytes past. IsLastLine a.configuration r p y → HasEnding a bytes past) →
+  pub step_looked : LooksFar (IsWithin a) → LooksWhere (λ bytes past. IsLastLine a.configuration r p y → HasEnding a bytes past) → Agrees a.configuration s r k p y (width_in a.configuration p k) made.row →
       StepMade a coded r next payload p offset y k columns states two one cur s
-  step_looked within ended = record {
+  step_looked within ended agrees = record {
     state = made.state;
-    step = made.step (far (IsWithin a) within) (ending (λ bytes past. IsLastLine a.configuration r p y → HasEnding a bytes past) ended);
+    step = made.step (far (IsWithin a) within) (ending (λ bytes past. IsLastLine a.configuration r p y → HasEnding a bytes past) ended) agrees;
     columns_are = made.columns_are;
-    line_is = made.line_is;
+    line_is = made.line_is agrees;
     others = made.others;
     same = made.same;
   }
@@ -66,8 +67,12 @@ module _ (a : Accepted) (coded : ℕ → List ℕ) (r next : ℕ) (payload : Lis
   pub stop_looked : LooksFar (IsOverread a) → length columns ≡ a.configuration.columns → Stopped a coded columns (Read r k p y ∷ []) (overread_in a.configuration r k p y) s
   stop_looked over long = stop (overread_in a.configuration r k p y) (made.fault (far (IsOverread a) over)) long
 
-  pub unended_looked : LooksFar (IsWithin a) → LooksWhere (λ bytes past. IsLastLine a.configuration r p y × LacksEnding a bytes past) →
+  pub differs_looked : LooksFar (IsWithin a) → (x v : ℕ) → x < width_in a.configuration p k → Agrees a.configuration s r k p y x made.row → SaidBefore a.configuration s r k p y x v → slice_index made.row x ≢ v →
+      length columns ≡ a.configuration.columns → Stopped a coded columns (Read r k p y ∷ []) (overlap_in a.configuration r k p y x) s
+  differs_looked within x v small front said other long = stop (overlap_in a.configuration r k p y x) (made.differs (far (IsWithin a) within) x v small front said other) long
+
+  pub unended_looked : LooksFar (IsWithin a) → LooksWhere (λ bytes past. IsLastLine a.configuration r p y × LacksEnding a bytes past) → Agrees a.configuration s r k p y (width_in a.configuration p k) made.row →
       length columns ≡ a.configuration.columns → Stopped a coded columns (Read r k p y ∷ []) (unended_in a.configuration r k p y) s
-  unended_looked within lacks long =
+  unended_looked within lacks agrees long =
       let unended = ending (λ bytes past. IsLastLine a.configuration r p y × LacksEnding a bytes past) lacks in
-      stop (unended_in a.configuration r k p y) (made.unended (far (IsWithin a) within) unended.0 unended.1) long
+      stop (unended_in a.configuration r k p y) (made.unended (far (IsWithin a) within) unended.0 unended.1 agrees) long

@@ -5,7 +5,7 @@ use Rattle.std.proofs.lemmas.List.{get_or_append_left, get_or-append-add, get_or
 use Rattle.ffv1_line.specs.Cell.{Rolls}
 use Rattle.ffv1_record.specs.Configuration.{Configuration}
 use Rattle.ffv1_record.specs.Accepted.{Accepted}
-use Rattle.ffv1_slice.specs.Grid.{division_of, across}
+use Rattle.ffv1_slice.specs.Grid.{division_of, across, shared_of}
 use Rattle.ffv1_codec.specs.declared.decode.column.Column.{Column}
 use Rattle.ffv1_codec.specs.declared.fault.CodecFault.TheVariants as fault
 use Rattle.ffv1_codec.specs.declared.fault.FrameFault.{FrameFault}
@@ -16,14 +16,15 @@ use Rattle.ffv1_codec.specs.Order.{IsLastLine}
 use Rattle.ffv1_codec.specs.Order.Event.{Read}
 use Rattle.ffv1_codec.specs.Overread.{IsWithin, IsOverread}
 use Rattle.ffv1_codec.specs.Ending.{HasEnding, LacksEnding}
-use Rattle.ffv1_codec.specs.Decoding.{State, Slice, StepsBy, FaultsWith, ReadsLine, slice_at, slice_number, put_slice, after_line, after_steps, steps_of_line, steps_of_stop, left_of, width_in, top_of, unread}
+use Rattle.ffv1_codec.specs.Decoding.{State, Slice, StepsBy, FaultsWith, ReadsLine, slice_at, slice_number, put_slice, after_line, after_steps, steps_of_line, steps_of_stop, left_of, width_in, top_of, unread, left_sample, Agrees, SaidBefore}
 use Rattle.ffv1_codec.specs.Internal.Stands.{Stands, SegmentRead, SegmentRefused, window, told_by, tally_after}
-use Rattle.ffv1_codec.specs.Internal.Tied.{TiedColumn, TiedColumns, TiedLine, AreTold, SegmentMade, Stopped, SameOthers, slots_in, column_at, bytes_in, no_column, part_of, overread_in, unended_in}
+use Rattle.ffv1_codec.specs.Internal.Tied.{TiedColumn, TiedColumns, TiedLine, AreTold, SegmentMade, Stopped, SameOthers, slots_in, column_at, bytes_in, no_column, part_of, overread_in, unended_in, overlap_in}
 use Rattle.ffv1_codec.specs.Internal.Tied.{row_slices, rolling_lines}
-use Rattle.ffv1_codec.proofs.WrittenParts.{put, put_window, put_other}
+use Rattle.ffv1_codec.proofs.WrittenParts.{put, put_window, put_other, put_agrees}
 use Rattle.ffv1_codec.proofs.Sizes.{part_apart}
 use Rattle.ffv1_codec.proofs.ByNumber.{plane_is}
 use Rattle.ffv1_codec.proofs.PartPlaces.{before, inside}
+use Rattle.ffv1_codec.proofs.SharedColumns.{left_stands}
 use Rattle.ffv1_codec.proofs.SegmentReads.{Telling, stands_tells}
 use Rattle.ffv1_line.specs.Coding.{coding_by}
 
@@ -128,22 +129,24 @@ module _ (a : Accepted) (coded : ℕ → List ℕ) (r next : ℕ) (payload : Lis
         reads : ReadsLine a coded n p width y old read_one.residuals row
         reads = record { above = rolls.long; long = read_one.long; row_long = row_long; codes = read_one.codes }
 
-        pub step : IsWithin a (coded n) (slice_at state_new k).past → (IsLastLine a.configuration r p y → HasEnding a (coded n) (slice_at state_new k).past) → StepsBy a coded s (Read r k p y) state_new
-        step within ending = (
+        pub step : IsWithin a (coded n) (slice_at state_new k).past → (IsLastLine a.configuration r p y → HasEnding a (coded n) (slice_at state_new k).past) →
+            Agrees a.configuration s r k p y width row → StepsBy a coded s (Read r k p y) state_new
+        step within ending agrees = (
           read_one.residuals,
           row,
           reads,
           refl,
           subst (λ (z : Slice). IsWithin a (coded n) z.past) (slice_now s k slice_new inside_s) within,
           λ is. subst (λ (z : Slice). HasEnding a (coded n) z.past) (slice_now s k slice_new inside_s) (ending is),
+          agrees,
         )
 
         pub fault_is : IsOverread a (coded n) (slice_at state_new k).past → FaultsWith a coded s (Read r k p y) (overread_in a.configuration r k p y) state_new
         fault_is over = inr (inl (read_one.residuals, row, reads, refl, refl, subst (λ (z : Slice). IsOverread a (coded n) z.past) (slice_now s k slice_new inside_s) over))
 
         pub unended_is : IsWithin a (coded n) (slice_at state_new k).past → IsLastLine a.configuration r p y → LacksEnding a (coded n) (slice_at state_new k).past →
-            FaultsWith a coded s (Read r k p y) (unended_in a.configuration r k p y) state_new
-        unended_is within is lacks = inr (inr (
+            Agrees a.configuration s r k p y width row → FaultsWith a coded s (Read r k p y) (unended_in a.configuration r k p y) state_new
+        unended_is within is lacks agrees = inr (inr (inl (
           read_one.residuals,
           row,
           reads,
@@ -152,7 +155,25 @@ module _ (a : Accepted) (coded : ℕ → List ℕ) (r next : ℕ) (payload : Lis
           subst (λ (z : Slice). IsWithin a (coded n) z.past) (slice_now s k slice_new inside_s) within,
           is,
           subst (λ (z : Slice). LacksEnding a (coded n) z.past) (slice_now s k slice_new inside_s) lacks,
-        ))
+          agrees,
+        )))
+
+        pub differs_is : IsWithin a (coded n) (slice_at state_new k).past → (x v : ℕ) → x < width → Agrees a.configuration s r k p y x row → SaidBefore a.configuration s r k p y x v →
+            slice_index row x ≢ v → FaultsWith a coded s (Read r k p y) (overlap_in a.configuration r k p y x) state_new
+        differs_is within x v small front said other = inr (inr (inr (
+          read_one.residuals,
+          row,
+          x,
+          reads,
+          refl,
+          refl,
+          subst (λ (z : Slice). IsWithin a (coded n) z.past) (slice_now s k slice_new inside_s) within,
+          small,
+          front,
+          v,
+          said,
+          other,
+        )))
 
         cell_now : plane slice_new.cells p ≡ samples ++ row
         cell_now = plane_now old.cells p (samples ++ row) (omega (arith, inside_p, (tied.each k inside_k).cells))
@@ -207,9 +228,9 @@ module _ (a : Accepted) (coded : ℕ → List ℕ) (r next : ℕ) (payload : Lis
           | inr apart ↦ ap (λ (z : Slice). plane z.cells m) (slice_other s k j slice_new apart)
         ]
 
-        pub line_is : AreParts (across (division_of a.configuration) p) → ((width n : ℕ) (samples two one cur : List ℕ) → length cur ≡ width → Rolls width samples two one n → Rolls width (samples ++ cur) one cur (n + 1)) →
+        pub line_is : Agrees a.configuration s r k p y width row → AreParts (across (division_of a.configuration) p) → ((width n : ℕ) (samples two one cur : List ℕ) → length cur ≡ width → Rolls width samples two one n → Rolls width (samples ++ cur) one cur (n + 1)) →
             offset + a.configuration.width ≤ length cur → TiedLine a.configuration p offset k y (rolling_lines two one cur) s → TiedLine a.configuration p offset (suc k) y (rolling_lines two one (put left width cur row)) state_new
-        line_is are rolling room line =
+        line_is agrees are rolling room line =
             let all = inside (across (division_of a.configuration) p) are k inside_k in
             let cur_fits : left + width ≤ length cur = omega (arith, all, room) in
             record {
@@ -229,9 +250,17 @@ module _ (a : Accepted) (coded : ℕ → List ℕ) (r next : ℕ) (payload : Lis
                     subst (λ z. Rolls (width_in a.configuration p z) (plane (slice_at state_new z).cells p) (part_of a.configuration p offset z one) (part_of a.configuration p offset z (put left width cur row)) (suc y)) (sym here) now
                 | inr apart ↦
                     let less : j < k = omega (arith, upto, apart) in
-                    let front = before (across (division_of a.configuration) p) are j k less (omega (arith, inside_k)) in
+                    let side = across (division_of a.configuration) p in
+                    let shared = shared_of side k in
+                    let front = before side are j k less (omega (arith, inside_k)) in
+                    let begins = are.begins k inside_k in
+                    let few = are.few k inside_k in
+                    let some = are.some k inside_k in
+                    let back = inside side are j (omega (arith, less, inside_k)) in
+                    let same : (i : ℕ) → i < shared → get_or row i 0 ≡ get_or cur (left + i) 0 = λ i h.
+                    agrees i (left_sample a.configuration s k p y) (omega (arith, h, few, some)) (inl (h, refl)) ∙ sym (left_stands a.configuration p offset y two one cur s are k i inside_k line h) in
                     let w : part_of a.configuration p offset j (put left width cur row) ≡ part_of a.configuration p offset j cur =
-                    put_other cur row left width cur_fits row_long (offset + left_of a.configuration p j) (width_in a.configuration p j) (omega (arith, front, cur_fits)) (inl (omega (arith, front))) in
+                    put_agrees cur row left width cur_fits row_long shared (omega (arith, few, some)) same (offset + left_of a.configuration p j) (width_in a.configuration p j) (omega (arith, back, room)) (omega (arith, front, begins)) in
                     let was = subst (λ z. Rolls (width_in a.configuration p j) (plane (slice_at s j).cells p) (part_of a.configuration p offset j one) z (suc y)) (sym w) (line.read j less h) in
                     subst (λ (z : Slice). Rolls (width_in a.configuration p j) (plane z.cells p) (part_of a.configuration p offset j one) (part_of a.configuration p offset j (put left width cur row)) (suc y)) (sym (slice_other s k j slice_new apart)) was
               ];
@@ -242,11 +271,16 @@ module _ (a : Accepted) (coded : ℕ → List ℕ) (r next : ℕ) (payload : Lis
             SegmentMade a coded r next payload p offset y k (slice_set columns k q) (put (k * slots) slots states new) two one (put left width cur row) s
         step_made are rolling room line = record {
           state = state_new;
+          row = row;
+          row_is =
+              let all = inside (across (division_of a.configuration) p) are k inside_k in
+              put_window cur row left width (omega (arith, all, room)) row_long;
           step = step;
           fault = fault_is;
           unended = unended_is;
+          differs = differs_is;
           columns_are = columns_are;
-          line_is = line_is are rolling room line;
+          line_is = λ agrees. line_is agrees are rolling room line;
           others = others;
           same = refl;
         }

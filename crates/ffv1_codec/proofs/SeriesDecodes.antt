@@ -1,12 +1,12 @@
 -- The lines of planes that are coded together are decoded one after the other: their run.
-use Rattle.std.proofs.Common.{◌≡◌, refl, ℕ, suc, ◌+◌, ◌-◌, ◌*◌, ◌<◌, ◌≤◌, ◌⊎◌, inl, inr, Bool, true, false, List, [], ◌∷◌, ◌++◌, take, replicate, ap, sym, subst, ◌∙◌, arith, append_assoc}
+use Rattle.std.proofs.Common.{◌≡◌, refl, ℕ, suc, ◌+◌, ◌-◌, ◌*◌, ◌<◌, ◌≤◌, ◌⊎◌, inl, inr, Bool, true, false, List, [], ◌∷◌, ◌++◌, length, take, replicate, ap, sym, subst, ◌∙◌, arith, append_assoc}
 use Rattle.std.specs.List.{flat_map, range_with_len}
 use Rattle.std.proofs.lemmas.List.{take-replicate, drop-replicate}
 use Rattle.ffv1_wire.specs.Runs.{LineStep, Grows}
 use Rattle.ffv1_record.specs.Configuration.{Configuration, is_rct}
 use Rattle.ffv1_record.specs.Accepted.{Accepted}
 use Rattle.ffv1_line.specs.Cell.{Rolls}
-use Rattle.ffv1_slice.specs.Grid.{division_of, across, coded_of, factor_of}
+use Rattle.ffv1_slice.specs.Grid.{division_of, across, down, coded_of, factor_of, shared_of}
 use Rattle.ffv1_codec.specs.declared.decode.column.Column.{Column}
 use Rattle.ffv1_codec.specs.declared.fault.FrameFault.{FrameFault}
 use Rattle.ffv1_codec.specs.Picture.{plane}
@@ -18,7 +18,8 @@ use Rattle.ffv1_codec.specs.Decoding.{State, StepsBy, FaultsWith, slice_at, left
 use Rattle.ffv1_codec.specs.Internal.Stands.{window}
 use Rattle.ffv1_codec.specs.Internal.Tied.{TiedColumns, TiedPlanes, part_of}
 use Rattle.ffv1_codec.specs.Internal.Tied.{row_slices, rolling_lines, plane_group}
-use Rattle.ffv1_codec.specs.Internal.Progress.{FailsIn, LineDecoded, LinesDecoded, SeriesDecoded}
+use Rattle.ffv1_codec.specs.Internal.Progress.{FailsIn, LineDecoded, LinesDecoded, SeriesDecoded, SeriesKept}
+use Rattle.ffv1_codec.specs.Internal.Shared.{IsLast}
 use Rattle.ffv1_codec.specs.Internal.Finished.{IsTogether}
 use Rattle.ffv1_codec.proofs.PartPlaces.{inside}
 use Rattle.ffv1_codec.proofs.Sizes.{part_apart}
@@ -43,6 +44,18 @@ lines_alike c first count i r together none less = elim (by_colour (is_rct c.col
       let one = together_one c first count e together in
       let at : first + i ≡ first = omega (arith, less, one.0) in
       ap (λ p. lines_down c p r) at
+]
+
+-- and share as many with the row above
+pub shared_alike : (c : Configuration) (first count i r : ℕ) → IsTogether c first count → (is_rct c.colour ≡ true → c.log2_v ≡ 0) → i < count → shared_of (down (division_of c) (first + i)) r ≡ shared_of (down (division_of c) first) r
+shared_alike c first count i r together none less = elim (by_colour (is_rct c.colour)) [
+  | inl e ↦
+      let f : ℕ → ℕ = λ l. shared_of (record { size = c.height; count = c.rows; log2 = l }) r in
+      ap (λ l. f (factor_of l (first + i))) (none e) ∙ ap f (factor_none (first + i) ∙ sym (factor_none first)) ∙ ap (λ l. f (factor_of l first)) (sym (none e))
+  | inr e ↦
+      let one = together_one c first count e together in
+      let at : first + i ≡ first = omega (arith, less, one.0) in
+      ap (λ p. shared_of (down (division_of c) p) r) at
 ]
 
 -- lines of which nothing is read: the third may hold anything
@@ -180,3 +193,8 @@ module _ {S : Type 0} (takes refuses : LineStep S) (a : Accepted) (coded : ℕ �
         kept = before.kept;
         grows = before.grows;
       }
+
+      -- with what is kept of the last of them
+      pub all_kept : y ≡ lines_down a.configuration first r → (kept : List ℕ) → (0 < length kept → IsLast a.configuration r first kept before.state) → SeriesKept takes refuses a coded initial r payload first count columns states kept now s
+      unfolding all_decoded
+      all_kept all kept last = record { decoded = all_decoded all; last = last }

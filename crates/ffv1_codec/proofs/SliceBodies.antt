@@ -124,7 +124,7 @@ module _ (a : Accepted) (coded : ℕ → List ℕ) (r k : ℕ) where
         ];
       }
 
-  read_later : (q t : Slice) (l : Line) → Longer q t → IsRead q l → IsRead t l
+  pub read_later : (q t : Slice) (l : Line) → Longer q t → IsRead q l → IsRead t l
   read_later q t l more is =
       let longer = ap (λ (xs : List ℕ). length xs) (more.more l.plane).1 ∙ length-append (plane q.cells l.plane) (more.more l.plane).0 in
       omega (arith, is, longer)

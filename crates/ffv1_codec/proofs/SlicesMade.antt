@@ -1,7 +1,7 @@
 -- Each slice of what was decoded codes its part of the picture.
-use Rattle.std.proofs.Common.{◌≡◌, refl, ℕ, zero, suc, ◌+◌, ◌*◌, ◌/◌, ◌%◌, ◌<◌, ◌≤◌, Bool, true, false, if◌then◌else◌, Option, Some, List, [], ◌∷◌, ◌++◌, map, inl, inr, ap, sym, subst, ◌∙◌, arith}
+use Rattle.std.proofs.Common.{◌≡◌, refl, ℕ, zero, suc, ◌+◌, ◌-◌, ◌*◌, ◌/◌, ◌%◌, ◌<◌, ◌≤◌, Bool, true, false, if◌then◌else◌, Option, Some, List, [], ◌∷◌, ◌++◌, map, get_or, inl, inr, ap, sym, subst, ◌∙◌, arith}
 use Rattle.std.specs.List.{flat_map, range_with_len}
-use Rattle.std.proofs.lemmas.Bool.{cases_eq}
+use Rattle.std.proofs.lemmas.Bool.{cases_eq, cases_lt}
 use Rattle.std.proofs.lemmas.Nat.{div-add-mod', div_below}
 use Rattle.ffv1_wire.specs.Runs as wire
 use Rattle.ffv1_range.specs.Codes.{Codes}
@@ -10,22 +10,23 @@ use Rattle.ffv1_range.specs.History.{decisions_after}
 use Rattle.ffv1_line.specs.Cell.{Cell, Agree, cell_of}
 use Rattle.ffv1_record.specs.Configuration.{Configuration, is_rct}
 use Rattle.ffv1_record.specs.Accepted.{Accepted}
+use Rattle.ffv1_slice.specs.Grid.{down, division_of, begin_of, first_of, shared_of}
 use Rattle.ffv1_slice.specs.Head.{key_steps, head_steps}
-use Rattle.ffv1_codec.specs.Picture.{Planes, plane, plane_count, cell_in}
+use Rattle.ffv1_codec.specs.Picture.{Planes, plane, plane_count, cell_in, coded_at}
 use Rattle.ffv1_codec.specs.SliceList.{Line, Said, said_by, CodesSlice, lines_of_plane, planes_of_line}
 use Rattle.ffv1_codec.specs.Order.{lines_down}
 use Rattle.ffv1_slice.specs.Footer.{foot_length}
 use Rattle.ffv1_slice.specs.Cutting.{Cuts, coded_of}
 use Rattle.ffv1_codec.specs.Frame.{CodesPicture}
 use Rattle.ffv1_codec.specs.Lines.{lines_of}
-use Rattle.ffv1_codec.specs.Decoding.{State, Decodes, at_first, Slice, slice_number, width_in}
+use Rattle.ffv1_codec.specs.Decoding.{State, Decodes, at_first, Slice, slice_at, slice_number, unread, width_in, left_of, top_of, left_sample, above_sample}
 use Rattle.ffv1_codec.proofs.Machines.{each_left, each_right, each_both, Each, each_append}
 use Rattle.ffv1_codec.proofs.LinesRead.{row_lines, lines_at}
 use Rattle.ffv1_codec.proofs.Groups.{Group, IsGroup, group_lines, groups_of, groups_are, lines_by_groups}
 use Rattle.ffv1_codec.proofs.SliceBodies.{body_alike}
-use Rattle.ffv1_codec.proofs.RowsDone.{all_done}
-use Rattle.ffv1_codec.proofs.CellsShown.{IsLine, Shown, groups_shown}
-use Rattle.ffv1_codec.proofs.NewPlanes.{all_new}
+use Rattle.ffv1_codec.proofs.RowsDone.{all_done, IsBelow}
+use Rattle.ffv1_codec.proofs.Agreed.{IsAgreed}
+use Rattle.ffv1_codec.proofs.CellsShown.{IsLine, Shown, AgreesLeft, IsOld, groups_shown, alike_down}
 use Rattle.ffv1_codec.proofs.PictureMade.{PictureLaws, Part, Rows, all_there, alike_lines, some_wide, all_sized, all_keys, planes_made, lines_are, all_lines, picture_made}
 use Rattle.ffv1_codec.specs.Ending.{HasEnding}
 use Rattle.ffv1_codec.proofs.LastLine.{has_last, planes_some}
@@ -96,23 +97,96 @@ row_inside n columns rows some inside = div_below n columns rows some (omega (ar
 pub number_is : (n columns : ℕ) → 0 < columns → n / columns * columns + n % columns ≡ n
 number_is n columns some = div-add-mod' n columns
 
+-- the slices of a row have read the picture's samples, those that they share too
 module _ (a : Accepted) (laws : PictureLaws a) (coded : ℕ → List ℕ) (said : Option Said) (planes : Planes) where
-  -- the part of a row, and its lines
-  pub part_at : (r from count : ℕ) (ls : List wire.Line) → from ≤ r → r < from + count → Rows a laws coded said (range_with_len from count) ls → Each (IsLine a.configuration planes) ls →
-      (some : List wire.Line) × Part a laws coded said r some × Each (IsLine a.configuration planes) some
-  part_at r from zero ls least most rows lines = absurd (omega (arith, least, most))
-  part_at r from (suc count) ls least most rows lines =
+  abbrev pub ShownIn : (ℕ → Slice) → ℕ → Type 0
+  ShownIn slice r = Each (Shown a.configuration planes slice laws.tiles_h r) (row_lines a.configuration r)
+
+  module _ (r : ℕ) (r_inside : r < a.configuration.rows) (ls : List wire.Line) (part : Part a laws coded said r ls) (lines : Each (IsLine a.configuration planes) ls) (before : ℕ → Slice)
+      (below : IsBelow a coded laws.cells laws.few (some_wide a laws) (alike_lines a laws) before r part.state) (above : 0 < r → ShownIn before (r - 1)) where
+    abbrev c : Configuration
+    c = a.configuration
+
+    cell : (k p : ℕ) → plane (part.slice k).cells p ≡ plane (slice_at part.state k).cells p
+    cell k p = ap (λ (q : Slice). plane q.cells p) (part.is k)
+
+    agreed_at : (k : ℕ) → k < a.configuration.columns → (l : Line) → IsLineOf a.configuration r l → IsAgreed a coded r part.state k l
+    agreed_at k inside l is = at_line c (IsAgreed a coded r part.state k) r l.plane l.y (λ e. alike_lines a laws e l.plane r) is.inside is.below (part.agreed k inside)
+
+    beside : (l : Line) → IsLineOf a.configuration r l → AgreesLeft a.configuration planes part.slice laws.tiles_h r l
+    beside l is = λ j x inside shared.
+        let p = l.plane in
+        let w = width_in c p (suc j) in
+        let last : suc j - 1 ≡ j = omega arith in
+        let some = some_wide a laws p (suc j) inside in
+        let few = (laws.tiles_h p).few (suc j) inside in
+        ap (λ xs. get_or xs (l.y * w + x) 0) (cell (suc j) p)
+        ∙ agreed_at (suc j) inside l is x (left_sample c part.state (suc j) p l.y) (omega (arith, shared, few, some)) (inl (shared, refl))
+        ∙ ap (λ i. get_or (plane (slice_at part.state i).cells p) (l.y * width_in c p i + (width_in c p i - 1)) 0) last
+        ∙ ap (λ xs. get_or xs (l.y * width_in c p j + (width_in c p j - 1)) 0) (sym (cell j p))
+
+    old : (l : Line) → IsLineOf a.configuration r l → IsOld a.configuration planes part.slice laws.tiles_h r l
+    old l is shared = λ k x inside small.
+        let p = l.plane in
+        let side = down (division_of c) p in
+        let w = width_in c p k in
+        let any : 0 < r = elim (cases_lt 0 r) [
+          | inl some ↦ some
+          | inr none ↦
+              let first : r ≡ 0 = omega (arith, none) in
+              let zero_is = subst (λ i. l.y < shared_of side i) first shared in absurd (omega (arith, zero_is))
+        ] in
+        let up = r - 1 in
+        let high = lines_down c p up in
+        let next : suc up ≡ r = omega (arith, any) in
+        let up_inside : up < c.rows = omega (arith, r_inside) in
+        let some : 0 < high = (laws.tiles_v p).some up up_inside in
+        let begins : first_of side (suc up) ≤ first_of side up + high = subst (λ i. first_of side i ≤ begin_of side i) (sym next) ((laws.tiles_v p).begins r r_inside) in
+        let few : (first_of side up + high) - first_of side (suc up) ≤ 1 = subst (λ i. shared_of side i ≤ 1) (sym next) ((laws.tiles_v p).few r r_inside) in
+        let less : l.y < (first_of side up + high) - first_of side (suc up) = subst (λ i. l.y < shared_of side i) (sym next) shared in
+        let place : top_of c p up + (high - 1) ≡ top_of c p (suc up) + l.y = omega (arith, some, begins, few, less) in
+        let there = at_line c (Shown c planes before laws.tiles_h up) up p (high - 1) (λ e. alike_lines a laws e p up) is.inside (omega (arith, some)) (above any) in
+        ap (λ xs. get_or xs (l.y * w + x) 0) (cell k p)
+        ∙ agreed_at k inside l is x (above_sample c part.state r k p x) small (inr (shared, refl))
+        ∙ ap (λ (q : Slice). get_or (plane q.cells p) ((high - 1) * w + x) 0) (below k any inside)
+        ∙ there k x inside small
+        ∙ ap (λ n. coded_at c planes p (left_of c p k + x) n) (place ∙ ap (λ i. top_of c p i + l.y) next)
+
+    row_shown : ShownIn part.slice r
+    row_shown =
+        let lines_of = lines_are_of c r (λ rct p. alike_lines a laws rct p r) in
+        let groups = groups_of c r in
+        let by = lines_by_groups c r in
+        subst (Each (Shown c planes part.slice laws.tiles_h r)) (sym by)
+        (groups_shown c planes part.slice laws.tiles_h r laws.in_rct (λ e p. alike_down c (laws.in_rct.alike e) laws.tiles_v p r r_inside) groups ls
+        (groups_are c r (λ rct p. alike_lines a laws rct p r)) (all_there a laws coded said r ls part)
+        (subst (Each (AgreesLeft c planes part.slice laws.tiles_h r)) by (each_both (IsLineOf c r) (AgreesLeft c planes part.slice laws.tiles_h r) (row_lines c r) lines_of beside))
+        (subst (Each (IsOld c planes part.slice laws.tiles_h r)) by (each_both (IsLineOf c r) (IsOld c planes part.slice laws.tiles_h r) (row_lines c r) lines_of old))
+        part.made lines)
+
+  -- the part of a row
+  pub record RowShown (r : ℕ) : Type 0 where
+    pub lines : List wire.Line
+    pub part : Part a laws coded said r lines
+    pub shown : ShownIn part.slice r
+
+  pub part_at : (r : ℕ) (before : ℕ → Slice) (from count : ℕ) (ls : List wire.Line) → from + count ≤ a.configuration.rows → (0 < from → ShownIn before (from - 1)) → from ≤ r → r < from + count →
+      Rows a laws coded said before (range_with_len from count) ls → Each (IsLine a.configuration planes) ls → RowShown r
+  part_at r before from zero ls fits above least most rows lines = absurd (omega (arith, least, most))
+  part_at r before from (suc count) ls fits above least most rows lines =
       let all : Each (IsLine a.configuration planes) (rows.0 ++ rows.1) = subst (Each (IsLine a.configuration planes)) rows.4 lines in
+      let mine = each_left (IsLine a.configuration planes) rows.0 rows.1 all in
+      let shown = row_shown from (omega (arith, fits)) rows.0 rows.2 mine before rows.5 above in
+      let last : from + 1 - 1 ≡ from = omega arith in
       elim (cases_eq from r) [
-        | inl same ↦
-            subst (λ n. (some : List wire.Line) × Part a laws coded said n some × Each (IsLine a.configuration planes) some) same
-            (rows.0, rows.2, each_left (IsLine a.configuration planes) rows.0 rows.1 all)
+        | inl same ↦ subst RowShown same (record { lines = rows.0; part = rows.2; shown = shown })
         | inr other ↦
-            part_at r (from + 1) count rows.1 (omega (arith, least, other)) (omega (arith, most)) rows.3 (each_right (IsLine a.configuration planes) rows.0 rows.1 all)
+            part_at r rows.2.slice (from + 1) count rows.1 (omega (arith, fits)) (λ any. subst (ShownIn rows.2.slice) (sym last) shown) (omega (arith, least, other)) (omega (arith, most)) rows.3
+            (each_right (IsLine a.configuration planes) rows.0 rows.1 all)
       ]
 
 module _ (a : Accepted) (laws : PictureLaws a) (coded : ℕ → List ℕ) (info : Said) (planes : Planes) where
-  module _ (n : ℕ) (ls : List wire.Line) (part : Part a laws coded (Some info) (n / a.configuration.columns) ls) (lines : Each (IsLine a.configuration planes) ls) where
+  module _ (n : ℕ) (ls : List wire.Line) (part : Part a laws coded (Some info) (n / a.configuration.columns) ls) (shown : Each (Shown a.configuration planes part.slice laws.tiles_h (n / a.configuration.columns)) (row_lines a.configuration (n / a.configuration.columns))) where
     abbrev pub column : ℕ
     column = n % a.configuration.columns
 
@@ -125,21 +199,13 @@ module _ (a : Accepted) (laws : PictureLaws a) (coded : ℕ → List ℕ) (info 
     abbrev pub cells : ℕ → Cell
     cells p = cell_of (width_in a.configuration p column) (plane read.cells p)
 
-    shown : n < a.configuration.columns * a.configuration.rows → Each (Shown a.configuration planes part.slice laws.tiles_h row) (row_lines a.configuration row)
-    shown inside =
-        let r_inside = row_inside n a.configuration.columns a.configuration.rows laws.columns inside in
-        subst (Each (Shown a.configuration planes part.slice laws.tiles_h row)) (sym (lines_by_groups a.configuration row))
-        (groups_shown a.configuration planes part.slice laws.tiles_h row laws.in_rct
-        (λ ps y. all_new a.configuration row ps y (λ p. let none = (laws.tiles_v p).none row r_inside in omega (arith, none))) (groups_of a.configuration row) ls
-        (groups_are a.configuration row (λ rct p. alike_lines a laws rct p row)) (all_there a laws coded (Some info) row ls part) part.made lines)
-
     -- the cells that were read are those of the picture
-    agree : n < a.configuration.columns * a.configuration.rows → 0 < a.configuration.columns → (l : Line) → IsLineOf a.configuration row l → Agree (cells l.plane) (cell_in a.configuration planes n l.plane) l.y
-    agree here some l is = record {
+    agree : 0 < a.configuration.columns → (l : Line) → IsLineOf a.configuration row l → Agree (cells l.plane) (cell_in a.configuration planes n l.plane) l.y
+    agree some l is = record {
       some = some_wide a laws l.plane column (column_inside n a.configuration.columns some);
       wide = refl;
       each = λ x z inside below.
-          at_line a.configuration (Shown a.configuration planes part.slice laws.tiles_h row) row l.plane z (λ rct. alike_lines a laws rct l.plane row) is.inside (omega (arith, below, is.below)) (shown here)
+          at_line a.configuration (Shown a.configuration planes part.slice laws.tiles_h row) row l.plane z (λ rct. alike_lines a laws rct l.plane row) is.inside (omega (arith, below, is.below)) shown
           column x (column_inside n a.configuration.columns some) inside;
     }
 
@@ -162,7 +228,7 @@ module _ (a : Accepted) (laws : PictureLaws a) (coded : ℕ → List ℕ) (info 
           is_body =
               body_alike laws.cells c read.head cells (cell_in c planes n) (row_lines c row) has.body
               (each_both (IsLineOf c row) (λ (l : Line). Agree (cells l.plane) (cell_in c planes n l.plane) l.y) (row_lines c row)
-              (lines_are_of c row (λ rct p. alike_lines a laws rct p row)) (agree inside laws.columns)) has.is_body;
+              (lines_are_of c row (λ rct p. alike_lines a laws rct p row)) (agree laws.columns)) has.is_body;
           codes =
               subst (λ (steps : List Step). Codes (coded n) (decisions_after a.table [] steps)) past
               (subst (λ m. Codes (coded m) (decisions_after a.table [] read.past)) number has.codes);
@@ -184,15 +250,16 @@ pub is_made : (a : Accepted) (laws : PictureLaws a) (payload : List ℕ) (spans 
 is_made a laws payload spans t cuts decodes =
     let conf = a.configuration in
     let coded = coded_of payload (foot_length conf.ec) spans in
-    let done = all_done a coded laws.cells laws.few (some_wide a laws) (alike_lines a laws) laws.columns 0 conf.rows (at_first conf) t refl decodes in
-    let sized = all_sized a laws coded t.info (range_with_len 0 conf.rows) done.lines done.parts in
-    let keys = all_keys a laws coded t.info (range_with_len 0 conf.rows) done.lines done.parts in
+    let done = all_done a coded laws.cells laws.few (some_wide a laws) (alike_lines a laws) laws.columns (λ k. unread) 0 conf.rows (at_first conf) t refl (omega arith) (λ k any inside. absurd (omega (arith, any))) decodes in
+    let sized = all_sized a laws coded t.info (λ k. unread) (range_with_len 0 conf.rows) done.lines done.parts in
+    let keys = all_keys a laws coded t.info (λ k. unread) (range_with_len 0 conf.rows) done.lines done.parts in
     let planes = planes_made a laws done.lines in
     let lines = lines_are a laws done.lines sized keys in
-    let top = part_at a laws coded t.info planes 0 0 conf.rows done.lines (omega arith) (omega (arith, laws.rows)) done.parts lines in
-    let info = said_by a.profile (top.1.slice 0).head in
-    let says : t.info ≡ Some info = top.1.says 0 laws.columns in
-    let rows : Rows a laws coded (Some info) (range_with_len 0 conf.rows) done.lines = subst (λ i. Rows a laws coded i (range_with_len 0 conf.rows) done.lines) says done.parts in
+    let none : (any : 0 < 0) → ShownIn a laws coded t.info planes (λ k. unread) (0 - 1) = λ any. absurd (omega (arith, any)) in
+    let top = part_at a laws coded t.info planes 0 (λ k. unread) 0 conf.rows done.lines (omega arith) none (omega arith) (omega (arith, laws.rows)) done.parts lines in
+    let info = said_by a.profile (top.part.slice 0).head in
+    let says : t.info ≡ Some info = top.part.says 0 laws.columns in
+    let rows : Rows a laws coded (Some info) (λ k. unread) (range_with_len 0 conf.rows) done.lines = subst (λ i. Rows a laws coded i (λ k. unread) (range_with_len 0 conf.rows) done.lines) says done.parts in
     record {
       planes = planes;
       info = info;
@@ -201,9 +268,9 @@ is_made a laws payload spans t cuts decodes =
         spans = spans;
         cuts = cuts;
         slices = λ n inside.
-            let part = part_at a laws coded (Some info) planes (n / conf.columns) 0 conf.rows done.lines (omega arith)
+            let row = part_at a laws coded (Some info) planes (n / conf.columns) (λ k. unread) 0 conf.rows done.lines (omega arith) (λ any. absurd (omega (arith, any))) (omega arith)
             (omega (arith, row_inside n conf.columns conf.rows laws.columns inside)) rows lines in
-            slice_codes a laws coded info planes n part.0 part.1 part.2 inside;
+            slice_codes a laws coded info planes n row.lines row.part row.shown inside;
       };
       says = says;
       lines = done.behind ∙ all_lines a laws done.lines sized keys;

@@ -74,6 +74,7 @@ module _ (a : Accepted) (coded : ℕ → List ℕ) (planes : Planes) (r k : ℕ)
     pub stands : StandsBefore h body more (after_line q (steps_of_line a coded q p (width_in a.configuration p k) y qs row) p row)
     pub within : IsWithin a (coded (slice_number a.configuration r k)) (q.past ++ steps_of_line a coded q p (width_in a.configuration p k) y qs row)
     pub ending : IsLastLine a.configuration r p y → HasEnding a (coded (slice_number a.configuration r k)) (q.past ++ steps_of_line a coded q p (width_in a.configuration p k) y qs row)
+    pub shows : (x : ℕ) → x < width_in a.configuration p k → get_or row x 0 ≡ (cell_at p).at x y
 
   -- the residuals of the next line
   record Split (h : SliceHead) (l : Line) (more : List Line) (steps : List Step) : Type 0 where
@@ -199,6 +200,7 @@ module _ (a : Accepted) (coded : ℕ → List ℕ) (planes : Planes) (r k : ℕ)
         record {
           qs = parts.qs;
           row = row;
+          shows = λ x small. row_of_at p y x small;
           reads = record {
             above = long;
             long = parts.long;

@@ -3,7 +3,7 @@ use Rattle.std.proofs.Common.{◌≡◌, ◌≢◌, refl, ℕ, zero, suc, ◌+�
 use Rattle.std.specs.List.{sum_by, range_with_len}
 use Rattle.std.proofs.lemmas.Bool.{cases_eq}
 use Rattle.std.proofs.lemmas.List.Sums.{sum_by-cons}
-use Rattle.ffv1_slice.specs.Grid.{Side, begin_of, first_of, coded_of, whole_of}
+use Rattle.ffv1_slice.specs.Grid.{Side, begin_of, first_of, coded_of, shared_of, whole_of}
 use Rattle.ffv1_codec.specs.Sides.{Tiles}
 
 abbrev pub total : {X : Type 0} → (X → ℕ) → List X → ℕ
@@ -84,20 +84,20 @@ total_below size none f from (x ∷ xs) most =
     omega (arith, next, place)) in
     omega (arith, first, same, rest)
 
--- the cells of a side are all of it, since none has a sample of another
-parts_total : (s : Side) → Tiles s → (from count : ℕ) → from + count ≤ s.count → begin_of s from + total (coded_of s) (range_with_len from count) ≡ begin_of s (from + count)
-parts_total s tiles from zero fits =
+-- the cells of a side are all of it, where none has a sample of another
+parts_total : (s : Side) → Tiles s → ((k : ℕ) → k < s.count → shared_of s k ≡ 0) → (from count : ℕ) → from + count ≤ s.count → begin_of s from + total (coded_of s) (range_with_len from count) ≡ begin_of s (from + count)
+parts_total s tiles none from zero fits =
     (let same : begin_of s from + 0 ≡ begin_of s from = omega arith in same) ∙ ap (begin_of s) (let here : from ≡ from + 0 = omega arith in here)
-parts_total s tiles from (suc count) fits =
-    let rest = parts_total s tiles (from + 1) count (omega (arith, fits)) in
+parts_total s tiles none from (suc count) fits =
+    let rest = parts_total s tiles none (from + 1) count (omega (arith, fits)) in
     let inside : from < s.count = omega (arith, fits) in
-    let here : begin_of s from + coded_of s from ≡ first_of s from + coded_of s from = omega (arith, tiles.begins from inside, tiles.none from inside) in
+    let here : begin_of s from + coded_of s from ≡ first_of s from + coded_of s from = omega (arith, tiles.begins from inside, none from inside) in
     let next : begin_of s from + coded_of s from ≡ begin_of s (from + 1) = here ∙ ap (begin_of s) (let there : suc from ≡ from + 1 = omega arith in there) in
     let end : begin_of s (from + 1 + count) ≡ begin_of s (from + suc count) = ap (begin_of s) (let there : from + 1 + count ≡ from + suc count = omega arith in there) in
     omega (arith, rest, next, end)
 
-pub total_parts : (s : Side) → Tiles s → total (coded_of s) (range_with_len 0 s.count) ≡ whole_of s
-total_parts s tiles =
-    let all = parts_total s tiles 0 s.count (omega arith) in
+pub total_parts : (s : Side) → Tiles s → ((k : ℕ) → k < s.count → shared_of s k ≡ 0) → total (coded_of s) (range_with_len 0 s.count) ≡ whole_of s
+total_parts s tiles none =
+    let all = parts_total s tiles none 0 s.count (omega arith) in
     let end : begin_of s (0 + s.count) ≡ whole_of s = ap (begin_of s) (let same : 0 + s.count ≡ s.count = omega arith in same) ∙ tiles.last in
     omega (arith, all, tiles.first, end)

@@ -64,6 +64,24 @@ module _ (xs ys : List ℕ) (a k : ℕ) (fits : a + k ≤ length xs) (long : len
       get_or-take n (drop b (put a k xs ys)) i 0 h ∙ get_or-drop b (put a k xs ys) i 0 ∙ put_elsewhere (b + i) out
       ∙ sym (get_or-take n (drop b xs) i 0 h ∙ get_or-drop b xs i 0))
 
+  -- a window that goes into the part as far as the part begins with what stood there
+  pub put_agrees : (shared : ℕ) → shared ≤ k → ((j : ℕ) → j < shared → get_or ys j 0 ≡ get_or xs (a + j) 0) → (b n : ℕ) → b + n ≤ length xs → b + n ≤ a + shared → window b n (put a k xs ys) ≡ window b n xs
+  put_agrees shared few same b n within upto =
+      let all : length (put a k xs ys) ≡ length xs = put_long in
+      let long_new : length (window b n (put a k xs ys)) ≡ n = length-take-le n (drop b (put a k xs ys)) (let d = length-drop b (put a k xs ys) in omega (arith, d, all, within)) in
+      let long_old : length (window b n xs) ≡ n = length-take-le n (drop b xs) (let d = length-drop b xs in omega (arith, d, within)) in
+      same_number_lists (window b n (put a k xs ys)) (window b n xs) (long_new ∙ sym long_old) (λ i h.
+      let h : i < n = omega (arith, long_new, h) in
+      let here : get_or (put a k xs ys) (b + i) 0 ≡ get_or xs (b + i) 0 = elim (cases_lt (b + i) a) [
+        | inl before ↦ put_before (b + i) before
+        | inr from ↦
+            let at : b + i ≡ a + (b + i - a) = omega (arith, from) in
+            let less : b + i - a < shared = omega (arith, from, h, upto) in
+            ap (λ z. get_or (put a k xs ys) z 0) at ∙ put_inside (b + i - a) (omega (arith, less, few)) ∙ same (b + i - a) less ∙ ap (λ z. get_or xs z 0) (sym at)
+      ] in
+      get_or-take n (drop b (put a k xs ys)) i 0 h ∙ get_or-drop b (put a k xs ys) i 0 ∙ here
+      ∙ sym (get_or-take n (drop b xs) i 0 h ∙ get_or-drop b xs i 0))
+
   -- states that are held
   pub put_held : (t : Table) → AllHeld t xs → AllHeld t ys → AllHeld t (put a k xs ys)
   put_held t old new = record {

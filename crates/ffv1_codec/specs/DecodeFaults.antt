@@ -21,6 +21,7 @@ is_decode_fault fault.Footer = true
 is_decode_fault fault.Leftover = true
 is_decode_fault fault.SliceParity = true
 is_decode_fault fault.SliceStatus = true
+is_decode_fault fault.Overlap = true
 is_decode_fault fault.SliceTooLong = false
 is_decode_fault fault.InfoDiffers = true
 is_decode_fault fault.Sink = true

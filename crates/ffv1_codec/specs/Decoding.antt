@@ -1,6 +1,6 @@
 -- What the decoding of a frame knows, and what each event of its order does, or is refused by (RFC
 -- 9043, 3 and 4.4 to 4.8).
-use Rattle.std.specs.Prelude.{◌≡◌, ◌≢◌, ◌⊎◌, ℕ, ℤ, ◌+◌, ◌*◌, ◌^◌, ◌<◌, Bool, true, false}
+use Rattle.std.specs.Prelude.{◌≡◌, ◌≢◌, ◌⊎◌, ℕ, ℤ, ◌+◌, ◌-◌, ◌*◌, ◌^◌, ◌<◌, Bool, true, false}
 use Rattle.std.specs.Prelude.{Option, Some, None, List, [], ◌∷◌, ◌++◌, map, length, take, drop}
 use Rattle.std.specs.Prelude.{replicate, slice_index, slice_set}
 use Rattle.std.proofs.Common.{get_or}
@@ -25,7 +25,7 @@ use Rattle.ffv1_codec.specs.declared.fault.CodecFault.TheVariants as fault
 use Rattle.ffv1_codec.specs.declared.fault.FrameFault.{FrameFault}
 use Rattle.ffv1_codec.specs.Picture.{plane, plane_count, green_of, blue_of}
 use Rattle.ffv1_codec.specs.SliceList.{Said, said_by, base_of, set_in, coding_in}
-use Rattle.ffv1_codec.specs.Order.{Event, IsLastLine, events_of}
+use Rattle.ffv1_codec.specs.Order.{Event, IsLastLine, events_of, lines_down}
 use Rattle.ffv1_codec.specs.Order.Event.{Open, Read, Finish, Hand, Close}
 use Rattle.ffv1_codec.specs.Overread.{IsWithin, IsOverread}
 use Rattle.ffv1_codec.specs.Ending.{HasEnding, LacksEnding}
@@ -104,6 +104,30 @@ own_row c p k y samples =
 abbrev pub coded_line : Configuration → State → ℕ → ℕ → List ℕ
 coded_line c s y p =
     flat_map (λ k. own_row c p k y (plane (slice_at s k).cells p)) (range_with_len 0 c.columns)
+
+-- what the slice to the left says of the last sample of line y of its cell in plane p
+abbrev pub left_sample : Configuration → State → ℕ → ℕ → ℕ → ℕ
+left_sample c s k p y =
+    slice_index (plane (slice_at s (k - 1)).cells p)
+    (y * width_in c p (k - 1) + (width_in c p (k - 1) - 1))
+
+-- what the slice above says of place x of the last line of its cell in plane p
+abbrev pub above_sample : Configuration → State → ℕ → ℕ → ℕ → ℕ → ℕ
+above_sample c s r k p x =
+    slice_index (plane (get_or s.done (slice_number c (r - 1) k) unread).cells p)
+    ((lines_down c p (r - 1) - 1) * width_in c p k + x)
+
+-- v is what the slice to the left, or the one above, says of place x of line y of the cell that
+-- column k of row r has in plane p, which both code
+abbrev pub SaidBefore : Configuration → State → ℕ → ℕ → ℕ → ℕ → ℕ → ℕ → Type 0
+SaidBefore c s r k p y x v =
+    ((x < shared_of (across (division_of c) p) k) × (v ≡ left_sample c s k p y))
+    ⊎ ((y < shared_of (down (division_of c) p) r) × (v ≡ above_sample c s r k p x))
+
+-- the first so many samples of a line are what slices before say of them
+abbrev pub Agrees : Configuration → State → ℕ → ℕ → ℕ → ℕ → ℕ → List ℕ → Type 0
+Agrees c s r k p y count row =
+    (x v : ℕ) → x < count → SaidBefore c s r k p y x v → slice_index row x ≡ v
 
 -- the fault of a key or a head, as a fault of a frame
 abbrev pub of_slice : SliceFault → CodecFault
@@ -259,6 +283,7 @@ module _ (a : Accepted) (coded : ℕ → List ℕ) where
       × (IsLastLine a.configuration r p y →
       HasEnding a (coded (slice_number a.configuration r k))
       (q.past ++ steps_of_line q p width y qs row))
+      × Agrees a.configuration s r k p y width row
   StepsBy s (Finish r planes y) t =
       (out : List (List ℕ))
       × Finishes a.configuration (map (coded_line a.configuration s y) planes) out
@@ -311,6 +336,20 @@ module _ (a : Accepted) (coded : ℕ → List ℕ) where
       × IsWithin a (coded n) (q.past ++ steps_of_line q p width y qs row)
       × IsLastLine a.configuration r p y
       × LacksEnding a (coded n) (q.past ++ steps_of_line q p width y qs row)
+      × Agrees a.configuration s r k p y width row
+
+  -- it is read, and x is the first of its samples of which a slice before says another value
+  abbrev pub DiffersAt : State → ℕ → ℕ → ℕ → ℕ → FrameFault → State → Type 0
+  DiffersAt s r k p y f t =
+      let n = slice_number a.configuration r k in
+      let q = slice_at s k in
+      let width = width_in a.configuration p k in
+      (qs : List ℤ) × (row : List ℕ) × (x : ℕ) × ReadsLine n p width y q qs row
+      × (f ≡ fault_in a.configuration fault.Overlap r k p y (left_of a.configuration p k + x))
+      × (t ≡ put_slice s k (after_line q (steps_of_line q p width y qs row) p row))
+      × IsWithin a (coded n) (q.past ++ steps_of_line q p width y qs row)
+      × (x < width) × Agrees a.configuration s r k p y x row
+      × (v : ℕ) × SaidBefore a.configuration s r k p y x v × (slice_index row x ≢ v)
 
   -- the event is refused, with this fault and what is known then
   abbrev pub FaultsWith : State → Event → FrameFault → State → Type 0
@@ -320,6 +359,7 @@ module _ (a : Accepted) (coded : ℕ → List ℕ) where
       × (t ≡ put_slice s k (decided_in steps))
   FaultsWith s (Read r k p y) f t =
       StopsAt s r k p y f t ⊎ OverreadsAt s r k p y f t ⊎ LacksEndingAt s r k p y f t
+      ⊎ DiffersAt s r k p y f t
   FaultsWith s (Finish r planes y) f t =
       (x : ℕ) × (k : ℕ)
       × IsColourless a.configuration (map (coded_line a.configuration s y) planes) x

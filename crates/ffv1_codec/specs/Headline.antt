@@ -63,10 +63,11 @@ module _ {S : Type 0} (takes refuses : LineStep S) (a : Accepted) (old new : S)
 
   -- decoding accepts exactly the payloads that code a picture, every encoded frame among them, and
   -- hands over each sample, once and in its place; such a frame is short; whatever bytes come, few
-  -- decisions are made, at most 63 a sample and 559 a slice, with transparency 621, and in Wide few
-  -- for what the payload weighs: by the standard's table at most 197 for each coded byte and 197 a
-  -- slice, and beside them 63 for each sample of one line of its cell; and no more is held than the
-  -- configuration says, whatever the height
+  -- decisions are made, at most 63 for each sample that a slice codes and 559 a slice, with
+  -- transparency 621, and in Wide few for what the payload weighs: by the standard's table at most
+  -- 197 for each coded byte and 197 a slice, and beside them 63 for each sample of one line of its
+  -- cell; and no more is held than the configuration says, of which the height says only whether
+  -- two lines of chroma are kept
   pub record Headline (payload : List ℕ) (tally : Tally) (held : Held) : Type 0 where
     pub found : (info : Said) → result ≡ Ok info →
         (planes : Planes) × CodesPicture a payload planes info

@@ -9,6 +9,7 @@ pub mod Places
 pub mod Progress
 pub mod Rows
 pub mod Scratch
+pub mod Shared
 pub mod Stands
 pub mod Tallies
 pub mod Tied

@@ -7,7 +7,7 @@ use Rattle.ffv1_slice.specs.Grid.{Side, Lies, begin_of, length_of, first_of, cod
 use Rattle.ffv1_slice.specs.Grid.{shared_of, whole_of, across, down, division_of}
 
 -- the parts of a side stand one after the other, from 0 to its end; no cell is empty or passes the
--- end, and none has a sample that another has
+-- end; neighbours have one sample in common at most, and none in a plane of the picture's size
 pub record Tiles (s : Side) : Type 0 where
   pub first : begin_of s 0 ≡ 0
   pub next : (k : ℕ) → k < s.count → begin_of s k + length_of s k ≡ begin_of s (suc k)
@@ -15,7 +15,8 @@ pub record Tiles (s : Side) : Type 0 where
   pub some : (k : ℕ) → k < s.count → 0 < coded_of s k
   pub begins : (k : ℕ) → k < s.count → first_of s k ≤ begin_of s k
   pub ends : (k : ℕ) → k < s.count → first_of s k + coded_of s k ≤ whole_of s
-  pub none : (k : ℕ) → k < s.count → shared_of s k ≡ 0
+  pub few : (k : ℕ) → k < s.count → shared_of s k ≤ 1
+  pub flat : s.log2 ≡ 0 → (k : ℕ) → k < s.count → shared_of s k ≡ 0
 
 -- a position lies in some part
 pub record HasPart (s : Side) (x : ℕ) : Type 0 where

@@ -61,6 +61,9 @@ pub enum CodecFault {
     /// A slice's error_status is not 0.
     #[error("38 SliceStatus")]
     SliceStatus,
+    /// At `Wide` two slices say different values of one sample of chroma.
+    #[error("39 Overlap")]
+    Overlap,
     /// A slice's coded bytes pass 16777215.
     #[error("40 SliceTooLong")]
     SliceTooLong,
@@ -88,13 +91,16 @@ pub struct FrameFault {
     /// The number of the slice, in raster order. It is 0 for bytes before the first slice, that of
     /// the slice which holds `x` for a colour, and that of the row's first slice for a sink.
     pub slice: u16,
-    /// The plane of a sample's symbol, of a line that was read too far or that does not end its
-    /// slice, or of the line that a sink refused.
+    /// The plane of a sample's symbol, of a sample of which a slice before says another value, of a
+    /// line that was read too far or that does not end its slice, or of the line that a sink
+    /// refused.
     pub plane: u8,
-    /// The line of the plane: of a sample's symbol, a colour, the line that was read too far or
-    /// that does not end its slice, or the line that a sink refused.
+    /// The line of the plane: of a sample's symbol, a sample of which a slice before says another
+    /// value, a colour, the line that was read too far or that does not end its slice, or the line
+    /// that a sink refused.
     pub line: u16,
-    /// The column of the plane: of a sample's symbol, or a colour.
+    /// The column of the plane: of a sample's symbol, the first sample of which a slice before says
+    /// another value, or a colour.
     pub x: u16,
 }
 

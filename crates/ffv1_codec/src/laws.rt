@@ -49,7 +49,7 @@ pub fn planes_are_divided_part_by_part()
     slice_laws::accepted_pictures_are_divided();
     slice_laws::cells_tile_their_plane();
     slice_laws::parts_follow_one_another();
-    slice_laws::accepted_slices_share_nothing();
+    slice_laws::sides_share_nothing_at_multiples();
 }
 
 /// What an encoder takes of a picture: a head of the profile that says what is to be said, and

@@ -4,8 +4,9 @@ use Rattle.std.proofs.Common.{ap, arith, refl, subst, inl, inr}
 use Rattle.std.proofs.lemmas.Bool.Decides.{nat_tests}
 use Rattle.ffv1_samples.specs.Samples.{sample_bytes}
 use Rattle.ffv1_y4m.specs.Ppm.{bytes_for}
-use Rattle.ffv1_record.specs.Accepted.{IsFirst, IsFirstUpTo, IsFirstWhere, checks, has_depth, is_depth}
+use Rattle.ffv1_record.specs.Accepted.{IsFirstIn, IsFirstUpTo, IsFirstWhere, checks, has_depth, is_depth}
 use Rattle.ffv1_record.specs.Configuration.{Configuration}
+use Rattle.ffv1_record.specs.declared.config.Profile.{Profile as RecordProfile}
 use Rattle.ffv1_record.specs.declared.fault.RecordFault.{RecordFault}
 use Rattle.ffv1_record.specs.declared.fault.RecordFault.TheVariants as record_fault
 use Rattle.ffv1_engine.specs.declared.profile.Profile.{Profile}
@@ -30,19 +31,19 @@ eight_within Strict n h = let few : n ≤ 8 = omega (arith, h) in few
 eight_within Wide n h = let few : n ≤ 16 = omega (arith, h) in few
 
 -- a configuration of a depth up to the greatest is refused for its first check, or for its depth
-first_where : (b : Bool) (c : Configuration) (f : RecordFault) → IsFirstWhere b c f → IsFirst checks c f ⊎ (f ≡ record_fault.Depth)
-first_where true c f h = inl h
-first_where false c f (inl size) = inl (inl size)
-first_where false c f (inr depth) = inr depth.1
+first_where : (p : RecordProfile) (b : Bool) (c : Configuration) (f : RecordFault) → IsFirstWhere p b c f → IsFirstIn p checks c f ⊎ (f ≡ record_fault.Depth)
+first_where p true c f h = inl h
+first_where p false c f (inl size) = inl (inl size)
+first_where p false c f (inr depth) = inr depth.1
 
-pub first_or_depth : (most : ℕ) (c : Configuration) (f : RecordFault) → IsFirstUpTo most c f → IsFirst checks c f ⊎ (f ≡ record_fault.Depth)
-first_or_depth most c f h = first_where (has_depth most c) c f h
+pub first_or_depth : (p : RecordProfile) (most : ℕ) (c : Configuration) (f : RecordFault) → IsFirstUpTo p most c f → IsFirstIn p checks c f ⊎ (f ≡ record_fault.Depth)
+first_or_depth p most c f h = first_where p (has_depth most c) c f h
 
 -- at 8 bits it is no depth that is refused
-pub first_of_eight : (c : Configuration) (f : RecordFault) → c.depth ≡ 8 → IsFirstUpTo 8 c f → IsFirst checks c f
-first_of_eight c f deep h =
+pub first_of_eight : (p : RecordProfile) (c : Configuration) (f : RecordFault) → c.depth ≡ 8 → IsFirstUpTo p 8 c f → IsFirstIn p checks c f
+first_of_eight p c f deep h =
     let has : has_depth 8 c ≡ true = ap (λ n. is_depth 8 n) deep in
-    subst (λ b. IsFirstWhere b c f) has h
+    subst (λ b. IsFirstWhere p b c f) has h
 
 -- the bytes of so many samples
 bytes_by : (b : Bool) (n : ℕ) → (if b then 1 else 2) * n ≡ (if b then n else 2 * n)

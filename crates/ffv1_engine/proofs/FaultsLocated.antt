@@ -80,6 +80,7 @@ memory_other fault.Footer h = refl
 memory_other fault.Leftover h = refl
 memory_other fault.SliceParity h = refl
 memory_other fault.SliceStatus h = refl
+memory_other fault.Overlap h = refl
 memory_other fault.SliceTooLong h = refl
 memory_other fault.InfoDiffers h = refl
 memory_other fault.Sink h = refl

@@ -12,6 +12,8 @@ use Rattle.ffv1_avi.specs.Writes.{WritesFile}
 use Rattle.ffv1_reads.specs.declared.fault.FileFault.{FileFault}
 use Rattle.ffv1_reads.specs.declared.fault.FileFault.TheVariants as avi
 use Rattle.ffv1_words.specs.declared.order.Choice.{Choice}
+use Rattle.ffv1_engine.specs.declared.profile.Profile.{Profile}
+use Rattle.ffv1_engine.specs.Profiles.{greatest_depth, record_profile}
 use Rattle.ffv1_engine.specs.declared.packing.Packed.{Packed}
 use Rattle.ffv1_engine.specs.declared.fault.Fault.TheVariants as fault
 use Rattle.ffv1_engine.specs.Faults.{of_avi}
@@ -20,10 +22,10 @@ use Rattle.ffv1_engine.specs.Internal.Pack.{EncodesVideo, EndsVideo}
 use Rattle.ffv1_engine.specs.Packing.{AllShort, IsFor, bytes_in, packed_file, packed_frames, packed_head, said_for}
 use Rattle.ffv1_engine.specs.Video.{Video}
 
-too_large : (depth : ℕ) (old new : Option (List ℕ)) (choice : Choice) (v : Video) (a : Accepted) → IsFor choice v.ppm v.head a → AllShort a v.head v.pictures → 0 < length v.pictures → most < riff_size (packed_head choice v a) (packed_frames v a) → EndsVideo depth old new v → FaultsPacked depth choice old new fault.TooLarge
-too_large depth None new choice v a for short some large e = tt
-too_large depth (Some text) None choice v a for short some large e = e
-too_large depth (Some text) (Some rest) choice v a for short some large (left, begins, end) = inr (inr (record {
+too_large : (profile : Profile) (old new : Option (List ℕ)) (choice : Choice) (v : Video) (a : Accepted) → IsFor profile choice v.ppm v.head a → AllShort a v.head v.pictures → 0 < length v.pictures → most < riff_size (packed_head choice v a) (packed_frames v a) → EndsVideo (greatest_depth profile) old new v → FaultsPacked profile choice old new fault.TooLarge
+too_large profile None new choice v a for short some large e = tt
+too_large profile (Some text) None choice v a for short some large e = e
+too_large profile (Some text) (Some rest) choice v a for short some large (left, begins, end) = inr (inr (record {
   video = v;
   accepted = a;
   left = left;
@@ -37,18 +39,18 @@ long : {X Y : Type 0} (f : X → Y) (xs : List X) → length (map f xs) ≡ leng
 long f [] = refl
 long f (x ∷ xs) = ap suc (long f xs)
 
-module _ (depth : ℕ) (choice : Choice) (i o : Passage) (head : Head) (frames : List (List ℕ)) (e : EncodesVideo depth choice i head frames) where
+module _ (profile : Profile) (choice : Choice) (i o : Passage) (head : Head) (frames : List (List ℕ)) (e : EncodesVideo profile choice i head frames) where
   riff : riff_size head frames ≡ riff_size (packed_head choice e.video e.accepted) (packed_frames e.video e.accepted)
   riff = ap (λ h. riff_size h frames) e.head_is ∙ ap (λ f. riff_size (packed_head choice e.video e.accepted) f) e.frames_are
 
   file : file_of head frames ≡ packed_file choice e.video e.accepted
   file = ap (λ h. file_of h frames) e.head_is ∙ ap (λ f. file_of (packed_head choice e.video e.accepted) f) e.frames_are
 
-  packable : riff_size head frames ≤ most → IsPackable depth choice e.video e.accepted
+  packable : riff_size head frames ≤ most → IsPackable profile choice e.video e.accepted
   packable small = record { deep = e.deep; for = e.for; some = e.some; short = e.short; small = subst (λ n. n ≤ most) riff small }
 
-  pub file_refused : (f : FileFault) → WritesFile o head frames (Err f) → RefusesPack depth choice i o (of_avi f)
-  file_refused avi.TooLarge w = (record { kept = w.2; same = w.1 }, e.kept, too_large depth i.old i.new choice e.video e.accepted e.for e.short e.some (subst (λ n. most < n) riff w.0) e.ends)
+  pub file_refused : (f : FileFault) → WritesFile o head frames (Err f) → RefusesPack profile choice i o (of_avi f)
+  file_refused avi.TooLarge w = (record { kept = w.2; same = w.1 }, e.kept, too_large profile i.old i.new choice e.video e.accepted e.for e.short e.some (subst (λ n. most < n) riff w.0) e.ends)
   file_refused avi.Write w = (
     record {
       video = e.video;
@@ -75,7 +77,7 @@ module _ (depth : ℕ) (choice : Choice) (i o : Passage) (head : Head) (frames :
   file_refused avi.Checksum w = absurd w.1
   file_refused avi.Rate w = absurd w.1
 
-  pub file_written : (u : Unit {0}) (packed : Packed) → WritesFile o head frames (Ok u) → packed.frames ≡ length frames → packed.bytes ≡ bytes_in frames → Packs depth choice i o packed
+  pub file_written : (u : Unit {0}) (packed : Packed) → WritesFile o head frames (Ok u) → packed.frames ≡ length frames → packed.bytes ≡ bytes_in frames → Packs profile choice i o packed
   file_written u packed w many bytes = record {
     video = e.video;
     accepted = e.accepted;

@@ -1,10 +1,14 @@
 -- Which grids a picture may have, by the checks of its configuration.
-use Rattle.std.proofs.Common.{◌≡◌, refl, ℕ, zero, suc, ◌+◌, ◌-◌, ◌<◌, ◌≤◌, ◌%◌, ◌^◌, ◌==◌, ◌&&◌, nat_le, nat_lt, Bool, true, inl, inr, ap, sym, subst, ◌∙◌, arith}
+use Rattle.std.proofs.Common.{◌≡◌, refl, ℕ, zero, suc, ◌+◌, ◌-◌, ◌*◌, ◌/◌, ◌<◌, ◌≤◌, ◌%◌, ◌^◌, ◌==◌, ◌&&◌, nat_le, nat_lt, Bool, true, inl, inr, ap, sym, subst, ◌∙◌, arith}
 use Rattle.std.specs.List.{list_all, range_with_len}
 use Rattle.std.proofs.lemmas.Bool.{cases_eq, eq-eqb, eqb-true, le-leb, lt-ltb, ltb-true}
-use Rattle.ffv1_record.specs.Accepted.{AreMultiples, edge}
+use Rattle.ffv1_record.specs.Accepted.{PassesEdges, are_multiples, edge, reduced}
+use Rattle.ffv1_record.specs.Configuration.{Configuration}
+use Rattle.ffv1_record.specs.declared.config.Profile.{Profile}
+use Rattle.ffv1_record.specs.declared.config.Profile.TheVariants.{Strict, Wide}
+use Rattle.ffv1_record.proofs.Edges.{multiples_sound, multiples_complete}
 use Rattle.ffv1_words.specs.declared.order.Choice.{Choice}
-use Rattle.ffv1_engine.specs.Grids.{are_even_edges, has_grid, slice_bytes, slice_limit}
+use Rattle.ffv1_engine.specs.Grids.{has_edges, has_grid, slice_bytes, slice_limit}
 use Rattle.ffv1_engine.specs.GridChecks.{AreParts, PassesGrid, with_parts}
 use Rattle.ffv1_engine.specs.Packing.{configuration_for}
 use Rattle.ffv1_engine.specs.Video.{SaidHead}
@@ -13,39 +17,30 @@ use Rattle.ffv1_engine.proofs.VideoFits.{both}
 and_true : (a b : Bool) → a ≡ true → b ≡ true → (a && b) ≡ true
 and_true a b e h = ap (λ x. x && b) e ∙ h
 
-module _ (p : ℕ → Bool) where
-  all_at : (a n : ℕ) → list_all p (range_with_len a n) ≡ true → (k : ℕ) → a ≤ k → k < a + n → p k ≡ true
-  all_at a zero h k low high = absurd (omega (arith, low, high))
-  all_at a (suc n) h k low high =
-      let parts = both (p a) (list_all p (range_with_len (a + 1) n)) h in
-      elim (cases_eq k a) [
-        | inl is ↦ subst (λ x. p x ≡ true) (sym is) parts.0
-        | inr other ↦
-            let past : a + 1 ≤ k = let differ = other in omega (arith, low) in
-            let below : k < (a + 1) + n = omega (arith, high) in
-            all_at (a + 1) n parts.1 k past below
-      ]
+-- ---- edges
 
-  all_from : (a n : ℕ) → ((k : ℕ) → a ≤ k → k < a + n → p k ≡ true) → list_all p (range_with_len a n) ≡ true
-  all_from a zero h = refl
-  all_from a (suc n) h =
-      let here : p a ≡ true = h a (omega arith) (omega arith) in
-      let rest = all_from (a + 1) n (λ k low high. h k (omega (arith, low)) (omega (arith, high))) in
-      and_true (p a) (list_all p (range_with_len (a + 1) n)) here rest
+-- the last part of a size ends where its plane does
+abbrev ends : ℕ → ℕ → ℕ → ℕ
+ends size count log2 = edge (count - 1) size count / 2 ^ log2 + reduced log2 (size - edge (count - 1) size count)
 
-module _ (size count log2 : ℕ) where
-  abbrev even : ℕ → Bool
-  even k = edge k size count % 2 ^ log2 == 0
+module _ (c : Configuration) where
+  pub edges_pass : (p : Profile) → (has_edges p c.width c.columns c.log2_h && has_edges p c.height c.rows c.log2_v) ≡ true → PassesEdges p c
+  unfolding has_edges
+  edges_pass Strict e =
+      let all = both (are_multiples c.width c.columns c.log2_h) (are_multiples c.height c.rows c.log2_v) e in
+      (multiples_sound c.width c.columns c.log2_h all.0, multiples_sound c.height c.rows c.log2_v all.1)
+  edges_pass Wide e =
+      let all = both (ends c.width c.columns c.log2_h == reduced c.log2_h c.width) (ends c.height c.rows c.log2_v == reduced c.log2_v c.height) e in
+      (eqb-true _ _ all.0, eqb-true _ _ all.1)
 
-  edges_sound : are_even_edges size count log2 ≡ true → AreMultiples size count log2
-  unfolding are_even_edges
-  edges_sound h = λ k some below. eqb-true _ _ (all_at even 1 (count - 1) h k (omega (arith, some)) (omega (arith, below)))
+  pub pass_edges : (p : Profile) → PassesEdges p c → (has_edges p c.width c.columns c.log2_h && has_edges p c.height c.rows c.log2_v) ≡ true
+  unfolding has_edges
+  pass_edges Strict e = and_true _ _ (multiples_complete c.width c.columns c.log2_h e.0) (multiples_complete c.height c.rows c.log2_v e.1)
+  pass_edges Wide e = and_true _ _ (eq-eqb _ _ e.0) (eq-eqb _ _ e.1)
 
-  edges_complete : AreMultiples size count log2 → are_even_edges size count log2 ≡ true
-  unfolding are_even_edges
-  edges_complete are = all_from even 1 (count - 1) (λ k low high. eq-eqb _ _ (are k (omega (arith, low)) (omega (arith, high))))
+-- ---- grids
 
-module _ (choice : Choice) (ppm : Bool) (h : SaidHead) (columns rows : ℕ) (parts : AreParts columns rows) where
+module _ (p : Profile) (choice : Choice) (ppm : Bool) (h : SaidHead) (columns rows : ℕ) (parts : AreParts columns rows) where
   abbrev wide : Bool
   wide = nat_le columns h.head.width
 
@@ -53,7 +48,10 @@ module _ (choice : Choice) (ppm : Bool) (h : SaidHead) (columns rows : ℕ) (par
   high = nat_le rows h.head.height
 
   abbrev edges : Bool
-  edges = are_even_edges h.head.width columns h.head.log2_h && are_even_edges h.head.height rows h.head.log2_v
+  edges = has_edges p h.head.width columns h.head.log2_h && has_edges p h.head.height rows h.head.log2_v
+
+  abbrev with_grid : Configuration
+  with_grid = configuration_for (with_parts choice columns rows) ppm h
 
   abbrev small : Bool
   small = nat_lt (slice_bytes h.depth h.head columns rows) slice_limit
@@ -63,22 +61,19 @@ module _ (choice : Choice) (ppm : Bool) (h : SaidHead) (columns rows : ℕ) (par
       and_true _ _ (and_true _ _ (le-leb 1 columns parts.some_columns) (and_true _ _ (le-leb columns 32 parts.few_columns) w))
       (and_true _ _ (le-leb 1 rows parts.some_rows) (and_true _ _ (le-leb rows 32 parts.few_rows) v))
 
-  pub grid_passes : has_grid h.depth h.head columns rows ≡ true → PassesGrid (configuration_for (with_parts choice columns rows) ppm h) × (slice_bytes h.depth h.head columns rows < slice_limit)
+  pub grid_passes : has_grid p h.depth h.head columns rows ≡ true → PassesGrid p with_grid × (slice_bytes h.depth h.head columns rows < slice_limit)
   unfolding has_grid
   grid_passes e =
       let all = both (wide && high) (edges && small) e in
       let sizes = both wide high all.0 in
       let rest = both edges small all.1 in
-      let even = both (are_even_edges h.head.width columns h.head.log2_h) (are_even_edges h.head.height rows h.head.log2_v) rest.0 in
-      ((divided sizes.0 sizes.1, (edges_sound h.head.width columns h.head.log2_h even.0, edges_sound h.head.height rows h.head.log2_v even.1)), ltb-true _ _ rest.1)
+      ((divided sizes.0 sizes.1, edges_pass with_grid p rest.0), ltb-true _ _ rest.1)
 
-  pub passes_grid : PassesGrid (configuration_for (with_parts choice columns rows) ppm h) × (slice_bytes h.depth h.head columns rows < slice_limit) → has_grid h.depth h.head columns rows ≡ true
+  pub passes_grid : PassesGrid p with_grid × (slice_bytes h.depth h.head columns rows < slice_limit) → has_grid p h.depth h.head columns rows ≡ true
   unfolding has_grid
   passes_grid (passes, few) =
       let all = both (nat_le 1 columns && (nat_le columns 32 && wide)) (nat_le 1 rows && (nat_le rows 32 && high)) passes.0 in
       let w = (both (nat_le columns 32) wide (both (nat_le 1 columns) (nat_le columns 32 && wide) all.0).1).1 in
       let v = (both (nat_le rows 32) high (both (nat_le 1 rows) (nat_le rows 32 && high) all.1).1).1 in
       and_true (wide && high) (edges && small) (and_true wide high w v)
-      (and_true edges small
-      (and_true _ _ (edges_complete h.head.width columns h.head.log2_h passes.1.0) (edges_complete h.head.height rows h.head.log2_v passes.1.1))
-      (lt-ltb _ _ few))
+      (and_true edges small (pass_edges with_grid p passes.1) (lt-ltb _ _ few))

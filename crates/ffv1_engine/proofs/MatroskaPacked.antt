@@ -24,6 +24,8 @@ use Rattle.ffv1_y4m.specs.Reads.{Wants}
 use Rattle.ffv1_y4m.specs.Text.{IsText, ReadsAll}
 use Rattle.ffv1_y4m.specs.declared.head.VideoHead.{VideoHead}
 use Rattle.ffv1_words.specs.declared.order.Choice.{Choice}
+use Rattle.ffv1_engine.specs.declared.profile.Profile.{Profile}
+use Rattle.ffv1_engine.specs.Profiles.{greatest_depth, record_profile}
 use Rattle.ffv1_engine.specs.declared.fault.Fault.{Fault}
 use Rattle.ffv1_engine.specs.declared.fault.Fault.TheVariants as fault
 use Rattle.ffv1_engine.specs.declared.packing.Packed.{Packed}
@@ -54,82 +56,82 @@ ImagesOnly = (text : List ℕ) (most depth : ℕ) (h : VideoHead) (rest : List �
 
 -- ---- what is opened, or why not
 
-lacks_before : (most : ℕ) (old new : Option (List ℕ)) (choice : Choice) (f : Fault) → LacksKnown most old new f → FaultsBefore most choice old new f
-lacks_before most None new choice f k = tt
-lacks_before most (Some text) None choice f k = k
-lacks_before most (Some text) (Some rest) choice f k = inl k
+lacks_before : (profile : Profile) (old new : Option (List ℕ)) (choice : Choice) (f : Fault) → LacksKnown (greatest_depth profile) old new f → FaultsBefore profile choice old new f
+lacks_before profile None new choice f k = tt
+lacks_before profile (Some text) None choice f k = k
+lacks_before profile (Some text) (Some rest) choice f k = inl k
 
-no_head_by : (most : ℕ) (c : Cause) (choice : Choice) (p : Passage) (f : Fault) → HeadRefusedBy most c p f → LacksMatroskaBy most c choice p f
-no_head_by most Reading choice p f h = (h.0, known_taken p.old p.new (Wants (video_head most)) (Wants (video_head most)) (λ bytes is. is) h.1)
-no_head_by most Writing choice p f h = h
-no_head_by most Memory choice p f h = absurd h
-no_head_by most Content choice p f h = (h.0, lacks_before most p.old p.new choice f h.1)
+no_head_by : (profile : Profile) (c : Cause) (choice : Choice) (p : Passage) (f : Fault) → HeadRefusedBy (greatest_depth profile) c p f → LacksMatroskaBy profile c choice p f
+no_head_by profile Reading choice p f h = (h.0, known_taken p.old p.new (Wants (video_head (greatest_depth profile))) (Wants (video_head (greatest_depth profile))) (λ bytes is. is) h.1)
+no_head_by profile Writing choice p f h = h
+no_head_by profile Memory choice p f h = absurd h
+no_head_by profile Content choice p f h = (h.0, lacks_before profile p.old p.new choice f h.1)
 
-pub no_head : (most : ℕ) (choice : Choice) (p : Passage) (f : Fault) → HeadRefused most p f → LacksMatroska most choice p f
-no_head most choice p f h = no_head_by most (cause_of f) choice p f h
+pub no_head : (profile : Profile) (choice : Choice) (p : Passage) (f : Fault) → HeadRefused (greatest_depth profile) p f → LacksMatroska profile choice p f
+no_head profile choice p f h = no_head_by profile (cause_of f) choice p f h
 
-rejected_before : (most : ℕ) (old new : Option (List ℕ)) (choice : Choice) (r : VideoReading) (g : RecordFault) → HeadKnown most old new r.ppm r.head → IsFirstUpTo most (configuration_for (choice_for choice r.head) r.ppm r.head) g →
-    FaultsBefore most choice old new (of_record g)
-rejected_before most None new choice r g k i = tt
-rejected_before most (Some text) None choice r g k i = k
-rejected_before most (Some text) (Some rest) choice r g k i = inr (inl (record {
+rejected_before : (profile : Profile) (old new : Option (List ℕ)) (choice : Choice) (r : VideoReading) (g : RecordFault) → HeadKnown (greatest_depth profile) old new r.ppm r.head → IsFirstUpTo (record_profile profile) (greatest_depth profile) (configuration_for (choice_for profile choice r.head) r.ppm r.head) g →
+    FaultsBefore profile choice old new (of_record g)
+rejected_before profile None new choice r g k i = tt
+rejected_before profile (Some text) None choice r g k i = k
+rejected_before profile (Some text) (Some rest) choice r g k i = inr (inl (record {
   head = r.head;
   read = k.1;
   refusal = g;
-  first = subst (λ b. IsFirstUpTo most (configuration_for (choice_for choice r.head) b r.head) g) k.0 i;
+  first = subst (λ b. IsFirstUpTo (record_profile profile) (greatest_depth profile) (configuration_for (choice_for profile choice r.head) b r.head) g) k.0 i;
   is = refl;
 }))
 
 after_head : (most : ℕ) (old new : Option (List ℕ)) (r : VideoReading) → HeadKnown most old new r.ppm r.head → StandsAfterHead most old new
 after_head most old new r k = known_map old new (λ text rest. (r.ppm ≡ is_ppm text) × (video_head most text ≡ Ok (r.head, rest))) (λ text rest. (h : SaidHead) × (video_head most text ≡ Ok (h, rest))) (λ text rest is. (r.head, is.1)) k
 
-pub no_memory : (most : ℕ) (choice : Choice) (p : Passage) (r : VideoReading) (f : Fault) → HeadRead most p r → f ≡ fault.OutOfMemory → LacksMatroska most choice p f
-no_memory most choice p r f h e = rw e (h.kept, has_head most p.old p.new r h.known, after_head most p.old p.new r h.known)
+pub no_memory : (profile : Profile) (choice : Choice) (p : Passage) (r : VideoReading) (f : Fault) → HeadRead (greatest_depth profile) p r → f ≡ fault.OutOfMemory → LacksMatroska profile choice p f
+no_memory profile choice p r f h e = rw e (h.kept, has_head (greatest_depth profile) p.old p.new r h.known, after_head (greatest_depth profile) p.old p.new r h.known)
 
-pub not_accepted : (most : ℕ) (choice : Choice) (p : Passage) (r : VideoReading) (f : Fault) → HeadRead most p r → (f ≡ fault.OutOfMemory) ⊎ ((g : RecordFault) × IsFirstUpTo most (configuration_for (choice_for choice r.head) r.ppm r.head) g × (f ≡ of_record g)) →
-    LacksMatroska most choice p f
-not_accepted most choice p r f h (inl e) = no_memory most choice p r f h e
-not_accepted most choice p r f h (inr (g, i, e)) =
-    subst (λ x. LacksMatroska most choice p x) (sym e) (subst (λ c. LacksMatroskaBy most c choice p (of_record g)) (sym (content_check most (configuration_for (choice_for choice r.head) r.ppm r.head) g i)) (h.kept, rejected_before most p.old p.new choice r g h.known i))
+pub not_accepted : (profile : Profile) (choice : Choice) (p : Passage) (r : VideoReading) (f : Fault) → HeadRead (greatest_depth profile) p r → (f ≡ fault.OutOfMemory) ⊎ ((g : RecordFault) × IsFirstUpTo (record_profile profile) (greatest_depth profile) (configuration_for (choice_for profile choice r.head) r.ppm r.head) g × (f ≡ of_record g)) →
+    LacksMatroska profile choice p f
+not_accepted profile choice p r f h (inl e) = no_memory profile choice p r f h e
+not_accepted profile choice p r f h (inr (g, i, e)) =
+    subst (λ x. LacksMatroska profile choice p x) (sym e) (subst (λ c. LacksMatroskaBy profile c choice p (of_record g)) (sym (content_check (record_profile profile) (greatest_depth profile) (configuration_for (choice_for profile choice r.head) r.ppm r.head) g i)) (h.kept, rejected_before profile p.old p.new choice r g h.known i))
 
-untimed_before : (most : ℕ) (old new : Option (List ℕ)) (choice : Choice) (r : VideoReading) (a : Accepted) → HeadKnown most old new r.ppm r.head → IsFor (choice_for choice r.head) r.ppm r.head a →
-    (IsTimed (rate_in (head_for choice r.ppm r.head a.configuration)) → ⊥) → FaultsBefore most choice old new fault.Rate
-untimed_before most None new choice r a k for untimed = tt
-untimed_before most (Some text) None choice r a k for untimed = k
-untimed_before most (Some text) (Some rest) choice r a k for untimed = inr (inr (record {
+untimed_before : (profile : Profile) (old new : Option (List ℕ)) (choice : Choice) (r : VideoReading) (a : Accepted) → HeadKnown (greatest_depth profile) old new r.ppm r.head → IsFor profile (choice_for profile choice r.head) r.ppm r.head a →
+    (IsTimed (rate_in (head_for choice r.ppm r.head a.configuration)) → ⊥) → FaultsBefore profile choice old new fault.Rate
+untimed_before profile None new choice r a k for untimed = tt
+untimed_before profile (Some text) None choice r a k for untimed = k
+untimed_before profile (Some text) (Some rest) choice r a k for untimed = inr (inr (record {
   head = r.head;
   read = k.1;
   accepted = a;
-  for = subst (λ b. IsFor (choice_for choice r.head) b r.head a) k.0 for;
+  for = subst (λ b. IsFor profile (choice_for profile choice r.head) b r.head a) k.0 for;
   untimed = subst (λ b. IsTimed (rate_in (head_for choice b r.head a.configuration)) → ⊥) k.0 untimed;
   is = refl;
 }))
 
 -- a writer that is not made
-pub not_made : (most : ℕ) (choice : Choice) (p : Passage) (r : VideoReading) (a : Accepted) (head : Head) (shown : Shown) (f : FileFault) → HeadRead most p r → IsFor (choice_for choice r.head) r.ppm r.head a →
-    head ≡ head_for choice r.ppm r.head a.configuration → Makes head shown (Err f) → LacksMatroska most choice p (of_avi f) × (is_matroska_pack_fault (of_avi f) ≡ true)
-not_made most choice p r a head shown file_fault.Rate h for same makes =
-    ((h.kept, untimed_before most p.old p.new choice r a h.known for (subst (λ k. IsTimed (rate_in k) → ⊥) same makes)), refl)
-not_made most choice p r a head shown file_fault.OutOfMemory h for same makes = ((h.kept, has_head most p.old p.new r h.known, after_head most p.old p.new r h.known), refl)
-not_made most choice p r a head shown file_fault.TooLarge h for same makes = absurd makes
-not_made most choice p r a head shown file_fault.Write h for same makes = absurd makes
-not_made most choice p r a head shown file_fault.NotAvi h for same makes = absurd makes
-not_made most choice p r a head shown file_fault.NoFfv1 h for same makes = absurd makes
-not_made most choice p r a head shown file_fault.Truncated h for same makes = absurd makes
-not_made most choice p r a head shown file_fault.ChunkTooLong h for same makes = absurd makes
-not_made most choice p r a head shown file_fault.EmptyFrame h for same makes = absurd makes
-not_made most choice p r a head shown file_fault.Read h for same makes = absurd makes
-not_made most choice p r a head shown file_fault.NotMatroska h for same makes = absurd makes
-not_made most choice p r a head shown file_fault.BadElement h for same makes = absurd makes
-not_made most choice p r a head shown file_fault.NoTracks h for same makes = absurd makes
-not_made most choice p r a head shown file_fault.Encoded h for same makes = absurd makes
-not_made most choice p r a head shown file_fault.Laced h for same makes = absurd makes
-not_made most choice p r a head shown file_fault.Checksum h for same makes = absurd makes
+pub not_made : (profile : Profile) (choice : Choice) (p : Passage) (r : VideoReading) (a : Accepted) (head : Head) (shown : Shown) (f : FileFault) → HeadRead (greatest_depth profile) p r → IsFor profile (choice_for profile choice r.head) r.ppm r.head a →
+    head ≡ head_for choice r.ppm r.head a.configuration → Makes head shown (Err f) → LacksMatroska profile choice p (of_avi f) × (is_matroska_pack_fault (of_avi f) ≡ true)
+not_made profile choice p r a head shown file_fault.Rate h for same makes =
+    ((h.kept, untimed_before profile p.old p.new choice r a h.known for (subst (λ k. IsTimed (rate_in k) → ⊥) same makes)), refl)
+not_made profile choice p r a head shown file_fault.OutOfMemory h for same makes = ((h.kept, has_head (greatest_depth profile) p.old p.new r h.known, after_head (greatest_depth profile) p.old p.new r h.known), refl)
+not_made profile choice p r a head shown file_fault.TooLarge h for same makes = absurd makes
+not_made profile choice p r a head shown file_fault.Write h for same makes = absurd makes
+not_made profile choice p r a head shown file_fault.NotAvi h for same makes = absurd makes
+not_made profile choice p r a head shown file_fault.NoFfv1 h for same makes = absurd makes
+not_made profile choice p r a head shown file_fault.Truncated h for same makes = absurd makes
+not_made profile choice p r a head shown file_fault.ChunkTooLong h for same makes = absurd makes
+not_made profile choice p r a head shown file_fault.EmptyFrame h for same makes = absurd makes
+not_made profile choice p r a head shown file_fault.Read h for same makes = absurd makes
+not_made profile choice p r a head shown file_fault.NotMatroska h for same makes = absurd makes
+not_made profile choice p r a head shown file_fault.BadElement h for same makes = absurd makes
+not_made profile choice p r a head shown file_fault.NoTracks h for same makes = absurd makes
+not_made profile choice p r a head shown file_fault.Encoded h for same makes = absurd makes
+not_made profile choice p r a head shown file_fault.Laced h for same makes = absurd makes
+not_made profile choice p r a head shown file_fault.Checksum h for same makes = absurd makes
 
 -- a writer that is made
-pub made : (most : ℕ) (choice : Choice) (p : Passage) (r : VideoReading) (a : Accepted) (head : Head) (shown : Shown) (w : Writer) → HeadRead most p r → IsHeadOf r → IsFor (choice_for choice r.head) r.ppm r.head a →
-    head ≡ head_for choice r.ppm r.head a.configuration → shown ≡ shown_for r.head → Makes head shown (Ok w) → OpensMatroska most choice p r a w
-made most choice p r a head shown w read is for same how makes = record {
+pub made : (profile : Profile) (choice : Choice) (p : Passage) (r : VideoReading) (a : Accepted) (head : Head) (shown : Shown) (w : Writer) → HeadRead (greatest_depth profile) p r → IsHeadOf r → IsFor profile (choice_for profile choice r.head) r.ppm r.head a →
+    head ≡ head_for choice r.ppm r.head a.configuration → shown ≡ shown_for r.head → Makes head shown (Ok w) → OpensMatroska profile choice p r a w
+made profile choice p r a head shown w read is for same how makes = record {
   read = read;
   head = is;
   for = for;
@@ -139,14 +141,14 @@ made most choice p r a head shown w read is for same how makes = record {
 
 -- ---- nothing was opened
 
-lacks_by : (most : ℕ) (c : Cause) (choice : Choice) (p : Passage) (o : Option (List ℕ)) (n : ℕ) (f : Fault) → LacksMatroskaBy most c choice p f → RefusesMatroskaBy most c choice p (record { old = o; new = o; before = n; after = n }) f
-lacks_by most Reading choice p o n f h = (refl, h.0, inl (Keeps-refl o, h.1))
-lacks_by most Writing choice p o n f h = absurd h
-lacks_by most Memory choice p o n f h = (refl, h.0, h.1, inl (Keeps-refl o, h.2))
-lacks_by most Content choice p o n f h = (refl, h.0, inl (Keeps-refl o, h.1))
+lacks_by : (profile : Profile) (c : Cause) (choice : Choice) (p : Passage) (o : Option (List ℕ)) (n : ℕ) (f : Fault) → LacksMatroskaBy profile c choice p f → RefusesMatroskaBy profile c choice p (record { old = o; new = o; before = n; after = n }) f
+lacks_by profile Reading choice p o n f h = (refl, h.0, inl (Keeps-refl o, h.1))
+lacks_by profile Writing choice p o n f h = absurd h
+lacks_by profile Memory choice p o n f h = (refl, h.0, h.1, inl (Keeps-refl o, h.2))
+lacks_by profile Content choice p o n f h = (refl, h.0, inl (Keeps-refl o, h.1))
 
-pub lacks : (most : ℕ) (choice : Choice) (p : Passage) (o : Option (List ℕ)) (n : ℕ) (f : Fault) → LacksMatroska most choice p f → RefusesMatroska most choice p (record { old = o; new = o; before = n; after = n }) f
-lacks most choice p o n f h = lacks_by most (cause_of f) choice p o n f h
+pub lacks : (profile : Profile) (choice : Choice) (p : Passage) (o : Option (List ℕ)) (n : ℕ) (f : Fault) → LacksMatroska profile choice p f → RefusesMatroska profile choice p (record { old = o; new = o; before = n; after = n }) f
+lacks profile choice p o n f h = lacks_by profile (cause_of f) choice p o n f h
 
 -- ---- Clusters were written
 
@@ -194,19 +196,19 @@ none_left most (Some text) (Some behind) (Some rest) choice a r ps e later h (le
   inr (inr (sym (next_up_to r.ppm r.most most r.head (at_first ps) left later) ∙ end, e, refl)),
 )
 
-module _ (most : ℕ) (choice : Choice) (p : Passage) (r : VideoReading) (a : Accepted) (w : Writer) (opens : OpensMatroska most choice p r a w) where
+module _ (profile : Profile) (choice : Choice) (p : Passage) (r : VideoReading) (a : Accepted) (w : Writer) (opens : OpensMatroska profile choice p r a w) where
   abbrev head : Head
   head = head_for choice r.ppm r.head a.configuration
 
   abbrev fresh : Writer
   fresh = writing_of head (shown_for r.head) []
 
-  clusters : (ps : List Planes) → AreClusters a r fresh ps → HasClusters choice (video_of r ps) a
+  clusters : (ps : List Planes) → AreClusters a r fresh ps → HasClusters profile choice (video_of r ps) a
   clusters ps are = record { head = opens.head; for = opens.for; timed = opens.timed; short = are.short; readable = are.readable; near = are.near }
 
-  ends_clusters : (f : Fault) (ps : List Planes) (left rest : List ℕ) → EndsPutting a r fresh f ps left rest → EndsClusters most choice (video_of r ps) a left rest f
+  ends_clusters : (f : Fault) (ps : List Planes) (left rest : List ℕ) → EndsPutting a r fresh f ps left rest → EndsClusters (greatest_depth profile) choice (video_of r ps) a left rest f
   ends_clusters f ps left rest ends =
-      let same = sym (next_up_to r.ppm r.most most r.head (at_first ps) left opens.read.later) in
+      let same = sym (next_up_to r.ppm r.most (greatest_depth profile) r.head (at_first ps) left opens.read.later) in
       elim ends [
         | inl at ↦ elim at [
           | inl faulty ↦ inl (faulty.0, same ∙ faulty.1, faulty.2)
@@ -220,27 +222,27 @@ module _ (most : ℕ) (choice : Choice) (p : Passage) (r : VideoReading) (a : Ac
 
   module _ (q o : Passage) (joins : q.old ≡ p.new) (counts : q.before ≡ p.after) where
     some : (Next : List Planes → List ℕ → List ℕ → Type 0) (After : Video → Accepted → List ℕ → List ℕ → Type 0) →
-        ((ps : List Planes) (left rest : List ℕ) → Next ps left rest → After (video_of r ps) a left rest) → PutsSome Next a r fresh q o → PacksSome most After choice (joined p q) o
+        ((ps : List Planes) (left rest : List ℕ) → Next ps left rest → After (video_of r ps) a left rest) → PutsSome Next a r fresh q o → PacksSome profile After choice (joined p q) o
     some Next After f s = record {
       video = video_of r s.pictures;
       accepted = a;
       has = clusters s.pictures s.are;
-      taken = video_then most p.old p.new q.new r s.pictures (Next s.pictures) (After (video_of r s.pictures) a) (f s.pictures) opens.read.later opens.read.known
+      taken = video_then (greatest_depth profile) p.old p.new q.new r s.pictures (Next s.pictures) (After (video_of r s.pictures) a) (f s.pictures) opens.read.later opens.read.known
           (subst (λ t. Known t q.new (λ text rest. (left : List ℕ) × ReadsPictures r.ppm r.most r.head true text s.pictures left × Next s.pictures left rest)) joins s.taken);
       writes = s.writes;
     }
 
-    stops_by : (c : Cause) (f : Fault) → StopsPuttingBy c a r fresh q o f → RefusesMatroskaBy most c choice (joined p q) o f
+    stops_by : (c : Cause) (f : Fault) → StopsPuttingBy c a r fresh q o f → RefusesMatroskaBy profile c choice (joined p q) o f
     stops_by Reading f s = (
       s.0,
       s.1 ∙ ap one_more (counts ∙ opens.read.kept),
-      inr (some (PictureWants r.ppm r.most r.head) (λ v b. PictureWants v.ppm most v.head v.pictures) (λ ps left rest is. wants_up_to r.ppm r.most most r.head ps left rest opens.read.later is) s.2),
+      inr (some (PictureWants r.ppm r.most r.head) (λ v b. PictureWants v.ppm (greatest_depth profile) v.head v.pictures) (λ ps left rest is. wants_up_to r.ppm r.most (greatest_depth profile) r.head ps left rest opens.read.later is) s.2),
     )
     stops_by Memory f s = (
       s.0,
       s.1 ∙ (counts ∙ opens.read.kept),
-      has_head most p.old p.new r opens.read.known,
-      inr (some (PictureLacks r.ppm r.most r.head) (λ v b. PictureLacks v.ppm most v.head v.pictures) (λ ps left rest is. lacks_up_to r.ppm r.most most r.head ps left rest opens.read.later is) s.2),
+      has_head (greatest_depth profile) p.old p.new r opens.read.known,
+      inr (some (PictureLacks r.ppm r.most r.head) (λ v b. PictureLacks v.ppm (greatest_depth profile) v.head v.pictures) (λ ps left rest is. lacks_up_to r.ppm r.most (greatest_depth profile) r.head ps left rest opens.read.later is) s.2),
     )
     stops_by Writing f (written, read, s) = (
       written,
@@ -250,7 +252,7 @@ module _ (most : ℕ) (choice : Choice) (p : Passage) (r : VideoReading) (a : Ac
         accepted = a;
         has = clusters s.pictures s.are;
         next = s.next;
-        reads = video_known most p.old p.new q.new r (s.pictures ++ (s.next ∷ [])) opens.read.later opens.read.known (subst (λ t. PicturesKnown t q.new r (s.pictures ++ (s.next ∷ []))) joins s.reads);
+        reads = video_known (greatest_depth profile) p.old p.new q.new r (s.pictures ++ (s.next ∷ [])) opens.read.later opens.read.known (subst (λ t. PicturesKnown t q.new r (s.pictures ++ (s.next ∷ []))) joins s.reads);
         short = s.short;
         readable = s.readable;
         near = s.near;
@@ -260,10 +262,10 @@ module _ (most : ℕ) (choice : Choice) (p : Passage) (r : VideoReading) (a : Ac
     stops_by Content f s = (
       s.0,
       s.1 ∙ (counts ∙ opens.read.kept),
-      inr (some (EndsPutting a r fresh f) (λ v b left rest. EndsClusters most choice v b left rest f) (ends_clusters f) s.2),
+      inr (some (EndsPutting a r fresh f) (λ v b left rest. EndsClusters (greatest_depth profile) choice v b left rest f) (ends_clusters f) s.2),
     )
 
-    pub putting_stops : (f : Fault) → StopsPutting a r w q o f → RefusesMatroska most choice (joined p q) o f
+    pub putting_stops : (f : Fault) → StopsPutting a r w q o f → RefusesMatroska profile choice (joined p q) o f
     putting_stops f s = stops_by (cause_of f) f (subst (λ x. StopsPutting a r x q o f) opens.fresh s)
 
     module _ (v : Writer) (packed : Packed) (h : PutsAll a r w v q o packed) where
@@ -283,7 +285,7 @@ module _ (most : ℕ) (choice : Choice) (p : Passage) (r : VideoReading) (a : Ac
       known = subst (λ t. AllKnown t q.new r pictures) joins h.all.known
 
       -- there was no picture
-      pub no_pictures : packed.frames ≡ 0 → RefusesMatroska most choice (joined p q) o fault.NoFrames
+      pub no_pictures : packed.frames ≡ 0 → RefusesMatroska profile choice (joined p q) o fault.NoFrames
       no_pictures none =
           let empty : h.frames ≡ [] = no_items h.frames (sym put.frames_are ∙ none) in
           let no : pictures ≡ [] = no_frame a r pictures (sym h.all.are ∙ empty) in (
@@ -293,7 +295,7 @@ module _ (most : ℕ) (choice : Choice) (p : Passage) (r : VideoReading) (a : Ac
               video = video_of r pictures;
               accepted = a;
               has = clusters pictures (record { short = h.all.short; readable = subst AreReadable h.all.are put.readable; near = λ some. absurd (let e = ap (λ ps. length ps) no in omega (arith, e, some)) });
-              taken = none_left most p.old p.new q.new choice a r pictures no opens.read.later opens.read.known known;
+              taken = none_left (greatest_depth profile) p.old p.new q.new choice a r pictures no opens.read.later opens.read.known known;
               writes = subst (Appends o.old o.new) begun_is put.writes;
             }),
           )
@@ -310,8 +312,8 @@ module _ (most : ℕ) (choice : Choice) (p : Passage) (r : VideoReading) (a : Ac
         some_read : 0 < length pictures
         some_read = some_pictures a r pictures h.frames h.all.are some_in
 
-        read : ReadsVideo most p.old q.new (video_of r pictures)
-        read = reads_video texts_only images_only most p.old p.new q.new r pictures opens.read.later opens.read.known opens.head known some_read
+        read : ReadsVideo (greatest_depth profile) p.old q.new (video_of r pictures)
+        read = reads_video texts_only images_only (greatest_depth profile) p.old p.new q.new r pictures opens.read.later opens.read.known opens.head known some_read
 
         all_frames_are : 0 < length (frames_for a r.head pictures)
         all_frames_are = subst (λ fs. 0 < length fs) h.all.are some_in
@@ -319,19 +321,19 @@ module _ (most : ℕ) (choice : Choice) (p : Passage) (r : VideoReading) (a : Ac
         writer_is : v ≡ writing_of head (shown_for r.head) (frames_for a r.head pictures)
         writer_is = put.is ∙ ap (λ fs. writing_of head (shown_for r.head) fs) h.all.are
 
-        has_all : HasClusters choice (video_of r pictures) a
+        has_all : HasClusters profile choice (video_of r pictures) a
         has_all = clusters pictures (record { short = h.all.short; readable = subst AreReadable h.all.are put.readable; near = λ some. subst (λ n. n ≤ last_place) (ap (λ (x : Writer). x.at) writer_is) (put.near some_in) })
 
         begun : Appends o.old z.old (begun_file choice (video_of r pictures) a)
         begun = subst (λ t. Appends o.old t (begun_file choice (video_of r pictures) a)) (sym follows) (subst (Appends o.old o.new) begun_is put.writes)
 
-        pub finish_stops : (f : FileFault) → Finishes z v (Err f) → RefusesMatroska most choice (joined p q) (joined o z) (of_avi f)
+        pub finish_stops : (f : FileFault) → Finishes z v (Err f) → RefusesMatroska profile choice (joined p q) (joined o z) (of_avi f)
         finish_stops f finishes = fails f (subst (λ x. Finishes z x (Err f)) writer_is finishes)
           where
-            fails_by : FinishFails most choice (joined p q) (joined o z) → z.after ≡ one_more z.before → RefusesMatroska most choice (joined p q) (joined o z) fault.Write
+            fails_by : FinishFails profile choice (joined p q) (joined o z) → z.after ≡ one_more z.before → RefusesMatroska profile choice (joined p q) (joined o z) fault.Write
             fails_by fails after = (after ∙ ap one_more (number ∙ put.kept), kept, inr fails)
 
-            fails : (f : FileFault) → Finishes z (writing_of head (shown_for r.head) (frames_for a r.head pictures)) (Err f) → RefusesMatroska most choice (joined p q) (joined o z) (of_avi f)
+            fails : (f : FileFault) → Finishes z (writing_of head (shown_for r.head) (frames_for a r.head pictures)) (Err f) → RefusesMatroska profile choice (joined p q) (joined o z) (of_avi f)
             fails file_fault.Write (after, inl cut) = fails_by (record {
               video = video_of r pictures;
               accepted = a;
@@ -381,7 +383,7 @@ module _ (most : ℕ) (choice : Choice) (p : Passage) (r : VideoReading) (a : Ac
         )
 
         pub packs : (b : Bool) → Finishes z v (Ok b) →
-            PacksMatroska most choice (joined p q) (joined o z) (record { frames = packed.frames; bytes = packed.bytes; finished = b })
+            PacksMatroska profile choice (joined p q) (joined o z) (record { frames = packed.frames; bytes = packed.bytes; finished = b })
         packs b finishes =
             let all = whole_by b (subst (λ x. Finishes z x (Ok b)) writer_is finishes) in
             record {

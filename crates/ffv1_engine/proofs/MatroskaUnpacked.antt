@@ -136,9 +136,9 @@ are_written laws a accepted said [] readable = tt
 are_written laws a accepted said (p ∷ ps) readable =
     ((frame_some laws a accepted p said, readable.0, all_bytes (frame_of a p said) (frame_bytes laws a accepted p said)), are_written laws a accepted said ps readable.1)
 
-pub writable : (frame_laws : FrameLaws) (records : RecordLaws) (choice : Choice) (v : Video) (a : Accepted) → HasClusters choice v a → 0 < length v.pictures →
+pub writable : (profile : Profile) (frame_laws : FrameLaws) (records : RecordLaws) (choice : Choice) (v : Video) (a : Accepted) → HasClusters profile choice v a → 0 < length v.pictures →
     (v.ppm ≡ true → IsRatio 4294967295 choice.rate choice.scale) → IsWritable (packed_head choice v a) (shown_for v.head) (packed_frames v a)
-writable frame_laws records choice v a has some rated =
+writable profile frame_laws records choice v a has some rated =
     let sizes = sized v.ppm v.head.head has.head in
     let ratio = (rated_by choice v.ppm v.head a.configuration has.head rated).is in
     record {
@@ -149,7 +149,7 @@ writable frame_laws records choice v a has some rated =
       timed = has.timed;
       record_is = all_bytes (record_of a.configuration) (record_are_bytes a.configuration);
       short = tracks_short (packed_head choice v a) (shown_for v.head)
-          (subst (λ c. length (record_of c) ≤ 2568) (sym has.for.configuration) (record_most records.symbols (choice_for choice v.head) v.ppm v.head (subst HasLowNumbers has.for.configuration (low_numbers records.numbers a.configuration a.table has.for.accepted))));
+          (subst (λ c. length (record_of c) ≤ 2568) (sym has.for.configuration) (record_most records.symbols (choice_for profile choice v.head) v.ppm v.head (subst HasLowNumbers has.for.configuration (low_numbers records.numbers a.configuration a.table has.for.accepted))));
       written = are_written frame_laws a has.for.accepted (said_for v.head) v.pictures has.readable;
       near = has.near some;
     }
@@ -215,12 +215,12 @@ accepted_wide w = record { configuration = w.packs.accepted.configuration; table
 pub packed_so : (packing : Profile) (choice : Choice) (text : List ℕ) (w : WasPackedMatroska packing choice text) → IsReadVideo (greatest_depth packing) text (matroska_video w)
 packed_so packing choice text w = reads_is (greatest_depth packing) text w.input.old w.input.new w.packs.video w.known w.packs.reads
 
-pub given : (packing : Profile) (choice : Choice) (text : List ℕ) (w : WasPackedMatroska packing choice text) → Given (choice_for choice w.packs.video.head) text (matroska_video w) (accepted_wide w)
+pub given : (packing : Profile) (choice : Choice) (text : List ℕ) (w : WasPackedMatroska packing choice text) → Given Wide (choice_for packing choice w.packs.video.head) text (matroska_video w) (accepted_wide w)
 given packing choice text w = record {
   most = greatest_depth packing;
   is = reads_is (greatest_depth packing) text w.input.old w.input.new w.packs.video w.known w.packs.reads;
   bytes = w.bytes;
-  for = record { configuration = w.packs.has.for.configuration; accepted = w.packs.has.for.accepted };
+  for = record { configuration = w.packs.has.for.configuration; accepted = w.packs.has.for.accepted; passes = w.packs.has.for.accepted.passes };
   some = w.packs.some;
   short = short_in Wide w.packs.accepted w.packs.video.head w.packs.video.pictures w.packs.has.short;
   readable = w.packs.has.readable;
@@ -228,13 +228,13 @@ given packing choice text w = record {
 }
 
 -- and it is read
-pub read_wide : (packing : Profile) (choice : Choice) (text : List ℕ) (w : WasPackedMatroska packing choice text) → IsReadIn Wide (matroska_video w)
-read_wide packing choice text w = all_within packing w.packs.video.head.depth w.packs.deep
+pub read_wide : (packing : Profile) (choice : Choice) (text : List ℕ) (w : WasPackedMatroska packing choice text) → IsReadIn Wide (matroska_video w) w.packs.accepted.configuration
+read_wide packing choice text w = record { deep = all_within packing w.packs.video.head.depth w.packs.deep; passes = w.packs.has.for.accepted.passes }
 
 module _ (packing : Profile) (frame_laws : FrameLaws) (records : RecordLaws) (laws : MatroskaLaws) (choice : Choice) (text : List ℕ) (w : WasPackedMatroska packing choice text) where
   reads : MatroskaFile (matroska_file w) (packed_head choice (matroska_video w) (w.packs.accepted)) (packed_frames (matroska_video w) (w.packs.accepted))
       × (file_read Whole (matroska_file w) ≡ Ok ((packed_head choice (matroska_video w) (w.packs.accepted), packed_frames (matroska_video w) (w.packs.accepted)), []))
-  reads = whole_read laws w.packed.finished choice w.packs.video w.packs.accepted (writable frame_laws records choice w.packs.video w.packs.accepted w.packs.has w.packs.some w.rated)
+  reads = whole_read laws w.packed.finished choice w.packs.video w.packs.accepted (writable packing frame_laws records choice w.packs.video w.packs.accepted w.packs.has w.packs.some w.rated)
 
   pub file_is : MatroskaFile (matroska_file w) (packed_head choice (matroska_video w) (accepted_wide w)) (packed_frames (matroska_video w) (accepted_wide w))
   file_is = reads.0

@@ -13,7 +13,7 @@ use Rattle.ffv1_files.specs.Files.{open_read}
 use Rattle.ffv1_reads.specs.Head.{Head}
 use Rattle.ffv1_reads.specs.declared.fault.FileFault.{FileFault}
 use Rattle.ffv1_engine.specs.declared.profile.Profile.{Profile}
-use Rattle.ffv1_engine.specs.Profiles.{greatest_depth, scope_in}
+use Rattle.ffv1_engine.specs.Profiles.{greatest_depth, record_profile, scope_in}
 use Rattle.ffv1_engine.specs.declared.fault.Fault.{Fault}
 use Rattle.ffv1_engine.specs.declared.fault.Fault.TheVariants as fault
 use Rattle.ffv1_engine.specs.Faults.{Cause, cause_of, of_avi, of_record}
@@ -48,7 +48,7 @@ record_cause record_fault.Ec = inr refl
 record_cause record_fault.Intra = inr refl
 record_cause record_fault.ExtraPlane = inr refl
 
-lacks_known : (profile : Profile) (old new : Option (List ℕ)) (head : Head) (place : Place) (r : RecordFault) → OpensKnown profile old new head place → IsRefused (greatest_depth profile) head.config_record head.width head.height r →
+lacks_known : (profile : Profile) (old new : Option (List ℕ)) (head : Head) (place : Place) (r : RecordFault) → OpensKnown profile old new head place → IsRefused (record_profile profile) (greatest_depth profile) head.config_record head.width head.height r →
     LacksStream profile old new (of_record r)
 lacks_known profile None new head place r opens refused = tt
 lacks_known profile (Some file) None head place r opens refused = absurd opens
@@ -71,7 +71,7 @@ pub lacks_file : (profile : Profile) (p : Passage) (f : FileFault) → StopsRead
 lacks_file profile p f h = stops_opening profile p (of_avi f) (cause_of (of_avi f)) (file_stops (open_read (scope_in profile)) (opening_may_end (scope_in profile)) p f h)
 
 pub lacks_record : (profile : Profile) (p : Passage) (head : Head) (place : Place) (r : RecordFault) → p.after ≡ p.before → OpensKnown profile p.old p.new head place →
-    (r ≡ record_fault.OutOfMemory) ⊎ IsRefused (greatest_depth profile) head.config_record head.width head.height r → (r ≡ record_fault.OutOfMemory → ReachesSets (greatest_depth profile) head.config_record) → LacksOpening profile p (of_record r)
+    (r ≡ record_fault.OutOfMemory) ⊎ IsRefused (record_profile profile) (greatest_depth profile) head.config_record head.width head.height r → (r ≡ record_fault.OutOfMemory → ReachesSets (greatest_depth profile) head.config_record) → LacksOpening profile p (of_record r)
 lacks_record profile p head place r kept known why reaches = elim (record_cause r) [
   | inl memory ↦
       subst (λ z. LacksOpening profile p (of_record z)) (sym memory)

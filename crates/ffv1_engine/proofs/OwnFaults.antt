@@ -161,6 +161,7 @@ payload_tells codec_fault.Footer decode own = refl
 payload_tells codec_fault.Leftover decode own = refl
 payload_tells codec_fault.SliceParity decode own = refl
 payload_tells codec_fault.SliceStatus decode own = refl
+payload_tells codec_fault.Overlap decode own = refl
 payload_tells codec_fault.SliceTooLong decode own = absurd (let no : false ≡ true = decode in cc)
 payload_tells codec_fault.InfoDiffers decode own = refl
 payload_tells codec_fault.Sink decode own = absurd (own refl)

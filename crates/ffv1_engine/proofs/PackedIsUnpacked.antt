@@ -5,6 +5,9 @@ use Rattle.ffv1_range.specs.Codes.{AreBytes}
 use Rattle.ffv1_range.specs.Counts.{saturated}
 use Rattle.ffv1_range.specs.declared.tally.Tally.{Tally}
 use Rattle.ffv1_wire.specs.Passage.{Passage}
+use Rattle.ffv1_record.specs.Accepted.{PassesAll, PassesEdges, checks}
+use Rattle.ffv1_record.specs.declared.config.Profile.{Profile as RecordProfile}
+use Rattle.ffv1_record.specs.declared.config.Profile.TheVariants as of_record
 use Rattle.ffv1_record.specs.Accepted.{Accepted}
 use Rattle.ffv1_codec.specs.Frame.{IsSaid, frame_of}
 use Rattle.ffv1_codec.specs.Picture.{Planes}
@@ -45,7 +48,7 @@ use Rattle.ffv1_engine.specs.Opens.{LacksOpeningBy}
 use Rattle.ffv1_engine.specs.Play.{End, EndsWith, FaultsRead, IsFaulty, LacksStream, Played}
 use Rattle.ffv1_engine.specs.Plays.{FileThen, GoesBy, NextEnds, NextStays, PlayStopsBy}
 use Rattle.ffv1_engine.specs.Play.End.{File, Payload, Over}
-use Rattle.ffv1_engine.specs.RoundTrip.{HoldsBy, IsFileIn, IsNoContent, IsReadIn, IsUnpacked, WasPacked, canonical_by, canonical_of, video_in}
+use Rattle.ffv1_engine.specs.RoundTrip.{configuration_in, HoldsBy, IsFileIn, IsNoContent, IsReadIn, IsUnpacked, WasPacked, canonical_by, canonical_of, video_in}
 use Rattle.ffv1_engine.specs.Stream.{AreFrames, Frame, IsFrame, IsRead, IsStream, ReadsFile, ReadsFrames, Stream, frame_payload, payloads}
 use Rattle.ffv1_codec.specs.Outcome.{FaultsOf}
 use Rattle.ffv1_engine.specs.Unpack.{LacksTextIn, UnpackDone, UnpackStops}
@@ -137,18 +140,18 @@ begins_in profile file None s frames Next h = absurd h
 begins_in profile file (Some rest) s frames Next h = begun profile file rest s frames Next h
 
 -- a text that is packed
-pub record Given (choice : Choice) (text : List ℕ) (v : Video) (a : Accepted) : Type 0 where
+pub record Given (profile : Profile) (choice : Choice) (text : List ℕ) (v : Video) (a : Accepted) : Type 0 where
   pub most : ℕ
   pub is : IsReadVideo most text v
   pub bytes : AreBytes text
-  pub for : IsFor choice v.ppm v.head a
+  pub for : IsFor profile choice v.ppm v.head a
   pub some : 0 < length v.pictures
   pub short : AllShort a v.head v.pictures
   pub readable : AreReadable (packed_frames v a)
   pub rated : v.ppm ≡ true → IsRatio 4294967295 choice.rate choice.scale
 
 module _ (profile : Profile) (files : FileLaws profile) (frame_laws : FrameLaws) (records : RecordLaws) (choice : Choice) (text : List ℕ) (v : Video) (a : Accepted) (profiled : a.profile ≡ record_profile profile)
-    (read : v.head.depth ≤ greatest_depth profile) (g : Given choice text v a) where
+    (read : v.head.depth ≤ greatest_depth profile) (g : Given profile choice text v a) where
   for : a.configuration ≡ configuration_for choice v.ppm v.head
   for = g.for.configuration
 
@@ -165,7 +168,7 @@ module _ (profile : Profile) (files : FileLaws profile) (frame_laws : FrameLaws)
   coded = all_coded frame_laws a g.for.accepted choice v.ppm v.head for head said v.pictures (pictures_given g.most v.ppm text v.head v.pictures g.is g.bytes) g.short
 
   pub can_write : riff_size (packed_head choice v a) (packed_frames v a) ≤ most → IsWritable (packed_head choice v a) (packed_frames v a)
-  can_write small = writable profile records choice v.ppm v.head a for g.for.accepted profiled head read g.rated v.pictures coded g.readable small
+  can_write small = writable profile records choice v.ppm v.head a for g.for.accepted g.for.passes profiled head read g.rated v.pictures coded g.readable small
 
   stream : Stream
   stream = stream_for choice v.ppm v.head a
@@ -183,7 +186,7 @@ module _ (profile : Profile) (files : FileLaws profile) (frame_laws : FrameLaws)
           stream = stream;
           frames = m.frames;
           is = subst (λ ps. Is file (packed_head choice v a) ps) (sym m.payloads_are) file_is;
-          played = record { stream = stream_is profile records choice v.ppm v.head a for g.for.accepted profiled head read; decoded = m.are };
+          played = record { stream = stream_is profile records choice v.ppm v.head a for g.for.accepted g.for.passes profiled head read; decoded = m.are };
           pictures_are = m.pictures_are;
           say = m.say;
           text = text_given choice v.ppm v.head a for head named;
@@ -194,7 +197,7 @@ module _ (profile : Profile) (files : FileLaws profile) (frame_laws : FrameLaws)
     -- a stream with that head is the one
     the_stream : (s : Stream) → IsStream profile s → s.head ≡ packed_head choice v a → s ≡ stream
     unfolding stream
-    the_stream s is e = one_stream profile records choice v.ppm v.head a for g.for.accepted profiled head read s is e
+    the_stream s is e = one_stream profile records choice v.ppm v.head a for g.for.accepted g.for.passes profiled head read s is e
 
     -- frames of it that the file begins with are those of the first pictures
     the_frames : (s : Stream) (frames : List Frame) (more : List (List ℕ)) → s ≡ stream → AreFrames s.accepted frames → packed_frames v a ≡ payloads frames ++ more → Same a (said_for v.head) frames more v.pictures
@@ -280,7 +283,7 @@ module _ (profile : Profile) (files : FileLaws profile) (frame_laws : FrameLaws)
     lacks_stream (Some rest) f (inl h) = no_read_fault (open_read (scope_in profile)) file rest f _ h whole.opened
     lacks_stream (Some rest) f (inr h) =
         let e : ((h.head, h.place), rest) ≡ ((packed_head choice v a, whole.from), whole.behind) = same_ok (open_read (scope_in profile) file) _ _ h.opened whole.opened in
-        none_refused profile records choice v.ppm v.head a for g.for.accepted profiled head read h.head h.refusal (ap (λ (z : (Head × Place) × List ℕ). z.0.0) e) h.refused
+        none_refused profile records choice v.ppm v.head a for g.for.accepted g.for.passes profiled head read h.head h.refusal (ap (λ (z : (Head × Place) × List ℕ). z.0.0) e) h.refused
 
     -- which has a text
     lacks_text : (p : Passage) (f : Fault) → p.old ≡ Some file → LacksTextIn profile p f → ⊥
@@ -392,12 +395,12 @@ pub short_in : (profile : Profile) (a : Accepted) (h : SaidHead) (ps : List Plan
 short_in profile a h [] short = tt
 short_in profile a h (p ∷ ps) short = (λ long. short.0 (record { slice = long.slice; inside = long.inside; long = long.long }), short_in profile a h ps short.1)
 
-pub given : (packing profile : Profile) (choice : Choice) (text : List ℕ) (w : WasPacked packing choice text) → Given choice text (video_in w) (accepted_in profile w)
-given packing profile choice text w = record {
+pub given : (packing profile : Profile) (choice : Choice) (text : List ℕ) (w : WasPacked packing choice text) → IsReadIn profile (video_in w) (configuration_in w) → Given profile choice text (video_in w) (accepted_in profile w)
+given packing profile choice text w read = record {
   most = greatest_depth packing;
   is = reads_is (greatest_depth packing) text w.input.old w.input.new w.packs.video w.known w.packs.reads;
   bytes = w.bytes;
-  for = record { configuration = w.packs.packable.for.configuration; accepted = w.packs.packable.for.accepted };
+  for = record { configuration = w.packs.packable.for.configuration; accepted = w.packs.packable.for.accepted; passes = read.passes };
   some = w.packs.packable.some;
   short = short_in profile w.packs.accepted w.packs.video.head w.packs.video.pictures w.packs.packable.short;
   readable = w.readable;
@@ -420,18 +423,24 @@ pub lined_by : (lined : (text : List ℕ) (most depth width height : ℕ) (image
 lined_by lined deepest true text h ps few v = (v.0, lined text deepest h.depth h.head.width h.head.height ps few v.1)
 lined_by lined deepest false text h ps few v = v
 
--- it is read in each profile that reads its depth
-pub read_in : (packing profile : Profile) (choice : Choice) (text : List ℕ) (w : WasPacked packing choice text) → IsReadIn packing (video_in w) × IsReadIn Wide (video_in w) × ((video_in w).head.depth ≡ 8 → IsReadIn profile (video_in w))
+-- what passes the checks of `Wide`, and whose edges pass in a profile, passes the checks of that
+passes_by : (p : RecordProfile) (c : Configuration) → PassesAll of_record.Wide checks c → PassesEdges p c → PassesAll p checks c
+passes_by of_record.Strict c passes edges =
+    (passes.0, (passes.1.0, (passes.1.1.0, (passes.1.1.1.0, (passes.1.1.1.1.0, (passes.1.1.1.1.1.0, (edges, tt)))))))
+passes_by of_record.Wide c passes edges = passes
+
+-- it is read in each profile that reads its depth and accepts its edges
+pub read_in : (packing profile : Profile) (choice : Choice) (text : List ℕ) (w : WasPacked packing choice text) → IsReadIn packing (video_in w) (configuration_in w) × IsReadIn Wide (video_in w) (configuration_in w) × ((video_in w).head.depth ≡ 8 → PassesEdges (record_profile profile) (configuration_in w) → IsReadIn profile (video_in w) (configuration_in w))
 read_in packing profile choice text w = (
-  w.packs.packable.deep,
-  all_within packing w.packs.video.head.depth w.packs.packable.deep,
-  λ eight. eight_within profile w.packs.video.head.depth eight,
+  record { deep = w.packs.packable.deep; passes = w.packs.packable.for.passes },
+  record { deep = all_within packing w.packs.video.head.depth w.packs.packable.deep; passes = w.packs.packable.for.accepted.passes },
+  λ eight edges. record { deep = eight_within profile w.packs.video.head.depth eight; passes = passes_by (record_profile profile) (configuration_in w) w.packs.packable.for.accepted.passes edges },
 )
 
 -- the AVI of such a text
-module _ (packing profile : Profile) (files : FileLaws profile) (frame_laws : FrameLaws) (records : RecordLaws) (choice : Choice) (text : List ℕ) (w : WasPacked packing choice text) (read : IsReadIn profile (video_in w)) where
+module _ (packing profile : Profile) (files : FileLaws profile) (frame_laws : FrameLaws) (records : RecordLaws) (choice : Choice) (text : List ℕ) (w : WasPacked packing choice text) (read : IsReadIn profile (video_in w) (configuration_in w)) where
   avi_writable : IsWritable (packed_head choice (video_in w) (accepted_in profile w)) (packed_frames (video_in w) (accepted_in profile w))
-  avi_writable = can_write profile files frame_laws records choice text (video_in w) (accepted_in profile w) refl read (given packing profile choice text w) w.packs.packable.small
+  avi_writable = can_write profile files frame_laws records choice text (video_in w) (accepted_in profile w) refl read.deep (given packing profile choice text w read) w.packs.packable.small
 
   pub avi_reads : file_read (scope_in profile) (packed_file choice (video_in w) (accepted_in profile w)) ≡ Ok ((packed_head choice (video_in w) (accepted_in profile w), packed_frames (video_in w) (accepted_in profile w)), [])
   avi_reads = files.read (packed_head choice (video_in w) (accepted_in profile w)) (packed_frames (video_in w) (accepted_in profile w)) avi_writable

@@ -2,7 +2,7 @@
 use Rattle.std.proofs.Common.{◌≡◌, refl, ℕ, ◌+◌, ◌<◌, ◌≤◌, Bool, true, false, List, [], ◌∷◌, length, map, ap, ap₂, sym, subst, ◌∙◌, arith}
 use Rattle.ffv1_range.specs.Codes.{AreBytes}
 use Rattle.ffv1_range.specs.Table.{Table}
-use Rattle.ffv1_record.specs.Accepted.{Accepted, IsAccepted}
+use Rattle.ffv1_record.specs.Accepted.{Accepted, IsAccepted, PassesAll, checks}
 use Rattle.ffv1_record.specs.Configuration.{Configuration}
 use Rattle.ffv1_record.specs.Reading.{IsRefused}
 use Rattle.ffv1_record.specs.Record.{IsRecord, record_of}
@@ -34,7 +34,7 @@ pub record RecordLaws : Type 0 where
   pub written : (c : Configuration) → IsRecord (record_of c) c
   pub one : (bytes : List ℕ) (c d : Configuration) (t u : Table) → AreBytes bytes → IsAccepted c t → IsAccepted d u → c.width ≡ d.width → c.height ≡ d.height → IsRecord bytes c → IsRecord bytes d → c ≡ d
   pub table : (c : Configuration) (t u : Table) → IsAccepted c t → IsAccepted c u → t ≡ u
-  pub none : (most : ℕ) (bytes : List ℕ) (c : Configuration) (t : Table) (f : RecordFault) → AreBytes bytes → IsAccepted c t → c.depth ≤ most → IsRecord bytes c → IsRefused most bytes c.width c.height f → ⊥
+  pub none : (p : RecordProfile) (most : ℕ) (bytes : List ℕ) (c : Configuration) (t : Table) (f : RecordFault) → AreBytes bytes → IsAccepted c t → PassesAll p checks c → c.depth ≤ most → IsRecord bytes c → IsRefused p most bytes c.width c.height f → ⊥
   pub symbols : SymbolLaws
   pub numbers : NumberLaws
 
@@ -60,7 +60,7 @@ sized_frames a said [] coded readable = tt
 sized_frames a said (p ∷ ps) coded readable = (coded.0.some, readable.0, sized_frames a said ps coded.1 readable.1)
 
 module _ (profile : Profile) (laws : RecordLaws) (choice : Choice) (ppm : Bool) (h : SaidHead) (a : Accepted) (for : a.configuration ≡ configuration_for choice ppm h) (accepted : IsAccepted a.configuration a.table)
-    (profiled : a.profile ≡ record_profile profile) (is : IsHeadBy ppm h.head) (least : h.depth ≤ greatest_depth profile) where
+    (passes : PassesAll (record_profile profile) checks a.configuration) (profiled : a.profile ≡ record_profile profile) (is : IsHeadBy ppm h.head) (least : h.depth ≤ greatest_depth profile) where
   pub writable : (rated : ppm ≡ true → IsRatio 4294967295 choice.rate choice.scale) (ps : List Planes) → AllCoded a (said_for h) ps → AreReadable (map (λ planes. frame_of a planes (said_for h)) ps) →
       riff_size (head_for choice ppm h a.configuration) (map (λ planes. frame_of a planes (said_for h)) ps) ≤ most →
       IsWritable (head_for choice ppm h a.configuration) (map (λ planes. frame_of a planes (said_for h)) ps)
@@ -88,7 +88,7 @@ module _ (profile : Profile) (laws : RecordLaws) (choice : Choice) (ppm : Bool) 
   deep = subst (λ n. n ≤ greatest_depth profile) (sym (ap (λ (c : Configuration). c.depth) for)) least
 
   pub stream_is : IsStream profile (stream_for choice ppm h a)
-  stream_is = record { coded = laws.written a.configuration; width = wide; height = high; accepted = accepted; profiled = profiled; deep = deep }
+  stream_is = record { coded = laws.written a.configuration; width = wide; height = high; accepted = accepted; passes = passes; profiled = profiled; deep = deep }
 
   -- a file with that head has this stream and no other
   pub one_stream : (s : Stream) → IsStream profile s → s.head ≡ head_for choice ppm h a.configuration → s ≡ stream_for choice ppm h a
@@ -106,12 +106,12 @@ module _ (profile : Profile) (laws : RecordLaws) (choice : Choice) (ppm : Bool) 
       ap₂ whole same both
 
   -- its record has no fault
-  pub none_refused : (k : Head) (f : RecordFault) → k ≡ head_for choice ppm h a.configuration → IsRefused (greatest_depth profile) k.config_record k.width k.height f → ⊥
+  pub none_refused : (k : Head) (f : RecordFault) → k ≡ head_for choice ppm h a.configuration → IsRefused (record_profile profile) (greatest_depth profile) k.config_record k.width k.height f → ⊥
   none_refused k f same refused =
-      let here : IsRefused (greatest_depth profile) (record_of a.configuration) h.head.width h.head.height f = subst (λ (j : Head). IsRefused (greatest_depth profile) j.config_record j.width j.height f) same refused in
-      let sizes : IsRefused (greatest_depth profile) (record_of a.configuration) a.configuration.width a.configuration.height f =
-      subst (λ m. IsRefused (greatest_depth profile) (record_of a.configuration) m a.configuration.height f) (sym wide) (subst (λ n. IsRefused (greatest_depth profile) (record_of a.configuration) h.head.width n f) (sym high) here) in
-      laws.none (greatest_depth profile) (record_of a.configuration) a.configuration a.table f (record_are_bytes a.configuration) accepted deep (laws.written a.configuration) sizes
+      let here : IsRefused (record_profile profile) (greatest_depth profile) (record_of a.configuration) h.head.width h.head.height f = subst (λ (j : Head). IsRefused (record_profile profile) (greatest_depth profile) j.config_record j.width j.height f) same refused in
+      let sizes : IsRefused (record_profile profile) (greatest_depth profile) (record_of a.configuration) a.configuration.width a.configuration.height f =
+      subst (λ m. IsRefused (record_profile profile) (greatest_depth profile) (record_of a.configuration) m a.configuration.height f) (sym wide) (subst (λ n. IsRefused (record_profile profile) (greatest_depth profile) (record_of a.configuration) h.head.width n f) (sym high) here) in
+      laws.none (record_profile profile) (greatest_depth profile) (record_of a.configuration) a.configuration a.table f (record_are_bytes a.configuration) accepted passes deep (laws.written a.configuration) sizes
 
 abbrev with_table : Configuration → Table → RecordProfile → Accepted
 with_table c t p = record { configuration = c; table = t; profile = p }

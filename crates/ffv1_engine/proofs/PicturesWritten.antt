@@ -196,6 +196,7 @@ decode_cause codec_fault.Footer is own = refl
 decode_cause codec_fault.Leftover is own = refl
 decode_cause codec_fault.SliceParity is own = refl
 decode_cause codec_fault.SliceStatus is own = refl
+decode_cause codec_fault.Overlap is own = refl
 decode_cause codec_fault.SliceTooLong is own = absurd (search rules)
 decode_cause codec_fault.InfoDiffers is own = refl
 decode_cause codec_fault.Sink is own = absurd (own refl)

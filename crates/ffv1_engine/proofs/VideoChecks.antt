@@ -5,7 +5,8 @@ use Rattle.std.proofs.lemmas.Grind.{common_steps}
 use Rattle.ffv1_range.specs.Deltas.{IsTableOf}
 use Rattle.ffv1_range.specs.Standard.{standard}
 use Rattle.ffv1_range.specs.Table.{Table}
-use Rattle.ffv1_record.specs.Accepted.{IsFirst, IsFirstUpTo, IsFirstWhere, checks, has_depth, IsTableFor, is_sized, is_subsampled, is_transparent}
+use Rattle.ffv1_record.specs.Accepted.{IsFirstIn, IsFirstUpTo, IsFirstWhere, checks, has_depth, IsTableFor, is_sized, is_subsampled, is_transparent}
+use Rattle.ffv1_record.specs.declared.config.Profile.{Profile as RecordProfile}
 use Rattle.ffv1_record.specs.declared.fault.RecordFault.{RecordFault}
 use Rattle.ffv1_y4m.specs.VideoHead.{IsSized, is_chroma}
 use Rattle.ffv1_engine.specs.Video.{SaidHead}
@@ -17,7 +18,7 @@ use Rattle.ffv1_engine.specs.Faults.{of_record}
 use Rattle.ffv1_engine.specs.declared.profile.Profile.{Profile}
 use Rattle.ffv1_engine.specs.declared.profile.Profile.TheVariants.{Strict, Wide}
 use Rattle.ffv1_engine.specs.Pack.{IsPackFault, is_pack_fault}
-use Rattle.ffv1_engine.specs.Profiles.{greatest_depth}
+use Rattle.ffv1_engine.specs.Profiles.{greatest_depth, record_profile}
 use Rattle.ffv1_engine.specs.Packing.{coder_for, configuration_for}
 use Rattle.ffv1_engine.specs.VideoReads.{IsHeadBy}
 use Rattle.ffv1_engine.proofs.Depths.{first_of_eight}
@@ -66,26 +67,26 @@ tabled coder_choice.Standard of = (standard, refl)
 tabled coder_choice.Carried of = (standard, of)
 
 -- it is refused for its grid, or for an edge in chroma
-own_check : (choice : Choice) (ppm : Bool) (h : SaidHead) (g : RecordFault) → IsTableOf (replicate 255 (pos 0)) standard → IsHeadBy ppm h.head → IsFirst checks (configuration_for choice ppm h) g → is_pack_fault (of_record g) ≡ true
-own_check choice ppm h g of is (inl p) = absurd (p.0 (sized choice ppm h (head_sized ppm h.head is)))
-own_check choice ppm h g of is (inr (a, inl p)) = absurd (p.0 (subsampled choice ppm h is))
-own_check choice ppm h g of is (inr (a, inr (b, inl p))) = absurd (p.0 (transparent choice ppm h is))
-own_check choice ppm h g of is (inr (a, inr (b, inr (d, inl p)))) = absurd (p.0 refl)
-own_check choice ppm h g of is (inr (a, inr (b, inr (d, inr (e, inl p))))) = absurd (p.0 (tabled choice.coder of))
-own_check choice ppm h g of is (inr (a, inr (b, inr (d, inr (e, inr (f, inl p)))))) = rw p.1 refl
-own_check choice ppm h g of is (inr (a, inr (b, inr (d, inr (e, inr (f, inr (i, inl p))))))) = rw p.1 refl
-own_check choice ppm h g of is (inr (a, inr (b, inr (d, inr (e, inr (f, inr (i, inr (j, p)))))))) = absurd p
+own_check : (k : RecordProfile) (choice : Choice) (ppm : Bool) (h : SaidHead) (g : RecordFault) → IsTableOf (replicate 255 (pos 0)) standard → IsHeadBy ppm h.head → IsFirstIn k checks (configuration_for choice ppm h) g → is_pack_fault (of_record g) ≡ true
+own_check k choice ppm h g of is (inl p) = absurd (p.0 (sized choice ppm h (head_sized ppm h.head is)))
+own_check k choice ppm h g of is (inr (a, inl p)) = absurd (p.0 (subsampled choice ppm h is))
+own_check k choice ppm h g of is (inr (a, inr (b, inl p))) = absurd (p.0 (transparent choice ppm h is))
+own_check k choice ppm h g of is (inr (a, inr (b, inr (d, inl p)))) = absurd (p.0 refl)
+own_check k choice ppm h g of is (inr (a, inr (b, inr (d, inr (e, inl p))))) = absurd (p.0 (tabled choice.coder of))
+own_check k choice ppm h g of is (inr (a, inr (b, inr (d, inr (e, inr (f, inl p)))))) = rw p.1 refl
+own_check k choice ppm h g of is (inr (a, inr (b, inr (d, inr (e, inr (f, inr (i, inl p))))))) = rw p.1 refl
+own_check k choice ppm h g of is (inr (a, inr (b, inr (d, inr (e, inr (f, inr (i, inr (j, p)))))))) = absurd p
 
 -- or, where that depth is read, for RCT of 16 bits
-own_by : (b : Bool) (choice : Choice) (ppm : Bool) (h : SaidHead) (g : RecordFault) → IsTableOf (replicate 255 (pos 0)) standard → IsHeadBy ppm h.head → IsFirstWhere b (configuration_for choice ppm h) g → IsPackFault Wide (of_record g)
-own_by true choice ppm h g of is first = inl (own_check choice ppm h g of is first)
-own_by false choice ppm h g of is (inl size) = absurd (size.0 (sized choice ppm h (head_sized ppm h.head is)))
-own_by false choice ppm h g of is (inr deep) = inr (refl, ap of_record deep.1)
+own_by : (k : RecordProfile) (b : Bool) (choice : Choice) (ppm : Bool) (h : SaidHead) (g : RecordFault) → IsTableOf (replicate 255 (pos 0)) standard → IsHeadBy ppm h.head → IsFirstWhere k b (configuration_for choice ppm h) g → IsPackFault Wide (of_record g)
+own_by k true choice ppm h g of is first = inl (own_check k choice ppm h g of is first)
+own_by k false choice ppm h g of is (inl size) = absurd (size.0 (sized choice ppm h (head_sized ppm h.head is)))
+own_by k false choice ppm h g of is (inr deep) = inr (refl, ap of_record deep.1)
 
 pub own_in : (profile : Profile) (choice : Choice) (ppm : Bool) (h : SaidHead) (g : RecordFault) → IsTableOf (replicate 255 (pos 0)) standard → IsHeadBy ppm h.head → 8 ≤ h.depth → h.depth ≤ greatest_depth profile →
-    IsFirstUpTo (greatest_depth profile) (configuration_for choice ppm h) g → IsPackFault profile (of_record g)
+    IsFirstUpTo (record_profile profile) (greatest_depth profile) (configuration_for choice ppm h) g → IsPackFault profile (of_record g)
 own_in Strict choice ppm h g of is least most first =
     let few : h.depth ≤ 8 = most in
     let eight : h.depth ≡ 8 = omega (arith, least, few) in
-    inl (own_check choice ppm h g of is (first_of_eight (configuration_for choice ppm h) g eight first))
-own_in Wide choice ppm h g of is least most first = own_by (has_depth 16 (configuration_for choice ppm h)) choice ppm h g of is first
+    inl (own_check (record_profile Strict) choice ppm h g of is (first_of_eight (record_profile Strict) (configuration_for choice ppm h) g eight first))
+own_in Wide choice ppm h g of is least most first = own_by (record_profile Wide) (has_depth 16 (configuration_for choice ppm h)) choice ppm h g of is first

@@ -9,6 +9,8 @@ use Rattle.ffv1_y4m.specs.Sequence.{◌>>=◌, Outcome, Reading, give, refuse, w
 use Rattle.ffv1_y4m.specs.Text.{IsText, ReadsAll}
 use Rattle.ffv1_y4m.specs.VideoHead.{plane_bytes}
 use Rattle.ffv1_y4m.specs.declared.fault.Fault.TheVariants as fault
+use Rattle.ffv1_engine.specs.declared.profile.Profile.{Profile}
+use Rattle.ffv1_engine.specs.Profiles.{greatest_depth, record_profile}
 use Rattle.ffv1_engine.specs.Video.{SaidHead}
 use Rattle.ffv1_y4m.specs.declared.head.VideoHead.{VideoHead}
 use Rattle.ffv1_wire.specs.Passage.{Passage}
@@ -171,15 +173,15 @@ module _ (texts_only : (text : List ℕ) (most depth : ℕ) (h : VideoHead) (res
       let over = sym (next_up_to r.ppm r.most most r.head (at_first ps) left later) ∙ end in
       (by_kind r.ppm most r.head text behind left rest ps h.0 h.1 reads_all over some is, video_end r.ppm most r.head (at_first ps) left rest over)
 
-  pub encodes_video : (most : ℕ) (choice : Choice) (p q : Passage) (a : Accepted) (r : VideoReading) (head : Head) (frames : List (List ℕ)) → q.old ≡ p.new → q.before ≡ p.after → HeadRead most p r → IsHeadOf r → IsFor choice r.ppm r.head a → EncodesAll q a r frames → 0 < length frames →
-      head ≡ head_for choice r.ppm r.head a.configuration → EncodesVideo most choice (joined p q) head frames
-  encodes_video most choice p q a r head frames joins counts h is for all some e =
+  pub encodes_video : (profile : Profile) (choice : Choice) (p q : Passage) (a : Accepted) (r : VideoReading) (head : Head) (frames : List (List ℕ)) → q.old ≡ p.new → q.before ≡ p.after → HeadRead (greatest_depth profile) p r → IsHeadOf r → IsFor profile choice r.ppm r.head a → EncodesAll q a r frames → 0 < length frames →
+      head ≡ head_for choice r.ppm r.head a.configuration → EncodesVideo profile choice (joined p q) head frames
+  encodes_video profile choice p q a r head frames joins counts h is for all some e =
       let many = some_pictures a r all.pictures frames all.are some in
       let known = subst (λ o. AllKnown o q.new r all.pictures) joins all.known in record {
         video = video_of r all.pictures;
         accepted = a;
-        reads = reads_video most p.old p.new q.new r all.pictures h.later h.known is known many;
-        ends = ends_video most p.old p.new q.new r all.pictures h.later h.known known;
+        reads = reads_video (greatest_depth profile) p.old p.new q.new r all.pictures h.later h.known is known many;
+        ends = ends_video (greatest_depth profile) p.old p.new q.new r all.pictures h.later h.known known;
         deep = h.deep;
         for = for;
         some = many;

@@ -66,6 +66,7 @@ of_codec codec_fault.Footer = fault.Footer
 of_codec codec_fault.Leftover = fault.Leftover
 of_codec codec_fault.SliceParity = fault.SliceParity
 of_codec codec_fault.SliceStatus = fault.SliceStatus
+of_codec codec_fault.Overlap = fault.Overlap
 of_codec codec_fault.SliceTooLong = fault.SliceTooLong
 of_codec codec_fault.InfoDiffers = fault.InfoDiffers
 of_codec codec_fault.Sink = fault.Sink

@@ -1,7 +1,8 @@
 -- The checks of a configuration that look at its grid.
 use Rattle.std.specs.Prelude.{◌≤◌, ℕ}
-use Rattle.ffv1_record.specs.Accepted.{Passes}
+use Rattle.ffv1_record.specs.Accepted.{PassesIn}
 use Rattle.ffv1_record.specs.Configuration.{Configuration}
+use Rattle.ffv1_record.specs.declared.config.Profile.{Profile}
 use Rattle.ffv1_record.specs.declared.fault.RecordFault.TheVariants as record_fault
 use Rattle.ffv1_words.specs.declared.order.Choice.{Choice}
 
@@ -16,6 +17,6 @@ pub record AreParts (columns rows : ℕ) : Type 0 where
 abbrev pub with_parts : Choice → ℕ → ℕ → Choice
 with_parts choice columns rows = record choice { columns = columns; rows = rows }
 
--- a configuration is refused neither for its grid nor for the edges of its slices
-abbrev pub PassesGrid : Configuration → Type 0
-PassesGrid c = Passes record_fault.Grid c × Passes record_fault.ChromaEdge c
+-- a configuration is refused in a profile neither for its grid nor for the edges of its slices
+abbrev pub PassesGrid : Profile → Configuration → Type 0
+PassesGrid p c = PassesIn p record_fault.Grid c × PassesIn p record_fault.ChromaEdge c

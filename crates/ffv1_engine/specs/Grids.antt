@@ -1,13 +1,17 @@
 -- The grid of slices of a picture for which none is chosen, as in Matroska.
-use Rattle.std.specs.Prelude.{ℕ, ◌+◌, ◌-◌, ◌*◌, ◌/◌, ◌%◌, ◌^◌, ◌==◌, ◌&&◌, nat_le, nat_lt, Bool}
+use Rattle.std.specs.Prelude.{ℕ, ◌+◌, ◌-◌, ◌*◌, ◌/◌, ◌^◌, ◌==◌, ◌&&◌, nat_le, nat_lt, Bool}
 use Rattle.std.specs.Prelude.{List, Option, true, false}
 use Rattle.std.specs.Prelude.{find, flat_map, if◌then◌else◌, map, unwrap_or}
 use Rattle.std.specs.Option.{option_or}
-use Rattle.std.specs.List.{filter, list_all, range_with_len, sum}
-use Rattle.ffv1_record.specs.Accepted.{edge}
+use Rattle.std.specs.List.{filter, range_with_len, sum}
+use Rattle.ffv1_record.specs.Accepted.{are_multiples, edge, reduced}
+use Rattle.ffv1_record.specs.declared.config.Profile.{Profile as RecordProfile}
+use Rattle.ffv1_record.specs.declared.config.Profile.TheVariants as edges
 use Rattle.ffv1_y4m.specs.VideoHead.{plane_bytes}
 use Rattle.ffv1_y4m.specs.declared.head.VideoHead.{VideoHead}
 use Rattle.ffv1_words.specs.declared.order.Choice.{Choice}
+use Rattle.ffv1_engine.specs.declared.profile.Profile.{Profile}
+use Rattle.ffv1_engine.specs.Profiles.{record_profile}
 use Rattle.ffv1_engine.specs.Video.{SaidHead}
 
 -- RFC 9043, section 5: a picture of more pixels has at least 4 slices
@@ -31,16 +35,19 @@ slice_head h columns rows =
 unfoldable pub slice_bytes : ℕ → VideoHead → ℕ → ℕ → ℕ
 slice_bytes depth h columns rows = sum (plane_bytes depth (slice_head h columns rows))
 
--- each inner edge of so many parts of a size is a multiple of the chroma factor
-unfoldable pub are_even_edges : ℕ → ℕ → ℕ → Bool
-are_even_edges size count log2 =
-    list_all (λ k. edge k size count % 2 ^ log2 == 0) (range_with_len 1 (count - 1))
+-- so many parts of a size suit the chroma factor, as a profile has it: each inner edge is a
+-- multiple; or no sample of chroma is left out, though two parts may share one
+unfoldable pub has_edges : RecordProfile → ℕ → ℕ → ℕ → Bool
+has_edges edges.Strict size count log2 = are_multiples size count log2
+has_edges edges.Wide size count log2 =
+    edge (count - 1) size count / 2 ^ log2 + reduced log2 (size - edge (count - 1) size count)
+    == reduced log2 size
 
--- a picture may have so many columns and rows
-unfoldable pub has_grid : ℕ → VideoHead → ℕ → ℕ → Bool
-has_grid depth h columns rows =
+-- a picture may have so many columns and rows, with edges as a profile has them
+unfoldable pub has_grid : RecordProfile → ℕ → VideoHead → ℕ → ℕ → Bool
+has_grid p depth h columns rows =
     (nat_le columns h.width && nat_le rows h.height)
-    && ((are_even_edges h.width columns h.log2_h && are_even_edges h.height rows h.log2_v)
+    && ((has_edges p h.width columns h.log2_h && has_edges p h.height rows h.log2_v)
     && nat_lt (slice_bytes depth h columns rows) slice_limit)
 
 -- a grid: columns and rows
@@ -61,22 +68,28 @@ unfoldable pub grid_order : Bool → List Grid
 grid_order wide = flat_map (grids_of wide) (range_with_len 4 1021)
 
 -- the first of them that a picture may have
-abbrev pub first_grid : ℕ → VideoHead → Bool → Option Grid
-first_grid depth h wide = find (λ g. has_grid depth h g.0 g.1) (grid_order wide)
+abbrev pub first_grid : RecordProfile → ℕ → VideoHead → Bool → Option Grid
+first_grid p depth h wide = find (λ g. has_grid p depth h g.0 g.1) (grid_order wide)
 
--- the default: one slice; of a picture of more pixels the first grid of at least as many columns as
--- rows that it may have, else the first of any, and one slice if it may have none
-abbrev pub default_grid : ℕ → VideoHead → Grid
-default_grid depth h =
+-- the default in a profile: one slice; of a picture of more pixels the first grid of at least as
+-- many columns as rows that it may have with edges that are multiples, else with edges as the
+-- profile has them, else the first of any columns and rows with edges that are multiples, and one
+-- slice if there is none
+abbrev pub default_grid : RecordProfile → ℕ → VideoHead → Grid
+default_grid p depth h =
     if nat_le (h.width * h.height) most_pixels then (1, 1)
-    else unwrap_or (option_or (first_grid depth h true) (first_grid depth h false)) (1, 1)
+    else unwrap_or (option_or (first_grid edges.Strict depth h true)
+    (option_or (first_grid p depth h true) (first_grid edges.Strict depth h false))) (1, 1)
 
 -- the grid of a choice for a video with this head: its own, or the default
-unfoldable pub grid_for : Choice → SaidHead → Grid
-grid_for choice h =
-    if choice.default_grid then default_grid h.depth h.head else (choice.columns, choice.rows)
+unfoldable pub grid_for : Profile → Choice → SaidHead → Grid
+grid_for profile choice h =
+    if choice.default_grid then default_grid (record_profile profile) h.depth h.head
+    else (choice.columns, choice.rows)
 
 -- the choice with that grid
-abbrev pub choice_for : Choice → SaidHead → Choice
-choice_for choice h =
-    record choice { columns = (grid_for choice h).0; rows = (grid_for choice h).1 }
+abbrev pub choice_for : Profile → Choice → SaidHead → Choice
+choice_for profile choice h = record choice {
+  columns = (grid_for profile choice h).0;
+  rows = (grid_for profile choice h).1;
+}

@@ -9,7 +9,6 @@ use Rattle.ffv1_engine.specs.declared.matroska_packing.PackedMatroska.{PackedMat
 use Rattle.ffv1_engine.specs.declared.profile.Profile.{Profile}
 use Rattle.ffv1_engine.specs.declared.profile.Profile.TheVariants.{Wide}
 use Rattle.ffv1_engine.specs.PackMatroska.{PacksMatroska, whole_file}
-use Rattle.ffv1_engine.specs.Profiles.{greatest_depth}
 use Rattle.ffv1_engine.specs.RoundTrip.{HoldsBy}
 use Rattle.ffv1_engine.specs.Video.{Video}
 
@@ -20,7 +19,7 @@ pub record WasPackedMatroska (packing : Profile) (choice : Choice) (text : List 
   pub input : Passage
   pub output : Passage
   pub packed : PackedMatroska
-  pub packs : PacksMatroska (greatest_depth packing) choice input output packed
+  pub packs : PacksMatroska packing choice input output packed
   pub known : input.old ≡ Some text
   pub bytes : AreBytes text
   pub rated : packs.video.ppm ≡ true → IsRatio 4294967295 choice.rate choice.scale

@@ -24,25 +24,27 @@ use Rattle.ffv1_engine.specs.Faults.Cause.{Reading, Writing, Memory, Content}
 use Rattle.ffv1_engine.specs.Trial.{Silent}
 use Rattle.ffv1_engine.specs.Video.{Video, Begins, ReadsVideo, at_first, is_ppm, picture_next}
 use Rattle.ffv1_engine.specs.Video.{video_head}
+use Rattle.ffv1_engine.specs.Profiles.{greatest_depth, record_profile}
 use Rattle.ffv1_engine.specs.Packing.{AllShort, IsFor, bytes_in, configuration_for, packed_file}
 use Rattle.ffv1_engine.specs.Packing.{packed_frames, packed_head, said_for}
 
--- a video of at least one picture, of a depth up to `most`, whose file may be written: each frame,
--- and the file, is short enough
-pub record IsPackable (most : ℕ) (choice : Choice) (v : Video) (a : Accepted) : Type 0 where
-  pub deep : v.head.depth ≤ most
-  pub for : IsFor choice v.ppm v.head a
+-- a video of at least one picture, of a depth and a grid that a profile packs, whose file may be
+-- written: each frame, and the file, is short enough
+pub record IsPackable (profile : Profile) (choice : Choice) (v : Video) (a : Accepted)
+    : Type 0 where
+  pub deep : v.head.depth ≤ greatest_depth profile
+  pub for : IsFor profile choice v.ppm v.head a
   pub some : 0 < length v.pictures
   pub short : AllShort a v.head v.pictures
   pub small : riff_size (packed_head choice v a) (packed_frames v a) ≤ most_bytes
 
 -- the video was read, its file was written, and what was counted
-pub record Packs (most : ℕ) (choice : Choice) (input output : Passage) (packed : Packed)
+pub record Packs (profile : Profile) (choice : Choice) (input output : Passage) (packed : Packed)
     : Type 0 where
   pub video : Video
   pub accepted : Accepted
-  pub reads : ReadsVideo most input.old input.new video
-  pub packable : IsPackable most choice video accepted
+  pub reads : ReadsVideo (greatest_depth profile) input.old input.new video
+  pub packable : IsPackable profile choice video accepted
   pub writes : Appends output.old output.new (packed_file choice video accepted)
   pub frames : packed.frames ≡ length video.pictures
   pub bytes : packed.bytes ≡ bytes_in (packed_frames video accepted)
@@ -50,11 +52,12 @@ pub record Packs (most : ℕ) (choice : Choice) (input output : Passage) (packed
   pub written : output.after ≡ output.before
 
 -- the video was read, and a beginning of its file was written
-pub record PacksBeginning (most : ℕ) (choice : Choice) (input output : Passage) : Type 0 where
+pub record PacksBeginning (profile : Profile) (choice : Choice) (input output : Passage)
+    : Type 0 where
   pub video : Video
   pub accepted : Accepted
-  pub reads : ReadsVideo most input.old input.new video
-  pub packable : IsPackable most choice video accepted
+  pub reads : ReadsVideo (greatest_depth profile) input.old input.new video
+  pub packable : IsPackable profile choice video accepted
   pub writes : AppendsBeginning output.old output.new (packed_file choice video accepted)
 
 -- the text has no head of a depth up to `most`: this is its fault, and this is left
@@ -62,13 +65,14 @@ abbrev pub LacksHead : ℕ → List ℕ → List ℕ → Fault → Type 0
 LacksHead most text rest f =
     (g : Y4mFault) × (video_head most text ≡ Err (g, rest)) × (f ≡ of_y4m g)
 
--- its head asks for a configuration that is not accepted
-pub record IsRejected (most : ℕ) (choice : Choice) (text rest : List ℕ) (f : Fault)
+-- its head asks for a configuration that is not accepted in the profile
+pub record IsRejected (profile : Profile) (choice : Choice) (text rest : List ℕ) (f : Fault)
     : Type 0 where
   pub head : SaidHead
-  pub read : video_head most text ≡ Ok (head, rest)
+  pub read : video_head (greatest_depth profile) text ≡ Ok (head, rest)
   pub refusal : RecordFault
-  pub first : IsFirstUpTo most (configuration_for choice (is_ppm text) head) refusal
+  pub first : IsFirstUpTo (record_profile profile) (greatest_depth profile)
+      (configuration_for choice (is_ppm text) head) refusal
   pub is : f ≡ of_record refusal
 
 -- why packing ends after the pictures of a video: the next one has a fault, or a slice that is too
@@ -87,20 +91,21 @@ EndsBehind most choice v a left rest f =
     × (f ≡ fault.TooLarge))))
 
 -- its first pictures are encoded, and then packing ends
-pub record Ends (most : ℕ) (choice : Choice) (text rest : List ℕ) (f : Fault) : Type 0 where
+pub record Ends (profile : Profile) (choice : Choice) (text rest : List ℕ) (f : Fault)
+    : Type 0 where
   pub video : Video
   pub accepted : Accepted
   pub left : List ℕ
-  pub begins : Begins most text video left
-  pub for : IsFor choice video.ppm video.head accepted
+  pub begins : Begins (greatest_depth profile) text video left
+  pub for : IsFor profile choice video.ppm video.head accepted
   pub short : AllShort accepted video.head video.pictures
-  pub ends : EndsBehind most choice video accepted left rest f
+  pub ends : EndsBehind (greatest_depth profile) choice video accepted left rest f
 
 -- the first fault of a text that is packed, if that is known, with this left
-abbrev pub FaultsPacked : ℕ → Choice → Option (List ℕ) → Option (List ℕ) → Fault → Type 0
-FaultsPacked most choice old new f = Known old new (λ text rest.
-    LacksHead most text rest f ⊎ IsRejected most choice text rest f
-    ⊎ Ends most choice text rest f)
+abbrev pub FaultsPacked : Profile → Choice → Option (List ℕ) → Option (List ℕ) → Fault → Type 0
+FaultsPacked profile choice old new f = Known old new (λ text rest.
+    LacksHead (greatest_depth profile) text rest f ⊎ IsRejected profile choice text rest f
+    ⊎ Ends profile choice text rest f)
 
 -- a text, if it is known, has a head
 abbrev pub HasHead : ℕ → Option (List ℕ) → Type 0
@@ -111,20 +116,20 @@ HasHead most (Some text) =
 -- why packing is refused, by what the fault comes from: a write that failed, which was counted,
 -- after a beginning of the file; and else with nothing written a read that failed, which was
 -- counted, memory after a head, or the first fault of the text
-abbrev pub RefusesBy : ℕ → Cause → Choice → Passage → Passage → Fault → Type 0
-RefusesBy most Writing choice input output f =
-    PacksBeginning most choice input output × (output.after ≡ one_more output.before)
+abbrev pub RefusesBy : Profile → Cause → Choice → Passage → Passage → Fault → Type 0
+RefusesBy profile Writing choice input output f =
+    PacksBeginning profile choice input output × (output.after ≡ one_more output.before)
     × (input.after ≡ input.before)
-RefusesBy most Reading choice input output f =
+RefusesBy profile Reading choice input output f =
     Silent output × (input.after ≡ one_more input.before)
-RefusesBy most Memory choice input output f =
-    Silent output × (input.after ≡ input.before) × HasHead most input.old
-RefusesBy most Content choice input output f =
+RefusesBy profile Memory choice input output f =
+    Silent output × (input.after ≡ input.before) × HasHead (greatest_depth profile) input.old
+RefusesBy profile Content choice input output f =
     Silent output × (input.after ≡ input.before)
-    × FaultsPacked most choice input.old input.new f
+    × FaultsPacked profile choice input.old input.new f
 
-abbrev pub RefusesPack : ℕ → Choice → Passage → Passage → Fault → Type 0
-RefusesPack most choice input output f = RefusesBy most (cause_of f) choice input output f
+abbrev pub RefusesPack : Profile → Choice → Passage → Passage → Fault → Type 0
+RefusesPack profile choice input output f = RefusesBy profile (cause_of f) choice input output f
 
 -- the faults that packing has
 abbrev pub is_pack_fault : Fault → Bool

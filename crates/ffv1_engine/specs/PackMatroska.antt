@@ -33,6 +33,7 @@ use Rattle.ffv1_engine.specs.Pack.{HasHead, LacksHead, is_pack_fault}
 use Rattle.ffv1_engine.specs.Packing.{AllShort, AreReadable, IsFor, bytes_in, configuration_for}
 use Rattle.ffv1_engine.specs.Packing.{head_for}
 use Rattle.ffv1_engine.specs.Packing.{packed_frames, packed_head, said_for}
+use Rattle.ffv1_engine.specs.Profiles.{greatest_depth, record_profile}
 use Rattle.ffv1_engine.specs.Play.{WritesUpTo}
 use Rattle.ffv1_engine.specs.Video.{Begins, ReadsVideo, Video, at_first, is_ppm, picture_next}
 use Rattle.ffv1_engine.specs.Video.{video_head}
@@ -77,53 +78,55 @@ clusters_end choice v a =
 -- a video whose pictures have Clusters: its configuration has the grid of the choice, or the
 -- default one; whole nanoseconds say its rate, no slice is too long, no frame is too long to be
 -- read, and the last Cluster does not end too far
-pub record HasClusters (choice : Choice) (v : Video) (a : Accepted) : Type 0 where
+pub record HasClusters (profile : Profile) (choice : Choice) (v : Video) (a : Accepted)
+    : Type 0 where
   pub head : IsHeadBy v.ppm v.head.head
-  pub for : IsFor (choice_for choice v.head) v.ppm v.head a
+  pub for : IsFor profile (choice_for profile choice v.head) v.ppm v.head a
   pub timed : IsTimed (rate_in (packed_head choice v a))
   pub short : AllShort a v.head v.pictures
   pub readable : AreReadable (packed_frames v a)
   pub near : 0 < length v.pictures → clusters_end choice v a ≤ last_place
 
 -- the video was read, its file was written, and what was counted
-pub record PacksMatroska (most : ℕ) (choice : Choice) (input output : Passage)
+pub record PacksMatroska (profile : Profile) (choice : Choice) (input output : Passage)
     (packed : PackedMatroska) : Type 0 where
   pub video : Video
   pub accepted : Accepted
-  pub deep : video.head.depth ≤ most
-  pub reads : ReadsVideo most input.old input.new video
+  pub deep : video.head.depth ≤ greatest_depth profile
+  pub reads : ReadsVideo (greatest_depth profile) input.old input.new video
   pub some : 0 < length video.pictures
-  pub has : HasClusters choice video accepted
+  pub has : HasClusters profile choice video accepted
   pub writes : Appends output.old output.new (whole_file packed.finished choice video accepted)
   pub frames : packed.frames ≡ length video.pictures
   pub bytes : packed.bytes ≡ bytes_in (packed_frames video accepted)
   pub read : input.after ≡ input.before
   pub written : output.after ≡ output.before
 
--- its head asks for a configuration that is not accepted
-pub record HasRejected (most : ℕ) (choice : Choice) (text rest : List ℕ) (f : Fault)
+-- its head asks for a configuration that is not accepted in the profile
+pub record HasRejected (profile : Profile) (choice : Choice) (text rest : List ℕ) (f : Fault)
     : Type 0 where
   pub head : SaidHead
-  pub read : video_head most text ≡ Ok (head, rest)
+  pub read : video_head (greatest_depth profile) text ≡ Ok (head, rest)
   pub refusal : RecordFault
-  pub first : IsFirstUpTo most
-      (configuration_for (choice_for choice head) (is_ppm text) head) refusal
+  pub first : IsFirstUpTo (record_profile profile) (greatest_depth profile)
+      (configuration_for (choice_for profile choice head) (is_ppm text) head) refusal
   pub is : f ≡ of_record refusal
 
 -- its head asks for a configuration that is accepted, and says a rate that no whole nanoseconds say
-pub record IsUntimed (most : ℕ) (choice : Choice) (text rest : List ℕ) (f : Fault) : Type 0 where
+pub record IsUntimed (profile : Profile) (choice : Choice) (text rest : List ℕ) (f : Fault)
+    : Type 0 where
   pub head : SaidHead
-  pub read : video_head most text ≡ Ok (head, rest)
+  pub read : video_head (greatest_depth profile) text ≡ Ok (head, rest)
   pub accepted : Accepted
-  pub for : IsFor (choice_for choice head) (is_ppm text) head accepted
+  pub for : IsFor profile (choice_for profile choice head) (is_ppm text) head accepted
   pub untimed : IsTimed (rate_in (head_for choice (is_ppm text) head accepted.configuration)) → ⊥
   pub is : f ≡ fault.Rate
 
 -- the first fault of a text before its pictures, if it is known
-abbrev pub FaultsBefore : ℕ → Choice → Option (List ℕ) → Option (List ℕ) → Fault → Type 0
-FaultsBefore most choice old new f = Known old new (λ text rest.
-    LacksHead most text rest f ⊎ HasRejected most choice text rest f
-    ⊎ IsUntimed most choice text rest f)
+abbrev pub FaultsBefore : Profile → Choice → Option (List ℕ) → Option (List ℕ) → Fault → Type 0
+FaultsBefore profile choice old new f = Known old new (λ text rest.
+    LacksHead (greatest_depth profile) text rest f ⊎ HasRejected profile choice text rest f
+    ⊎ IsUntimed profile choice text rest f)
 
 -- the next picture has no Cluster: a slice of it is too long, or its frame is too long to be read,
 -- or its Cluster would end too far
@@ -153,29 +156,34 @@ EndsClusters most choice v a left rest f =
 
 -- the Clusters of a video were written, and of the text, if it is known, this video was read,
 -- and then so much as this says
-pub record PacksSome (most : ℕ) (Next : Video → Accepted → List ℕ → List ℕ → Type 0)
+pub record PacksSome (profile : Profile) (Next : Video → Accepted → List ℕ → List ℕ → Type 0)
     (choice : Choice) (input output : Passage) : Type 0 where
   pub video : Video
   pub accepted : Accepted
-  pub has : HasClusters choice video accepted
+  pub has : HasClusters profile choice video accepted
   pub taken : Known input.old input.new (λ text rest.
-      (left : List ℕ) × Begins most text video left × Next video accepted left rest)
+      (left : List ℕ) × Begins (greatest_depth profile) text video left
+      × Next video accepted left rest)
   pub writes : Appends output.old output.new (begun_file choice video accepted)
 
 -- and then packing ends
-abbrev pub EndsMatroska : ℕ → Choice → Passage → Passage → Fault → Type 0
-EndsMatroska most choice input output f =
-    PacksSome most (λ v a left rest. EndsClusters most choice v a left rest f) choice input output
+abbrev pub EndsMatroska : Profile → Choice → Passage → Passage → Fault → Type 0
+EndsMatroska profile choice input output f =
+    PacksSome profile
+    (λ v a left rest. EndsClusters (greatest_depth profile) choice v a left rest f)
+    choice input output
 
 -- and then a read failed, if the next picture wants one more byte
-abbrev pub PackReadFails : ℕ → Choice → Passage → Passage → Type 0
-PackReadFails most choice input output =
-    PacksSome most (λ v a. PictureWants v.ppm most v.head v.pictures) choice input output
+abbrev pub PackReadFails : Profile → Choice → Passage → Passage → Type 0
+PackReadFails profile choice input output =
+    PacksSome profile (λ v a. PictureWants v.ppm (greatest_depth profile) v.head v.pictures)
+    choice input output
 
 -- and then memory was refused for the next picture, or for the frame of it
-abbrev pub PackLacks : ℕ → Choice → Passage → Passage → Type 0
-PackLacks most choice input output =
-    PacksSome most (λ v a. PictureLacks v.ppm most v.head v.pictures) choice input output
+abbrev pub PackLacks : Profile → Choice → Passage → Passage → Type 0
+PackLacks profile choice input output =
+    PacksSome profile (λ v a. PictureLacks v.ppm (greatest_depth profile) v.head v.pictures)
+    choice input output
 
 -- the same video with a picture more
 abbrev pub with_picture : Video → Planes → Video
@@ -183,13 +191,14 @@ with_picture v p = record { ppm = v.ppm; head = v.head; pictures = v.pictures ++
 
 -- a write of the Cluster of the next picture failed: of that a beginning was written, and of the
 -- text, if it is known, nothing after that picture was read
-pub record ClusterFails (most : ℕ) (choice : Choice) (input output : Passage) : Type 0 where
+pub record ClusterFails (profile : Profile) (choice : Choice) (input output : Passage)
+    : Type 0 where
   pub video : Video
   pub accepted : Accepted
-  pub has : HasClusters choice video accepted
+  pub has : HasClusters profile choice video accepted
   pub next : Planes
   pub reads : Known input.old input.new (λ text rest.
-      Begins most text (with_picture video next) rest)
+      Begins (greatest_depth profile) text (with_picture video next) rest)
   pub short : HasLongSlice accepted next (said_for video.head) → ⊥
   pub readable : length (frame_of accepted next (said_for video.head)) ≤ limit
   pub near : clusters_end choice video accepted + cluster_bytes
@@ -199,12 +208,12 @@ pub record ClusterFails (most : ℕ) (choice : Choice) (input output : Passage) 
 
 -- a write after all Clusters failed: of Cues a beginning was written; or the whole open file was,
 -- and over its own opening a beginning of the finished one
-pub record FinishFails (most : ℕ) (choice : Choice) (input output : Passage) : Type 0 where
+pub record FinishFails (profile : Profile) (choice : Choice) (input output : Passage) : Type 0 where
   pub video : Video
   pub accepted : Accepted
-  pub reads : ReadsVideo most input.old input.new video
+  pub reads : ReadsVideo (greatest_depth profile) input.old input.new video
   pub some : 0 < length video.pictures
-  pub has : HasClusters choice video accepted
+  pub has : HasClusters profile choice video accepted
   pub writes :
       WritesUpTo output.old output.new (length (begun_file choice video accepted))
       (open_file choice video accepted)
@@ -222,26 +231,28 @@ StandsAfterHead most old new = Known old new (λ text rest.
 -- the picture after those whose Clusters are written; memory after a head, with nothing written, or
 -- for the picture after those whose Clusters are; and else the first fault of the text, before its
 -- pictures, if nothing is written, or after those that it begins with, whose Clusters are
-abbrev pub RefusesMatroskaBy : ℕ → Cause → Choice → Passage → Passage → Fault → Type 0
-RefusesMatroskaBy most Writing choice input output f =
+abbrev pub RefusesMatroskaBy : Profile → Cause → Choice → Passage → Passage → Fault → Type 0
+RefusesMatroskaBy profile Writing choice input output f =
     (output.after ≡ one_more output.before) × (input.after ≡ input.before)
-    × (ClusterFails most choice input output ⊎ FinishFails most choice input output)
-RefusesMatroskaBy most Reading choice input output f =
+    × (ClusterFails profile choice input output ⊎ FinishFails profile choice input output)
+RefusesMatroskaBy profile Reading choice input output f =
     (output.after ≡ output.before) × (input.after ≡ one_more input.before)
-    × ((Keeps output.old output.new × Known input.old input.new (Taken (Wants (video_head most))))
-    ⊎ PackReadFails most choice input output)
-RefusesMatroskaBy most Memory choice input output f =
-    (output.after ≡ output.before) × (input.after ≡ input.before) × HasHead most input.old
-    × ((Keeps output.old output.new × StandsAfterHead most input.old input.new)
-    ⊎ PackLacks most choice input output)
-RefusesMatroskaBy most Content choice input output f =
+    × ((Keeps output.old output.new
+    × Known input.old input.new (Taken (Wants (video_head (greatest_depth profile)))))
+    ⊎ PackReadFails profile choice input output)
+RefusesMatroskaBy profile Memory choice input output f =
     (output.after ≡ output.before) × (input.after ≡ input.before)
-    × ((Keeps output.old output.new × FaultsBefore most choice input.old input.new f)
-    ⊎ EndsMatroska most choice input output f)
+    × HasHead (greatest_depth profile) input.old
+    × ((Keeps output.old output.new × StandsAfterHead (greatest_depth profile) input.old input.new)
+    ⊎ PackLacks profile choice input output)
+RefusesMatroskaBy profile Content choice input output f =
+    (output.after ≡ output.before) × (input.after ≡ input.before)
+    × ((Keeps output.old output.new × FaultsBefore profile choice input.old input.new f)
+    ⊎ EndsMatroska profile choice input output f)
 
-abbrev pub RefusesMatroska : ℕ → Choice → Passage → Passage → Fault → Type 0
-RefusesMatroska most choice input output f =
-    RefusesMatroskaBy most (cause_of f) choice input output f
+abbrev pub RefusesMatroska : Profile → Choice → Passage → Passage → Fault → Type 0
+RefusesMatroska profile choice input output f =
+    RefusesMatroskaBy profile (cause_of f) choice input output f
 
 -- the faults that it has
 abbrev pub is_matroska_pack_fault : Fault → Bool

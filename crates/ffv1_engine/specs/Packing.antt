@@ -3,7 +3,7 @@ use Rattle.std.specs.Prelude.{◌≡◌, ℕ, Bool, true, if◌then◌else◌, L
 use Rattle.std.specs.Prelude.{◌+◌, ◌≤◌, pos, replicate}
 use Rattle.ffv1_plane.specs.Quantisation.{Set, small_set, large_set}
 use Rattle.ffv1_record.specs.Configuration.{Configuration}
-use Rattle.ffv1_record.specs.Accepted.{Accepted, IsAccepted}
+use Rattle.ffv1_record.specs.Accepted.{Accepted, IsAccepted, PassesAll, checks}
 use Rattle.ffv1_record.specs.Record.{record_of}
 use Rattle.ffv1_record.specs.declared.config.Coder.{Coder}
 use Rattle.ffv1_record.specs.declared.config.Coder.TheVariants as coder
@@ -16,6 +16,8 @@ use Rattle.ffv1_reads.specs.Head.{Head, limit}
 use Rattle.ffv1_avi.specs.Written.{file_of}
 use Rattle.ffv1_engine.specs.Video.{SaidHead}
 use Rattle.ffv1_words.specs.declared.order.Choice.{Choice}
+use Rattle.ffv1_engine.specs.declared.profile.Profile.{Profile}
+use Rattle.ffv1_engine.specs.Profiles.{record_profile}
 use Rattle.ffv1_words.specs.declared.order.CoderChoice.{CoderChoice}
 use Rattle.ffv1_words.specs.declared.order.CoderChoice.TheVariants as coder_choice
 use Rattle.ffv1_engine.specs.Video.{Video}
@@ -69,10 +71,12 @@ head_for choice ppm h c = record {
   config_record = record_of c;
 }
 
--- an accepted configuration is the one of this video
-pub record IsFor (choice : Choice) (ppm : Bool) (h : SaidHead) (a : Accepted) : Type 0 where
+-- an accepted configuration is the one of this video, and passes the checks of a profile
+pub record IsFor (profile : Profile) (choice : Choice) (ppm : Bool) (h : SaidHead) (a : Accepted)
+    : Type 0 where
   pub configuration : a.configuration ≡ configuration_for choice ppm h
   pub accepted : IsAccepted a.configuration a.table
+  pub passes : PassesAll (record_profile profile) checks a.configuration
 
 -- the frames of pictures
 abbrev pub frames_for : Accepted → SaidHead → List Planes → List (List ℕ)

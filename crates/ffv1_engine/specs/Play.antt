@@ -15,7 +15,7 @@ use Rattle.ffv1_reads.specs.Reads.{Reading, Want, Short, Met}
 use Rattle.ffv1_reads.specs.declared.fault.FileFault.{FileFault}
 use Rattle.ffv1_reads.specs.Known.{Known}
 use Rattle.ffv1_engine.specs.declared.profile.Profile.{Profile}
-use Rattle.ffv1_engine.specs.Profiles.{greatest_depth, scope_in}
+use Rattle.ffv1_engine.specs.Profiles.{greatest_depth, record_profile, scope_in}
 use Rattle.ffv1_engine.specs.declared.fault.Fault.{Fault}
 use Rattle.ffv1_engine.specs.declared.fault.Fault.TheVariants as fault
 use Rattle.ffv1_engine.specs.Faults.{of_avi, of_codec, of_record}
@@ -36,8 +36,8 @@ pub record LacksRecord (profile : Profile) (file rest : List ℕ) (f : Fault) : 
   pub place : Place
   pub opened : open_read (scope_in profile) file ≡ Ok ((head, place), rest)
   pub refusal : RecordFault
-  pub refused : IsRefused (greatest_depth profile) head.config_record head.width head.height
-      refusal
+  pub refused : IsRefused (record_profile profile) (greatest_depth profile) head.config_record
+      head.width head.height refusal
   pub is : f ≡ of_record refusal
 
 -- the first fault of a file that has no stream, if it is known

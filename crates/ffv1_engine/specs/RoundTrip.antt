@@ -6,6 +6,8 @@ use Rattle.std.specs.Io.KnownBytes.{Appends}
 use Rattle.ffv1_wire.specs.Passage.{Passage}
 use Rattle.ffv1_range.specs.Codes.{AreBytes}
 use Rattle.ffv1_range.specs.Counts.{saturated}
+use Rattle.ffv1_record.specs.Accepted.{PassesAll, checks}
+use Rattle.ffv1_record.specs.Configuration.{Configuration}
 use Rattle.ffv1_codec.specs.Picture.{Planes}
 use Rattle.ffv1_avi.specs.Chunks.{AviFile}
 use Rattle.ffv1_reads.specs.Head.{Head}
@@ -23,7 +25,7 @@ use Rattle.ffv1_engine.specs.declared.packing.Packed.{Packed}
 use Rattle.ffv1_engine.specs.Pack.{Packs}
 use Rattle.ffv1_engine.specs.Packing.{AreReadable, packed_file, packed_frames, said_for}
 use Rattle.ffv1_engine.specs.Play.{Played}
-use Rattle.ffv1_engine.specs.Profiles.{greatest_depth}
+use Rattle.ffv1_engine.specs.Profiles.{greatest_depth, record_profile}
 use Rattle.ffv1_engine.specs.Stream.{Frame, Stream, payloads}
 use Rattle.ffv1_engine.specs.Unpacked.{AllSay, AreAlike, HasText, pictures, text_of}
 use Rattle.ffv1_engine.specs.Video.{Video}
@@ -35,7 +37,7 @@ pub record WasPacked (packing : Profile) (choice : Choice) (text : List ℕ) : T
   pub input : Passage
   pub output : Passage
   pub packed : Packed
-  pub packs : Packs (greatest_depth packing) choice input output packed
+  pub packs : Packs packing choice input output packed
   pub known : input.old ≡ Some text
   pub bytes : AreBytes text
   pub readable : AreReadable (packed_frames packs.video packs.accepted)
@@ -50,9 +52,15 @@ abbrev pub file_in : {packing : Profile} → {choice : Choice} → {text : List 
     WasPacked packing choice text → List ℕ
 file_in {choice = choice} w = packed_file choice w.packs.video w.packs.accepted
 
--- a profile reads samples of the depth of a video
-abbrev pub IsReadIn : Profile → Video → Type 0
-IsReadIn profile v = v.head.depth ≤ greatest_depth profile
+-- and the configuration of its pictures
+abbrev pub configuration_in : {packing : Profile} → {choice : Choice} → {text : List ℕ} →
+    WasPacked packing choice text → Configuration
+configuration_in w = w.packs.accepted.configuration
+
+-- a profile reads samples of the depth of a video, and accepts the configuration of its pictures
+pub record IsReadIn (profile : Profile) (v : Video) (c : Configuration) : Type 0 where
+  pub deep : v.head.depth ≤ greatest_depth profile
+  pub passes : PassesAll (record_profile profile) checks c
 
 -- the canonical text of a video: of YUV4MPEG2 the header with each tag but X, in one order, and
 -- each picture after `FRAME`; of PPM each image after its header

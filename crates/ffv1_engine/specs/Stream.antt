@@ -3,7 +3,7 @@
 use Rattle.std.specs.Prelude.{◌≡◌, ◌≤◌, ℕ, List, [], ◌∷◌, map, Option, Some}
 use Rattle.std.specs.Prelude.{Ok}
 use Rattle.ffv1_range.specs.declared.tally.Tally.{Tally}
-use Rattle.ffv1_record.specs.Accepted.{Accepted, IsAccepted}
+use Rattle.ffv1_record.specs.Accepted.{Accepted, IsAccepted, PassesAll, checks}
 use Rattle.ffv1_record.specs.Record.{IsRecord}
 use Rattle.ffv1_codec.specs.Outcome.{CountOf}
 use Rattle.ffv1_codec.specs.Frame.{CodesPicture}
@@ -25,12 +25,13 @@ pub record Stream : Type 0 where
   pub accepted : Accepted
 
 -- the head's record is of that configuration, for pictures of the head's size, in the profile,
--- which reads samples of that depth
+-- whose checks it passes, and which reads samples of that depth
 pub record IsStream (profile : Profile) (s : Stream) : Type 0 where
   pub coded : IsRecord s.head.config_record s.accepted.configuration
   pub width : s.accepted.configuration.width ≡ s.head.width
   pub height : s.accepted.configuration.height ≡ s.head.height
   pub accepted : IsAccepted s.accepted.configuration s.accepted.table
+  pub passes : PassesAll (record_profile profile) checks s.accepted.configuration
   pub profiled : s.accepted.profile ≡ record_profile profile
   pub deep : s.accepted.configuration.depth ≤ greatest_depth profile
 

@@ -60,5 +60,6 @@ is_telling_fault fault.Footer = true
 is_telling_fault fault.Leftover = true
 is_telling_fault fault.SliceParity = true
 is_telling_fault fault.SliceStatus = true
+is_telling_fault fault.Overlap = true
 is_telling_fault fault.InfoDiffers = true
 is_telling_fault f = false

@@ -104,10 +104,11 @@ fn checked_for<A: Allocator + Copy>(
 ) -> Result<Checked<A>, Fault>
     requires { (reading_of reader.now).head.depth ≤ greatest_depth profile }
     ensures ok { IfOk result
-        (IsFor choice.now (reading_of reader.now).ppm (reading_of reader.now).head) }
+        (IsFor profile choice.now (reading_of reader.now).ppm (reading_of reader.now).head) }
     ensures profile { IfOk result (λ c. c.profile ≡ record_profile profile) }
     ensures err { IfErr result (λ f. (f ≡ fault.OutOfMemory)
-        ⊎ ((g : RecordFault) × IsFirstUpTo (greatest_depth profile)
+        ⊎ ((g : RecordFault) × IsFirstUpTo (record_profile profile)
+        (greatest_depth profile)
         (configuration_for choice.now (reading_of reader.now).ppm (reading_of reader.now).head) g
         × (f ≡ of_record g))) }
     ensures own { IfErr result (IsPackFault profile) }
@@ -126,11 +127,12 @@ pub(crate) fn encoder_for<A: Allocator + Copy>(
     reader: &VideoReader<A>,
 ) -> Result<VerifyingEncoder<A>, Fault>
     requires { (reading_of reader.now).head.depth ≤ greatest_depth profile }
-    ensures ok { IfOk result (λ e. IsFor choice.now (reading_of reader.now).ppm
+    ensures ok { IfOk result (λ e. IsFor profile choice.now (reading_of reader.now).ppm
         (reading_of reader.now).head e.accepted) }
     ensures verify { IfOk result (λ e. e.verifies ≡ choice.now.verify) }
     ensures err { IfErr result (λ f. (f ≡ fault.OutOfMemory)
-        ⊎ ((g : RecordFault) × IsFirstUpTo (greatest_depth profile)
+        ⊎ ((g : RecordFault) × IsFirstUpTo (record_profile profile)
+        (greatest_depth profile)
         (configuration_for choice.now (reading_of reader.now).ppm (reading_of reader.now).head) g
         × (f ≡ of_record g))) }
     ensures own { IfErr result (IsPackFault profile) }
@@ -186,8 +188,8 @@ pub(crate) fn encode_picture<R: ByteIn, A: Allocator + Copy>(
     planes: &mut Vec<Vec<u8, A>, A>,
 ) -> Result<Option<Vec<u8, A>>, Fault>
     requires working { (reading_of reader.old).failed ≡ None }
-    requires suits { (choice : Choice) × IsFor choice (reading_of reader.old).ppm
-        (reading_of reader.old).head encoder.old.accepted }
+    requires suits { (profile : Profile) × (choice : Choice) × IsFor profile choice
+        (reading_of reader.old).ppm (reading_of reader.old).head encoder.old.accepted }
     ensures same { encoder.new.accepted ≡ encoder.old.accepted }
     ensures ok { IfOk result (λ o. EncodesOne (passage R.remaining R.failures input.old input.new)
         encoder.old.accepted (reading_of reader.old) (reading_of reader.new) (frame_in o)) }
@@ -217,8 +219,8 @@ fn encode_next<R: ByteIn, A: Allocator + Copy>(
     frames: &mut Vec<Vec<u8, A>, A>,
 ) -> Result<bool, Fault>
     requires working { (reading_of reader.old).failed ≡ None }
-    requires suits { (choice : Choice) × IsFor choice (reading_of reader.old).ppm
-        (reading_of reader.old).head encoder.old.accepted }
+    requires suits { (profile : Profile) × (choice : Choice) × IsFor profile choice
+        (reading_of reader.old).ppm (reading_of reader.old).head encoder.old.accepted }
     ensures same { encoder.new.accepted ≡ encoder.old.accepted }
     ensures ok { IfOk result (EncodesNext (passage R.remaining R.failures input.old input.new)
         encoder.old.accepted (reading_of reader.old) (reading_of reader.new)
@@ -244,8 +246,8 @@ pub(crate) fn encode_pictures<R: ByteIn, A: Allocator + Copy>(
 ) -> Result<(), Fault>
     requires working { (reading_of reader.old).failed ≡ None }
     requires begun { (reading_of reader.old).begun ≡ true }
-    requires suits { (choice : Choice) × IsFor choice (reading_of reader.old).ppm
-        (reading_of reader.old).head encoder.old.accepted }
+    requires suits { (profile : Profile) × (choice : Choice) × IsFor profile choice
+        (reading_of reader.old).ppm (reading_of reader.old).head encoder.old.accepted }
     requires none { frames.old.items ≡ [] }
     ensures ok { OnOk result (EncodesAll (passage R.remaining R.failures input.old input.new)
         encoder.old.accepted (reading_of reader.old) (frames_of frames.new.items)) }

@@ -48,7 +48,8 @@ pub enum Fault {
     /// height.
     #[error("11 Grid")]
     Grid,
-    /// An inner edge of the slices is no multiple of its chroma factor.
+    /// In `Strict`, an inner edge of the slices is no multiple of its chroma factor; in `Wide`, a
+    /// column or a line of chroma lies in no slice.
     #[error("12 ChromaEdge")]
     ChromaEdge,
     /// A chroma factor is above 4; or RCT has no chroma planes; or a chroma factor is not 1 with
@@ -120,6 +121,9 @@ pub enum Fault {
     /// A slice's error_status is not 0.
     #[error("38 SliceStatus")]
     SliceStatus,
+    /// Two slices say different values of one sample.
+    #[error("39 Overlap")]
+    Overlap,
     /// A slice's coded bytes pass 16777215.
     #[error("40 SliceTooLong")]
     SliceTooLong,
@@ -313,6 +317,7 @@ impl From<ffv1_codec::CodecFault> for Fault {
             ffv1_codec::CodecFault::Leftover => Fault::Leftover,
             ffv1_codec::CodecFault::SliceParity => Fault::SliceParity,
             ffv1_codec::CodecFault::SliceStatus => Fault::SliceStatus,
+            ffv1_codec::CodecFault::Overlap => Fault::Overlap,
             ffv1_codec::CodecFault::SliceTooLong => Fault::SliceTooLong,
             ffv1_codec::CodecFault::InfoDiffers => Fault::InfoDiffers,
             ffv1_codec::CodecFault::Sink => Fault::Sink,

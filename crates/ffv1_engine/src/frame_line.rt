@@ -155,6 +155,7 @@ fn fault_word(fault: CodecFault) -> &'static str
         CodecFault::Leftover => "36 Leftover",
         CodecFault::SliceParity => "37 SliceParity",
         CodecFault::SliceStatus => "38 SliceStatus",
+        CodecFault::Overlap => "39 Overlap",
         CodecFault::SliceTooLong => "40 SliceTooLong",
         CodecFault::InfoDiffers => "41 InfoDiffers",
         CodecFault::Sink => "42 Sink",

@@ -1,12 +1,14 @@
 //! Laws of the definitions.
 
-ghost use Rattle.std.specs.Prelude.{◌≡◌, ◌<◌, ◌≤◌, ◌*◌, ◌↔◌, ℕ, Bool, List, Some, true};
+ghost use Rattle.std.specs.Prelude.{◌≡◌, ◌<◌, ◌≤◌, ◌*◌, ◌↔◌, ℕ, Bool, List, None, Some, true};
 ghost use Rattle.ffv1_range.specs.Codes.{AreBytes, value};
 ghost use Rattle.ffv1_range.specs.Table.{Table, IsTable};
 ghost use Rattle.ffv1_plane.specs.declared.prediction.Around.{Around};
 ghost use Rattle.ffv1_plane.specs.Quantisation.{Set, contexts_of};
 ghost use Rattle.ffv1_plane.specs.Context.{size_of};
 ghost use Rattle.ffv1_y4m.specs.declared.head.VideoHead.{VideoHead};
+ghost use Rattle.ffv1_record.specs.declared.config.Profile.{Profile as RecordProfile};
+ghost use Rattle.ffv1_record.specs.declared.config.Profile.TheVariants as edges;
 ghost use Rattle.ffv1_words.specs.declared.order.Choice.{Choice};
 ghost use Rattle.ffv1_engine.specs.GridChecks.{AreParts, PassesGrid, with_parts};
 ghost use Rattle.ffv1_engine.specs.Grids.{Grid, default_grid, first_grid, has_grid, most_pixels};
@@ -28,20 +30,27 @@ pub fn plane_code_is_read_back()
 {}
 
 /// The default grid of Matroska is chosen among those with which a configuration is accepted: of 1
-/// to 32 columns and rows a picture may have those that pass the checks of the grid and of the
-/// edges of its slices, and whose greatest slice has fewer bytes of samples than 12 MiB.
+/// to 32 columns and rows a picture may have, in a profile, those that pass its checks of the grid
+/// and of the edges of its slices, and whose greatest slice has fewer bytes of samples than 12 MiB.
 pub fn default_grid_passes_its_checks()
-    ensures { (choice : Choice) (ppm : Bool) (h : SaidHead) (columns rows : ℕ) →
-        AreParts columns rows → has_grid h.depth h.head columns rows ≡ true
-        ↔ (PassesGrid (configuration_for (with_parts choice columns rows) ppm h)
+    ensures { (p : RecordProfile) (choice : Choice) (ppm : Bool) (h : SaidHead) (columns rows : ℕ) →
+        AreParts columns rows → has_grid p h.depth h.head columns rows ≡ true
+        ↔ (PassesGrid p (configuration_for (with_parts choice columns rows) ppm h)
         × (slice_bytes h.depth h.head columns rows < slice_limit)) }
 {}
 
 /// The default grid of a picture of more than 101376 pixels has at least 4 slices and at least as
-/// many columns as rows, if the picture may have such a grid: it is the first of these.
+/// many columns as rows, if the picture may have such a grid: it is the first of those whose inner
+/// edges are multiples of the chroma factors, and, if there is none, the first that the profile
+/// takes.
 pub fn default_grid_is_wide()
-    ensures { (depth : ℕ) (h : VideoHead) (g : Grid) → most_pixels < h.width * h.height →
-        first_grid depth h true ≡ Some g →
-        (default_grid depth h ≡ g) × (has_grid depth h g.0 g.1 ≡ true)
+    ensures multiples { (p : RecordProfile) (depth : ℕ) (h : VideoHead) (g : Grid) →
+        most_pixels < h.width * h.height → first_grid edges.Strict depth h true ≡ Some g →
+        (default_grid p depth h ≡ g) × (has_grid edges.Strict depth h g.0 g.1 ≡ true)
+        × (g.1 ≤ g.0) × (4 ≤ g.0 * g.1) }
+    ensures others { (p : RecordProfile) (depth : ℕ) (h : VideoHead) (g : Grid) →
+        most_pixels < h.width * h.height → first_grid edges.Strict depth h true ≡ None →
+        first_grid p depth h true ≡ Some g →
+        (default_grid p depth h ≡ g) × (has_grid p depth h g.0 g.1 ≡ true)
         × (g.1 ≤ g.0) × (4 ≤ g.0 * g.1) }
 {}

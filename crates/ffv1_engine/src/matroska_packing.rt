@@ -16,7 +16,7 @@ ghost use Rattle.ffv1_engine.specs.Pack.{IsPackFault};
 ghost use Rattle.ffv1_engine.specs.PackMatroska.{IsMatroskaPackFault, is_matroska_pack_fault};
 ghost use Rattle.ffv1_engine.specs.PackMatroska.{shown_for};
 ghost use Rattle.ffv1_engine.specs.Packing.{IsFor, configuration_for};
-ghost use Rattle.ffv1_engine.specs.Profiles.{greatest_depth};
+ghost use Rattle.ffv1_engine.specs.Profiles.{greatest_depth, record_profile};
 ghost use Rattle.ffv1_engine.specs.Internal.VideoReads.{reading_of};
 
 use crate::default_grid::grid_for;
@@ -68,10 +68,14 @@ fn shown_for<A: Allocator + Copy>(reader: &VideoReader<A>) -> Shown
 }
 
 /// The choice with the grid of a video, its own or the default one.
-fn choice_for<A: Allocator + Copy>(choice: &Choice, reader: &VideoReader<A>) -> Choice
-    ensures { result ≡ choice_for choice.now (reading_of reader.now).head }
+fn choice_for<A: Allocator + Copy>(
+    profile: Profile,
+    choice: &Choice,
+    reader: &VideoReader<A>,
+) -> Choice
+    ensures { result ≡ choice_for profile choice.now (reading_of reader.now).head }
 {
-    let (columns, rows) = grid_for(choice, reader);
+    let (columns, rows) = grid_for(profile, choice, reader);
     Choice {
         columns,
         rows,
@@ -87,16 +91,17 @@ fn encoder_in_grid<A: Allocator + Copy>(
     reader: &VideoReader<A>,
 ) -> Result<VerifyingEncoder<A>, Fault>
     requires { (reading_of reader.now).head.depth ≤ greatest_depth profile }
-    ensures ok { IfOk result (λ e. IsFor (choice_for choice.now (reading_of reader.now).head)
-        (reading_of reader.now).ppm (reading_of reader.now).head e.accepted) }
+    ensures ok { IfOk result (λ e. IsFor profile
+        (choice_for profile choice.now (reading_of reader.now).head) (reading_of reader.now).ppm
+        (reading_of reader.now).head e.accepted) }
     ensures verify { IfOk result (λ e. e.verifies ≡ choice.now.verify) }
     ensures err { IfErr result (λ f. (f ≡ fault.OutOfMemory)
-        ⊎ ((g : RecordFault) × IsFirstUpTo (greatest_depth profile)
-        (configuration_for (choice_for choice.now (reading_of reader.now).head)
+        ⊎ ((g : RecordFault) × IsFirstUpTo (record_profile profile) (greatest_depth profile)
+        (configuration_for (choice_for profile choice.now (reading_of reader.now).head)
         (reading_of reader.now).ppm (reading_of reader.now).head) g × (f ≡ of_record g))) }
     ensures own { IfErr result (IsPackFault profile) }
 {
-    let chosen = choice_for(choice, reader);
+    let chosen = choice_for(profile, choice, reader);
     encoder_for(alloc, profile, &chosen, reader)
 }
 
@@ -107,10 +112,10 @@ fn open_video<R: ByteIn, A: Allocator + Copy>(
     input: &mut R,
     choice: &Choice,
 ) -> Result<Opened<A>, Fault>
-    ensures ok { IfOk result (λ o. OpensMatroska (greatest_depth profile) choice.now
+    ensures ok { IfOk result (λ o. OpensMatroska profile choice.now
         (passage R.remaining R.failures input.old input.new) (reading_of o.reader)
         o.encoder.accepted o.writer) }
-    ensures err { IfErr result (LacksMatroska (greatest_depth profile) choice.now
+    ensures err { IfErr result (LacksMatroska profile choice.now
         (passage R.remaining R.failures input.old input.new)) }
     ensures own { IfErr result (IsMatroskaPackFault profile) }
 {
@@ -137,8 +142,8 @@ fn put_pictures<R: ByteIn, W: ByteOut, A: Allocator + Copy>(
 ) -> Result<Packed, Fault>
     requires working { (reading_of reader.old).failed ≡ None }
     requires begun { (reading_of reader.old).begun ≡ true }
-    requires suits { (choice : Choice) × IsFor choice (reading_of reader.old).ppm
-        (reading_of reader.old).head encoder.old.accepted }
+    requires suits { (profile : Profile) × (choice : Choice) × IsFor profile choice
+        (reading_of reader.old).ppm (reading_of reader.old).head encoder.old.accepted }
     requires fresh { writer.old ≡ writing_of writer.old.head writer.old.shown [] }
     ensures ok { IfOk result (PutsAll encoder.old.accepted (reading_of reader.old)
         writer.old writer.new (passage R.remaining R.failures input.old input.new)
@@ -171,15 +176,18 @@ fn put_pictures<R: ByteIn, W: ByteOut, A: Allocator + Copy>(
 /// 5.1.3, with FFV1 as RFC 9043, 4.3.3, has it).
 ///
 /// The configuration and the frames are those of `pack`, and so are the depths that are read, rate
-/// and scale; but if the choice asks for `default_grid`, and not for columns and rows, a picture
-/// of more than 101376 pixels has at least 4 slices, as RFC 9043, section 5, wants it: the fewest,
-/// and of these those of fewest columns, that its sizes have, with fewer bytes of samples than 12
-/// MiB in the greatest; and one slice if it can have none such. Before the first Cluster comes
-/// all that stands before the Clusters, of a Segment of unknown size; after the last one come Cues,
-/// and then what stands before Tracks is written over, so that the file is finished. If the
-/// output cannot be written over, the Segment's size stays unknown, and all else is there. One
-/// picture, its frame and the places of at most 8192 Clusters are held, however many pictures there
-/// are.
+/// and scale; but if the choice asks for `default_grid`, and not for columns and rows, a picture of
+/// more than 101376 pixels has at least 4 slices, as RFC 9043, section 5, wants it. It has the
+/// first grid, by the number of slices and then of columns, that has at least as many columns as
+/// rows, whose greatest slice has fewer bytes of samples than 12 MiB, and whose slices share no
+/// chroma sample. If there is none, it has, in `Wide`, the first whose slices may share one; else
+/// the first of any columns and rows whose slices share none; else one slice.
+///
+/// Before the first Cluster comes all that stands before the Clusters, of a Segment of unknown
+/// size; after the last one come Cues, and then what stands before Tracks is written over, so that
+/// the file is finished. If the output cannot be written over, the Segment's size stays unknown,
+/// and all else is there. One picture, its frame and the places of at most 8192 Clusters are held,
+/// however many pictures there are.
 ///
 /// If the choice says `verify`, each frame is decoded as soon as it is coded, and compared with
 /// its picture before its Cluster is written, in memory that is taken once, before the first byte
@@ -188,7 +196,7 @@ fn put_pictures<R: ByteIn, W: ByteOut, A: Allocator + Copy>(
 ///
 /// The first fault is answered in this order. `Header`, `Tag` and `Unsupported` if the text has
 /// no head of a depth that is read; `Grid` and `ChromaEdge` if the grid that is chosen does not
-/// suit its sizes; `Rate` if no whole nanoseconds a frame say its rate, as
+/// suit its sizes, as `pack` says; `Rate` if no whole nanoseconds a frame say its rate, as
 /// `ffv1_matroska::rate_of` reads them; nothing is written then. For each picture `FrameLine`,
 /// `FrameTruncated`, `SampleTooLarge`, for a later image `Header` and `FormatChanged`,
 /// `SliceTooLong` if a slice takes more than 16777215 bytes, `ChunkTooLong` if its frame
@@ -211,10 +219,10 @@ pub fn pack_matroska<R: ByteIn, W: PatchOut, A: Allocator + Copy>(
     output: &mut W,
     choice: &Choice,
 ) -> Result<PackedMatroska, Fault>
-    ensures ok { IfOk result (PacksMatroska (greatest_depth profile) choice.now
+    ensures ok { IfOk result (PacksMatroska profile choice.now
         (passage R.remaining R.failures input.old input.new)
         (passage W.contents W.failures output.old output.new)) }
-    ensures err { IfErr result (RefusesMatroska (greatest_depth profile) choice.now
+    ensures err { IfErr result (RefusesMatroska profile choice.now
         (passage R.remaining R.failures input.old input.new)
         (passage W.contents W.failures output.old output.new)) }
     ensures own { IfErr result (IsMatroskaPackFault profile) }

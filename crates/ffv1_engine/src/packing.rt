@@ -8,7 +8,6 @@ ghost use Rattle.ffv1_engine.specs.Pack.{Packs, RefusesPack};
 ghost use Rattle.ffv1_engine.specs.Internal.Pack.{EncodesVideo, StopsVideo};
 ghost use Rattle.ffv1_engine.specs.Pack.{IsPackFault};
 ghost use Rattle.ffv1_engine.specs.Packing.{bytes_in};
-ghost use Rattle.ffv1_engine.specs.Profiles.{greatest_depth};
 
 use crate::encoding::{encode_pictures, encoder_for, file_head};
 use crate::fault::Fault;
@@ -44,10 +43,10 @@ fn encode_video<R: ByteIn, A: Allocator + Copy>(
     input: &mut R,
     choice: &Choice,
 ) -> Result<Stream<A>, Fault>
-    ensures ok { IfOk result (λ s. EncodesVideo (greatest_depth profile) choice.now
+    ensures ok { IfOk result (λ s. EncodesVideo profile choice.now
         (passage R.remaining R.failures input.old input.new) (head_of s.head)
         (frames_of s.frames.items)) }
-    ensures err { IfErr result (StopsVideo (greatest_depth profile) choice.now
+    ensures err { IfErr result (StopsVideo profile choice.now
         (passage R.remaining R.failures input.old input.new)) }
     ensures own { IfErr result (IsPackFault profile) }
 {
@@ -90,14 +89,15 @@ fn bytes_in<A: Allocator>(frames: &[Vec<u8, A>]) -> u64
 /// its picture, in memory that is taken once. What is written and answered is the same, but that
 /// `OutOfMemory` may come for that memory.
 ///
-/// The first fault is answered in this order. `Header`, `Tag` and `Unsupported` if the text has
-/// no head of a depth that is read; `Grid` and `ChromaEdge` if the choice does not suit its
-/// sizes; for each picture `FrameLine`, `FrameTruncated`, `SampleTooLarge` if a sample is
-/// 2^depth or more, for a later image `Header` and `FormatChanged`, and `SliceTooLong` if a
-/// slice takes more than 16777215 bytes; `NoFrames` if there is no picture; `TooLarge` if the
-/// size of RIFF would pass 2147483647. `Read` if a read failed, and `OutOfMemory`, which comes
-/// after the head alone. Nothing is written then. `Write` if a write failed: a beginning of the
-/// file is then written, and not all of it.
+/// The first fault is answered in this order. `Header`, `Tag` and `Unsupported` if the text has no
+/// head of a depth that is read; `Grid` and `ChromaEdge` if the choice does not suit its sizes: in
+/// `Strict`, if an inner edge is no multiple of its chroma factor, in `Wide`, if a column or a line
+/// of chroma would lie in no slice; for each picture `FrameLine`, `FrameTruncated`,
+/// `SampleTooLarge` if a sample is 2^depth or more, for a later image `Header` and `FormatChanged`,
+/// and `SliceTooLong` if a slice takes more than 16777215 bytes; `NoFrames` if there is no picture;
+/// `TooLarge` if the size of RIFF would pass 2147483647. `Read` if a read failed, and
+/// `OutOfMemory`, which comes after the head alone. Nothing is written then. `Write` if a write
+/// failed: a beginning of the file is then written, and not all of it.
 pub fn pack<R: ByteIn, W: ByteOut, A: Allocator + Copy>(
     alloc: A,
     profile: Profile,
@@ -105,10 +105,10 @@ pub fn pack<R: ByteIn, W: ByteOut, A: Allocator + Copy>(
     output: &mut W,
     choice: &Choice,
 ) -> Result<Packed, Fault>
-    ensures ok { IfOk result (Packs (greatest_depth profile) choice.now
+    ensures ok { IfOk result (Packs profile choice.now
         (passage R.remaining R.failures input.old input.new)
         (passage W.contents W.failures output.old output.new)) }
-    ensures err { IfErr result (RefusesPack (greatest_depth profile) choice.now
+    ensures err { IfErr result (RefusesPack profile choice.now
         (passage R.remaining R.failures input.old input.new)
         (passage W.contents W.failures output.old output.new)) }
     ensures own { IfErr result (IsPackFault profile) }

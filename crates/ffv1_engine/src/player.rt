@@ -11,7 +11,7 @@ ghost use Rattle.ffv1_engine.specs.declared.fault.Fault.TheVariants as fault;
 ghost use Rattle.ffv1_engine.specs.Containers.{is_profile_fault};
 ghost use Rattle.ffv1_engine.specs.Located.{LocatedFault};
 ghost use Rattle.ffv1_engine.specs.Internal.Located.{LocatedStep};
-ghost use Rattle.ffv1_engine.specs.Profiles.{greatest_depth, scope_in};
+ghost use Rattle.ffv1_engine.specs.Profiles.{greatest_depth, record_profile, scope_in};
 ghost use Rattle.ffv1_engine.specs.Opens.{LacksOpening, is_opening_fault};
 ghost use Rattle.ffv1_engine.specs.Internal.Opens.{OpensStream};
 ghost use Rattle.ffv1_engine.specs.Stream.{IsStream};
@@ -44,8 +44,8 @@ fn read_head<A: Allocator + Copy>(
     ensures ok { IfOk result (λ c.
         IsStream profile (record { head = head_of head.now; accepted = c })) }
     ensures err { IfErr result (λ f. (f ≡ record_fault.OutOfMemory)
-        ⊎ IsRefused (greatest_depth profile) head.now.config_record.items head.now.width
-        head.now.height f) }
+        ⊎ IsRefused (record_profile profile) (greatest_depth profile)
+        head.now.config_record.items head.now.width head.now.height f) }
     ensures memory { IfErr result (λ f. f ≡ record_fault.OutOfMemory →
         ReachesSets (greatest_depth profile) head.now.config_record.items) }
 {

@@ -12,12 +12,13 @@ use ffv1_files::Scope;
 pub enum Profile {
     /// An AVI up to the end of its first `movi`, whose first stream is FFV1, and whose record is
     /// the rest of its format. A slice's sample aspect has two numbers that are both 0 or neither.
-    /// A sample has 8 bits.
+    /// A sample has 8 bits. Each inner edge of the slices is a multiple of its chroma factor.
     Strict,
     /// All of an AVI, each `RIFF` of it: its frames are those of the first FFV1 video among its
     /// streams, whose record ends where `biSize` says. And Matroska: its frames are those of the
     /// first track that is FFV1 video. A sample aspect of which just one number is 0 is unknown, as
-    /// 0:0 is. A sample has 8, 9, 10, 12, 14 or 16 bits.
+    /// 0:0 is. A sample has 8, 9, 10, 12, 14 or 16 bits. Slices may share a column or a line of
+    /// chroma, where each column and each line of it lies in a slice.
     Wide,
 }
 

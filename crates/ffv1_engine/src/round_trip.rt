@@ -20,9 +20,10 @@ ghost use Rattle.ffv1_engine.specs.PackMatroska.{HasClusters, begun_file};
 ghost use Rattle.ffv1_engine.specs.Packing.{packed_frames, packed_head};
 ghost use Rattle.ffv1_engine.specs.RoundTrip.{IsReadIn};
 ghost use Rattle.ffv1_engine.specs.RoundTrip.{Holds, IsNoContent, IsUnpacked, WasPacked};
-ghost use Rattle.ffv1_engine.specs.RoundTrip.{canonical_of, file_in, video_in};
+ghost use Rattle.ffv1_engine.specs.RoundTrip.{canonical_of, configuration_in, file_in, video_in};
 ghost use Rattle.ffv1_engine.specs.Unpack.{UnpackDone, UnpackStops};
-ghost use Rattle.ffv1_engine.specs.Profiles.{greatest_depth};
+ghost use Rattle.ffv1_engine.specs.Profiles.{greatest_depth, record_profile};
+ghost use Rattle.ffv1_record.specs.Accepted.{PassesEdges};
 ghost use Rattle.ffv1_engine.specs.Video.{IsReadVideo, IsVideo, Video};
 
 use ffv1_avi::laws as avi_laws;
@@ -49,8 +50,9 @@ pub fn named_rate_fits_a_file()
 /// refused on it, at such a profile, that is for `OutOfMemory` (2), `Read` (56) or `Write` (57),
 /// and for no fault of the file.
 ///
-/// The profile that a text was packed in reads its depth, `Wide` reads that of each text that was
-/// packed, and `Strict` those of 8 bits.
+/// The profile that a text was packed in reads its depth and its grid, `Wide` reads those of each
+/// text that was packed, and `Strict` those of 8 bits whose slices share no chroma sample: each
+/// inner edge is a multiple of the chroma factor.
 ///
 /// The same holds, at `Wide`, of any text that `pack_matroska` has packed, whether its file is
 /// finished or open: it writes no longer frame. A file that is begun, of some first pictures, is
@@ -58,27 +60,29 @@ pub fn named_rate_fits_a_file()
 pub fn packed_is_unpacked()
     ensures read { (packing profile : Profile) (choice : Choice) (text : List ℕ)
         (w : WasPacked packing choice text) →
-        IsReadIn packing (video_in w) × IsReadIn Wide (video_in w)
-        × ((video_in w).head.depth ≡ 8 → IsReadIn profile (video_in w)) }
+        IsReadIn packing (video_in w) (configuration_in w)
+        × IsReadIn Wide (video_in w) (configuration_in w)
+        × ((video_in w).head.depth ≡ 8 → PassesEdges (record_profile profile) (configuration_in w) →
+        IsReadIn profile (video_in w) (configuration_in w)) }
     ensures holds { (packing profile : Profile) (choice : Choice) (text : List ℕ)
-        (w : WasPacked packing choice text) → IsReadIn profile (video_in w) →
+        (w : WasPacked packing choice text) → IsReadIn profile (video_in w) (configuration_in w) →
         Holds profile (file_in w) (video_in w) }
     ensures written { (packing profile : Profile) (choice : Choice) (text : List ℕ)
         (w : WasPacked packing choice text) (input output : Passage) (count : ℕ) →
-        IsReadIn profile (video_in w) →
+        IsReadIn profile (video_in w) (configuration_in w) →
         input.old ≡ Some (file_in w) → UnpackDone profile input output count →
         IsUnpacked (video_in w) input output count }
     ensures refused { (packing profile : Profile) (choice : Choice) (text : List ℕ)
         (w : WasPacked packing choice text) (input output : Passage) (f : Fault) →
-        IsReadIn profile (video_in w) →
+        IsReadIn profile (video_in w) (configuration_in w) →
         input.old ≡ Some (file_in w) → UnpackStops profile input output f → IsNoContent f }
     ensures checked { (packing profile : Profile) (choice : Choice) (text : List ℕ)
         (w : WasPacked packing choice text) (place : Bool) (input output : Passage) (f : Fault) →
-        IsReadIn profile (video_in w) →
+        IsReadIn profile (video_in w) (configuration_in w) →
         input.old ≡ Some (file_in w) → CheckStops profile place input output f → IsNoContent f }
     ensures shown { (packing profile : Profile) (choice : Choice) (text : List ℕ)
         (w : WasPacked packing choice text) (cost : Bool) (input output : Passage) (f : Fault) →
-        IsReadIn profile (video_in w) →
+        IsReadIn profile (video_in w) (configuration_in w) →
         input.old ≡ Some (file_in w) → ShowStops profile input output cost f → IsNoContent f }
     ensures same { (packing : Profile) (choice : Choice) (text : List ℕ)
         (w : WasPacked packing choice text) →
@@ -122,8 +126,8 @@ pub fn packed_is_unpacked()
     ensures matroska_ppm { (packing : Profile) (choice : Choice) (text : List ℕ)
         (w : WasPackedMatroska packing choice text) → IsVideo text (matroska_video w) →
         (matroska_video w).ppm ≡ true → canonical_of (matroska_video w) ≡ text }
-    ensures begun { (choice : Choice) (v : Video) (a : Accepted) → HasClusters choice v a →
-        0 < length v.pictures →
+    ensures begun { (profile : Profile) (choice : Choice) (v : Video) (a : Accepted) →
+        HasClusters profile choice v a → 0 < length v.pictures →
         (v.ppm ≡ true → IsRatio 4294967295 choice.rate choice.scale) →
         file_read Whole (begun_file choice v a)
         ≡ Ok ((packed_head choice v a, packed_frames v a), []) }

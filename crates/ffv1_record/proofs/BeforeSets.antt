@@ -3,6 +3,7 @@ use Rattle.std.proofs.Common.{refl, ℕ, ◌<◌, ◌≤◌, inl, inr, List, ari
 use Rattle.ffv1_range.specs.Codes.{AreBytes}
 use Rattle.ffv1_record.specs.declared.fault.RecordFault.{RecordFault}
 use Rattle.ffv1_record.specs.declared.fault.RecordFault.TheVariants as fault
+use Rattle.ffv1_record.specs.declared.config.Profile.{Profile}
 use Rattle.ffv1_record.specs.Record.{body_of}
 use Rattle.ffv1_record.specs.Reader.{Reader, Spot, ◌>>=◌, number_within}
 use Rattle.ffv1_record.specs.Reading.{opening, planes, count_of, tables, before_sets, parameters, beginning, IsRefused, IsRefusedBeforeSets, ReachesSets}
@@ -25,8 +26,8 @@ err_before most width height b f h =
     err_then b beginning opening _ _ f (λ coder s. err_then b s (planes most) _ _ f (λ p t. err_then b t count_of _ _ f (λ columns u. err_then b u count_of _ _ f (λ rows v at_sets.
     err_first b v tables _ f (err_first b v (number_within 0 1 8 fault.Sets) _ f at_sets))))) h
 
-pub refused_before : (most : ℕ) (bytes : List ℕ) (width height : ℕ) (f : RecordFault) → IsRefusedBeforeSets most bytes f → IsRefused most bytes width height f
-refused_before most bytes width height f h = elim h [
+pub refused_before : (p : Profile) (most : ℕ) (bytes : List ℕ) (width height : ℕ) (f : RecordFault) → IsRefusedBeforeSets most bytes f → IsRefused p most bytes width height f
+refused_before p most bytes width height f h = elim h [
   | inl short ↦ inl short
   | inr h ↦ elim h [
     | inl parity ↦ inr (inl parity)

@@ -1,4 +1,5 @@
 pub mod SetLists
+pub mod Edges
 pub mod Checks
 pub mod Slots
 pub mod DecoderSpots

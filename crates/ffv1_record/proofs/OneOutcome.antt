@@ -9,7 +9,8 @@ use Rattle.ffv1_record.specs.declared.fault.RecordFault.TheVariants as fault
 use Rattle.ffv1_record.specs.declared.config.Coder.{Coder}
 use Rattle.ffv1_record.specs.declared.config.Coder.TheVariants as coder
 use Rattle.ffv1_record.specs.Configuration.{Configuration}
-use Rattle.ffv1_record.specs.Accepted.{IsFirst, IsAccepted, is_depth, checks}
+use Rattle.ffv1_record.specs.declared.config.Profile.{Profile}
+use Rattle.ffv1_record.specs.Accepted.{IsFirstIn, PassesAll, IsAccepted, is_depth, checks}
 use Rattle.ffv1_record.specs.Record.{IsCoded, IsRecord, body_of, depth_of, number_steps}
 use Rattle.ffv1_record.specs.Reader.{Reader, Spot, ◌>>=◌, done, require, next_table, number, signed_number, truth, number_within, makes_table}
 use Rattle.ffv1_record.specs.Reading.{deltas_onto, coder_of, opening, depth, planes, count_of, runs_onto, table, set, sets_onto, uncoded, tables, flag, before_sets, parameters, beginning, IsMet, IsRefused}
@@ -202,15 +203,15 @@ module _ (b : List ℕ) (are : AreBytes b) where
   ]
 
 -- of the faults in an order one is the first
-one_first : (fs : List RecordFault) (c : Configuration) (f g : RecordFault) → IsFirst fs c f → IsFirst fs c g → f ≡ g
-one_first [] c f g p q = absurd p
-one_first (x ∷ fs) c f g p q = elim p [
+one_first : (p : Profile) (fs : List RecordFault) (c : Configuration) (f g : RecordFault) → IsFirstIn p fs c f → IsFirstIn p fs c g → f ≡ g
+one_first k [] c f g p q = absurd p
+one_first k (x ∷ fs) c f g p q = elim p [
   | inl e ↦ elim q [ inl d ↦ e.1 ∙ sym d.1 | inr d ↦ absurd (e.0 d.0) ]
-  | inr e ↦ elim q [ inl d ↦ absurd (d.0 e.0) | inr d ↦ one_first fs c f g e.1 d.1 ]
+  | inr e ↦ elim q [ inl d ↦ absurd (d.0 e.0) | inr d ↦ one_first k fs c f g e.1 d.1 ]
 ]
 
-module _ (most : ℕ) (bytes : List ℕ) (are : AreBytes (body_of bytes)) (width height : ℕ) where
-  one_met : (f g : RecordFault) → IsMet most bytes width height f → IsMet most bytes width height g → f ≡ g
+module _ (k : Profile) (most : ℕ) (bytes : List ℕ) (are : AreBytes (body_of bytes)) (width height : ℕ) where
+  one_met : (f g : RecordFault) → IsMet k most bytes width height f → IsMet k most bytes width height g → f ≡ g
   one_met f g p q =
       let b = body_of bytes in
       let read = decides_parameters b are most width height in
@@ -237,7 +238,7 @@ module _ (most : ℕ) (bytes : List ℕ) (are : AreBytes (body_of bytes)) (width
               | inl x ↦ absurd (not_both (y.0, y.1) g (read.decides beginning (Ok (y.0, y.1)) (Err g) y.2 x))
               | inr x ↦
                   let same = ok_same (x.0, x.1) (y.0, y.1) (read.decides beginning (Ok (x.0, x.1)) (Ok (y.0, y.1)) x.2 y.2) in
-                  one_first checks y.0 f g y.3 (subst (λ (z : Configuration). IsFirst checks z g) (ap (λ (z : Configuration × Spot). z.0) same) x.3)
+                  one_first k checks y.0 f g y.3 (subst (λ (z : Configuration). IsFirstIn k checks z g) (ap (λ (z : Configuration × Spot). z.0) same) x.3)
             ]
           ]
         ]
@@ -246,7 +247,7 @@ module _ (most : ℕ) (bytes : List ℕ) (are : AreBytes (body_of bytes)) (width
       not_low : {n : ℕ} → 65280 ≤ n → n < 65280 → ⊥
       not_low high low = omega arith
 
-  pub one_refusal : (f g : RecordFault) → IsRefused most bytes width height f → IsRefused most bytes width height g → f ≡ g
+  pub one_refusal : (f g : RecordFault) → IsRefused k most bytes width height f → IsRefused k most bytes width height g → f ≡ g
   one_refusal f g p q = elim p [
     | inl e ↦ elim q [
       | inl d ↦ e.1 ∙ sym d.1
@@ -268,8 +269,8 @@ module _ (most : ℕ) (bytes : List ℕ) (are : AreBytes (body_of bytes)) (width
       not_short short long = omega arith
 
 -- no record of a configuration is refused
-pub no_refusal : (most : ℕ) (bytes : List ℕ) → AreBytes (body_of bytes) → (c : Configuration) (t : Table) (f : RecordFault) → IsAccepted c t → c.depth ≤ most → IsRecord bytes c → IsRefused most bytes c.width c.height f → ⊥
-no_refusal most bytes are c t f is below stored refused = elim refused [
+pub no_refusal : (k : Profile) (most : ℕ) (bytes : List ℕ) → AreBytes (body_of bytes) → (c : Configuration) (t : Table) (f : RecordFault) → IsAccepted c t → PassesAll k checks c → c.depth ≤ most → IsRecord bytes c → IsRefused k most bytes c.width c.height f → ⊥
+no_refusal k most bytes are c t f is passes below stored refused = elim refused [
   | inl e ↦ short e.0 stored.long
   | inr e ↦ elim e [
     | inl y ↦ y.1 stored.whole
@@ -279,7 +280,7 @@ no_refusal most bytes are c t f is below stored refused = elim refused [
         | inl x ↦ not_both (c, ending_of stored.bits c) f (sym (read_so bytes are c t is stored most below (Err f) x))
         | inr x ↦
             let same = ok_same (x.0, x.1) (c, ending_of stored.bits c) (read_so bytes are c t is stored most below (Ok (x.0, x.1)) x.2) in
-            none_stands checks c f is.passes (subst (λ (z : Configuration). IsFirst checks z f) (ap (λ (z : Configuration × Spot). z.0) same) x.3)
+            none_stands k checks c f passes (subst (λ (z : Configuration). IsFirstIn k checks z f) (ap (λ (z : Configuration × Spot). z.0) same) x.3)
       ]
     ]
   ]

@@ -7,7 +7,8 @@ use Rattle.ffv1_range.specs.Standard.{standard}
 use Rattle.ffv1_record.specs.declared.fault.RecordFault.{RecordFault}
 use Rattle.ffv1_record.specs.declared.fault.RecordFault.TheVariants as fault
 use Rattle.ffv1_record.specs.Configuration.{Configuration}
-use Rattle.ffv1_record.specs.Accepted.{IsFirst, IsFirstWhere, IsFirstUpTo, has_depth, checks}
+use Rattle.ffv1_record.specs.declared.config.Profile.{Profile}
+use Rattle.ffv1_record.specs.Accepted.{IsFirstIn, IsFirstWhere, IsFirstUpTo, has_depth, checks}
 use Rattle.ffv1_record.specs.Parity.{remainder_of}
 use Rattle.ffv1_record.specs.Record.{IsRecord, IsCoded, body_of}
 use Rattle.ffv1_record.specs.Reader.{Reader, Spot}
@@ -16,8 +17,8 @@ use Rattle.ffv1_record.specs.Internal.Given.{Source, Stands, Gives}
 use Rattle.ffv1_record.proofs.ReadIsCoded.{parameters_ok}
 
 -- where a depth is accepted, all else is refused as it is at 8
-pub first_of : (most : ℕ) (c : Configuration) (f : RecordFault) → IsTrue (has_depth most c) → IsFirstUpTo most c f → IsFirst checks c f
-first_of most c f deep first = subst (λ test. IsFirstWhere test c f) deep first
+pub first_of : (p : Profile) (most : ℕ) (c : Configuration) (f : RecordFault) → IsTrue (has_depth most c) → IsFirstUpTo p most c f → IsFirstIn p checks c f
+first_of p most c f deep first = subst (λ test. IsFirstWhere p test c f) deep first
 
 stands_coded : (a : Source) (b : List ℕ) (s : Spot) → Stands a b s → IsCoded b s.past
 stands_coded a b s st = subst (λ bs. Inside bs (interval_of (decisions_after standard [] s.past))) st.bytes st.at.inside
@@ -52,16 +53,16 @@ module _ (most : ℕ) (bytes : List ℕ) (width height : ℕ) (a b : Source) (lo
       let told = gives.gives (body_of bytes) beginning begun in
       (parameters_ok most width height (body_of bytes) beginning c told.0 refl told.1).deep
 
-  pub not_read : (f : RecordFault) → Gives {Y = Configuration} (λ x. x) (parameters most width height) a b (Err f) → (f ≡ fault.OutOfMemory) ⊎ IsRefused most bytes width height f
-  not_read f gives = elim (gives.gives (body_of bytes) beginning begun) [
+  pub not_read : (p : Profile) (f : RecordFault) → Gives {Y = Configuration} (λ x. x) (parameters most width height) a b (Err f) → (f ≡ fault.OutOfMemory) ⊎ IsRefused p most bytes width height f
+  not_read p f gives = elim (gives.gives (body_of bytes) beginning begun) [
     | inl memory ↦ inl memory
     | inr refused ↦ inr (inr (inr (long, whole, inr (inl refused))))
   ]
 
-  pub not_checked : (c : Configuration) (f : RecordFault) → Gives (λ x. x) (parameters most width height) a b (Ok c) → IsFirstUpTo most c f → IsRefused most bytes width height f
-  not_checked c f gives first =
+  pub not_checked : (p : Profile) (c : Configuration) (f : RecordFault) → Gives (λ x. x) (parameters most width height) a b (Ok c) → IsFirstUpTo p most c f → IsRefused p most bytes width height f
+  not_checked p c f gives first =
       let told = gives.gives (body_of bytes) beginning begun in
-      inr (inr (long, whole, inr (inr (c, told.0, told.1, first_of most c f (found_depth c gives) first))))
+      inr (inr (long, whole, inr (inr (c, told.0, told.1, first_of p most c f (found_depth c gives) first))))
 
 -- the same of what a call gave, seen as a configuration
 pub seen : {Y X : Type 0} (view : Y → X) (r : Reader X) (a b : Source) (y : Y) → Gives view r a b (Ok y) → Gives (λ (x : X). x) r a b (Ok (view y))

@@ -8,7 +8,8 @@ use Rattle.ffv1_range.specs.Table.{Table}
 use Rattle.ffv1_record.specs.declared.fault.RecordFault.{RecordFault}
 use Rattle.ffv1_record.specs.declared.fault.RecordFault.TheVariants as fault
 use Rattle.ffv1_record.specs.Configuration.{Configuration}
-use Rattle.ffv1_record.specs.Accepted.{IsAccepted, IsFirst, Passes, PassesAll}
+use Rattle.ffv1_record.specs.declared.config.Profile.{Profile}
+use Rattle.ffv1_record.specs.Accepted.{IsAccepted, IsFirstIn, PassesIn, PassesAll}
 use Rattle.ffv1_record.specs.Record.{IsRecord, IsCoded, body_of, record_steps}
 use Rattle.ffv1_record.specs.Reader.{Spot}
 use Rattle.ffv1_record.specs.Reading.{parameters, beginning}
@@ -28,29 +29,29 @@ taken_bytes bytes n are k = elim (cases_lt k n) [
 ]
 
 -- no fault stands where all checks are passed
-pub none_stands : (fs : List RecordFault) (c : Configuration) (f : RecordFault) → PassesAll fs c → IsFirst fs c f → ⊥
-none_stands [] c f passes first = first
-none_stands (g ∷ gs) c f passes first = elim first [
+pub none_stands : (p : Profile) (fs : List RecordFault) (c : Configuration) (f : RecordFault) → PassesAll p fs c → IsFirstIn p fs c f → ⊥
+none_stands p [] c f passes first = first
+none_stands p (g ∷ gs) c f passes first = elim first [
   | inl here ↦ here.0 passes.0
-  | inr later ↦ none_stands gs c f passes.1 later.1
+  | inr later ↦ none_stands p gs c f passes.1 later.1
 ]
 
 -- the first fault is one of those that are looked for, and its condition is not met
-pub named_first : (fs : List RecordFault) (c : Configuration) (f : RecordFault) → IsFirst fs c f → Contains fs f
-named_first [] c f first = absurd first
-named_first (g ∷ gs) c f first = elim first [
+pub named_first : (p : Profile) (fs : List RecordFault) (c : Configuration) (f : RecordFault) → IsFirstIn p fs c f → Contains fs f
+named_first p [] c f first = absurd first
+named_first p (g ∷ gs) c f first = elim first [
   | inl here ↦ (0, omega arith, sym here.1)
   | inr later ↦
-      let rest = named_first gs c f later.1 in
+      let rest = named_first p gs c f later.1 in
       let inside = rest.1 in
       (suc rest.0, omega (arith, inside), rest.2)
 ]
 
-pub fails_first : (fs : List RecordFault) (c : Configuration) (f : RecordFault) → IsFirst fs c f → Passes f c → ⊥
-fails_first [] c f first passes = first
-fails_first (g ∷ gs) c f first passes = elim first [
-  | inl here ↦ here.0 (subst (λ h. Passes h c) here.1 passes)
-  | inr later ↦ fails_first gs c f later.1 passes
+pub fails_first : (p : Profile) (fs : List RecordFault) (c : Configuration) (f : RecordFault) → IsFirstIn p fs c f → PassesIn p f c → ⊥
+fails_first p [] c f first passes = first
+fails_first p (g ∷ gs) c f first passes = elim first [
+  | inl here ↦ here.0 (subst (λ h. PassesIn p h c) here.1 passes)
+  | inr later ↦ fails_first p gs c f later.1 passes
 ]
 
 module _ (bytes : List ℕ) (are : AreBytes (body_of bytes)) (c : Configuration) (t : Table) (is : IsAccepted c t) (stored : IsRecord bytes c) (most : ℕ) (low : c.depth ≤ most) where

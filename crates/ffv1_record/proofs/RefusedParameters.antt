@@ -16,6 +16,7 @@ use Rattle.ffv1_record.specs.Accepted.{is_depth}
 use Rattle.ffv1_record.specs.Sets.{AreSets}
 use Rattle.ffv1_record.specs.Record.{IsCoded, body_of, number_steps, truth_steps, coder_steps, sets_steps, uncoded_steps, depth_of}
 use Rattle.ffv1_record.specs.Reader.{Spot, behind, ◌>>=◌, done, require, number, truth, number_within}
+use Rattle.ffv1_record.specs.declared.config.Profile.{Profile}
 use Rattle.ffv1_record.specs.Reading.{IsRefused, colour_of, coder_of, opening, depth, planes, count_of, sets_onto, uncoded, tables, flag, parameters, beginning}
 use Rattle.ffv1_record.specs.Order.{IsRefusedBy, Parameter, FirstBad, IsTooLong, IsBadNumber, IsBadSet, version, micro_version, coder_type, colorspace_type, bits_per_raw_sample, chroma_planes, log2_h_chroma_subsample, log2_v_chroma_subsample, extra_plane, num_h_slices, num_v_slices, quant_table_set_count, quant_table_sets, states_coded, ec, intra, in_order}
 use Rattle.ffv1_record.proofs.ReadIsCoded.{bind_ok, coder_ok, done_ok, flag_ok, opening_ok, planes_ok, required_ok, sets_ok, uncoded_ok}
@@ -491,9 +492,9 @@ module _ (b : List ℕ) where
           let second = two.after.fresh in
           omega (arith, first, second, three, four)
 
-pub refused_because : (most : ℕ) (bytes : List ℕ) (width height : ℕ) (f : RecordFault) → IsRefused most bytes width height f → IsRefusedBy most bytes width height f
-refused_because most bytes width height f (inl short) = inl short
-refused_because most bytes width height f (inr (inl (long, odd, is))) = inr (inl (odd, is))
-refused_because most bytes width height f (inr (inr (long, whole, inl start))) = inr (inr (inl start))
-refused_because most bytes width height f (inr (inr (long, whole, inr (inl h)))) = inr (inr (inr (inl (first_bad (body_of bytes) most width height f h))))
-refused_because most bytes width height f (inr (inr (long, whole, inr (inr h)))) = inr (inr (inr (inr h)))
+pub refused_because : (p : Profile) (most : ℕ) (bytes : List ℕ) (width height : ℕ) (f : RecordFault) → IsRefused p most bytes width height f → IsRefusedBy p most bytes width height f
+refused_because p most bytes width height f (inl short) = inl short
+refused_because p most bytes width height f (inr (inl (long, odd, is))) = inr (inl (odd, is))
+refused_because p most bytes width height f (inr (inr (long, whole, inl start))) = inr (inr (inl start))
+refused_because p most bytes width height f (inr (inr (long, whole, inr (inl h)))) = inr (inr (inr (inl (first_bad (body_of bytes) most width height f h))))
+refused_because p most bytes width height f (inr (inr (long, whole, inr (inr h)))) = inr (inr (inr (inr h)))

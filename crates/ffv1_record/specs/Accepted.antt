@@ -1,7 +1,8 @@
 -- Which configurations are accepted (RFC 9043, 4.2 and 4.3, and this project's profile), and why
 -- one is refused.
-use Rattle.std.specs.Prelude.{◌≡◌, ◌⊎◌, ℕ, ◌*◌, ◌/◌, ◌%◌, ◌^◌, ◌<◌, nat_le, Bool, ◌&&◌, ◌||◌, not}
-use Rattle.std.specs.Prelude.{◌==◌, IsTrue, true, false, List, [], ◌∷◌, length}
+use Rattle.std.specs.Prelude.{◌≡◌, ◌⊎◌, ℕ, ◌+◌, ◌-◌, ◌*◌, ◌/◌, ◌%◌, ◌^◌, ◌<◌, nat_le, Bool, ◌&&◌}
+use Rattle.std.specs.Prelude.{◌||◌, not, ◌==◌, IsTrue, true, false, List, [], ◌∷◌, length}
+use Rattle.std.specs.List.{list_all, range_with_len}
 use Rattle.ffv1_range.specs.Table.{Table, IsTable}
 use Rattle.ffv1_range.specs.Standard.{standard}
 use Rattle.ffv1_range.specs.Deltas.{IsTableOf}
@@ -70,7 +71,24 @@ edge k size count = k * size / count
 abbrev pub AreMultiples : ℕ → ℕ → ℕ → Type 0
 AreMultiples size count log2 = (k : ℕ) → 0 < k → k < count → edge k size count % 2 ^ log2 ≡ 0
 
--- what a configuration must meet, by the fault if it does not
+-- whether each is
+unfoldable pub are_multiples : ℕ → ℕ → ℕ → Bool
+are_multiples size count log2 =
+    list_all (λ k. edge k size count % 2 ^ log2 == 0) (range_with_len 1 (count - 1))
+
+-- RFC 9043, 4.7.2 and 4.8.1: a size over a factor, rounded up
+unfoldable pub reduced : ℕ → ℕ → ℕ
+reduced log2 n = (n + (2 ^ log2 - 1)) / 2 ^ log2
+
+-- each column of chroma, or each line, lies in a part: the last part, which begins at its edge over
+-- the factor, rounded down, and is its own size over the factor long, rounded up, ends where the
+-- plane does
+abbrev pub AreReached : ℕ → ℕ → ℕ → Type 0
+AreReached size count log2 =
+    edge (count - 1) size count / 2 ^ log2 + reduced log2 (size - edge (count - 1) size count)
+    ≡ reduced log2 size
+
+-- what a configuration must meet in the profile `Strict`, by the fault if it does not
 abbrev pub Passes : RecordFault → Configuration → Type 0
 Passes fault.Size c = IsTrue (is_sized c)
 Passes fault.Subsampling c = IsTrue (is_subsampled c)
@@ -82,31 +100,48 @@ Passes fault.ChromaEdge c = AreMultiples c.width c.columns c.log2_h
     × AreMultiples c.height c.rows c.log2_v
 Passes other c = Unit {0}
 
+-- what the edges of slices must meet in a profile: in `Wide` slices may share a column or a line of
+-- chroma, but none is left out
+abbrev pub PassesEdges : Profile → Configuration → Type 0
+PassesEdges profile.Strict c = Passes fault.ChromaEdge c
+PassesEdges profile.Wide c = AreReached c.width c.columns c.log2_h
+    × AreReached c.height c.rows c.log2_v
+
+-- what a configuration must meet in a profile
+abbrev pub PassesIn : Profile → RecordFault → Configuration → Type 0
+PassesIn p fault.ChromaEdge c = PassesEdges p c
+PassesIn p other c = Passes other c
+
 -- the faults in the order in which they are looked for
 abbrev pub checks : List RecordFault
 checks =
     fault.Size ∷ fault.Subsampling ∷ fault.ExtraPlane ∷ fault.Sets ∷ fault.StateTable ∷ fault.Grid
     ∷ fault.ChromaEdge ∷ []
 
-abbrev pub PassesAll : List RecordFault → Configuration → Type 0
-PassesAll [] c = Unit {0}
-PassesAll (f ∷ fs) c = Passes f c × PassesAll fs c
+abbrev pub PassesAll : Profile → List RecordFault → Configuration → Type 0
+PassesAll p [] c = Unit {0}
+PassesAll p (f ∷ fs) c = PassesIn p f c × PassesAll p fs c
 
--- of these faults this is the first that stands
+-- of these faults this is the first that stands in a profile
+abbrev pub IsFirstIn : Profile → List RecordFault → Configuration → RecordFault → Type 0
+IsFirstIn p [] c found = ⊥
+IsFirstIn p (f ∷ fs) c found =
+    ((PassesIn p f c → ⊥) × (found ≡ f)) ⊎ (PassesIn p f c × IsFirstIn p fs c found)
+
+-- in the profile `Strict`
 abbrev pub IsFirst : List RecordFault → Configuration → RecordFault → Type 0
-IsFirst [] c found = ⊥
-IsFirst (f ∷ fs) c found = ((Passes f c → ⊥) × (found ≡ f)) ⊎ (Passes f c × IsFirst fs c found)
+IsFirst fs c found = IsFirstIn profile.Strict fs c found
 
--- the same if a depth is judged after the size, and this says whether it is accepted
-abbrev pub IsFirstWhere : Bool → Configuration → RecordFault → Type 0
-IsFirstWhere true c found = IsFirst checks c found
-IsFirstWhere false c found =
+-- the first if a depth is judged after the size, and this says whether it is accepted
+abbrev pub IsFirstWhere : Profile → Bool → Configuration → RecordFault → Type 0
+IsFirstWhere p true c found = IsFirstIn p checks c found
+IsFirstWhere p false c found =
     ((Passes fault.Size c → ⊥) × (found ≡ fault.Size))
     ⊎ (Passes fault.Size c × (found ≡ fault.Depth))
 
--- why a configuration is refused if depths up to this one are accepted
-abbrev pub IsFirstUpTo : ℕ → Configuration → RecordFault → Type 0
-IsFirstUpTo most c found = IsFirstWhere (has_depth most c) c found
+-- why a configuration is refused in a profile, if depths up to this one are accepted
+abbrev pub IsFirstUpTo : Profile → ℕ → Configuration → RecordFault → Type 0
+IsFirstUpTo p most c found = IsFirstWhere p (has_depth most c) c found
 
 -- a configuration that was checked, its state transition table, and the profile that it was checked
 -- in
@@ -115,10 +150,11 @@ pub record Accepted : Type 0 where
   pub table : Table
   pub profile : Profile
 
--- what holds of each configuration that was checked
+-- what holds of each configuration that was checked, in whichever profile: what passes the checks
+-- of `Strict` passes those of `Wide`
 pub record IsAccepted (c : Configuration) (t : Table) : Type 0 where
   pub depth : IsTrue (has_depth 16 c)
-  pub passes : PassesAll checks c
+  pub passes : PassesAll profile.Wide checks c
   pub table : IsTableFor c.coder t
   pub closed : IsTable t.floor t.one
   pub writable : IsWritable c.coder

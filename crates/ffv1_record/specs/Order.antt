@@ -17,7 +17,8 @@ use Rattle.ffv1_record.specs.Configuration.{Configuration, is_rct}
 use Rattle.ffv1_record.specs.Sets.{AreSets}
 use Rattle.ffv1_record.specs.Writable.{AreDeltas, IsWritable}
 use Rattle.ffv1_record.specs.Parity.{remainder_of}
-use Rattle.ffv1_record.specs.Accepted.{IsFirst, IsTableFor, checks, is_depth}
+use Rattle.ffv1_record.specs.declared.config.Profile.{Profile}
+use Rattle.ffv1_record.specs.Accepted.{IsFirstIn, IsTableFor, checks, is_depth}
 use Rattle.ffv1_record.specs.Reader.{Spot}
 use Rattle.ffv1_record.specs.Reading.{beginning, parameters}
 use Rattle.ffv1_record.specs.Record.{IsCoded, number_steps, truth_steps, deltas_steps, coder_steps}
@@ -214,12 +215,12 @@ FirstBad (p ∷ ps) bytes past bits c f =
 
 -- why bytes are refused as a record: they are too few, or their remainder is not 0, or their first
 -- two are no beginning of coded bytes; or else by their first parameter that is not good; or all
--- are good, and the configuration that they say has this first fault
-abbrev pub IsRefusedBy : ℕ → List ℕ → ℕ → ℕ → RecordFault → Type 0
-IsRefusedBy most bytes width height f =
+-- are good, and the configuration that they say has this first fault in the profile
+abbrev pub IsRefusedBy : Profile → ℕ → List ℕ → ℕ → ℕ → RecordFault → Type 0
+IsRefusedBy p most bytes width height f =
     ((length bytes < 5) × (f ≡ fault.Short))
     ⊎ ((remainder_of bytes ≢ 0) × (f ≡ fault.Parity))
     ⊎ ((65280 ≤ value (body_of bytes) 2) × (f ≡ fault.BadStart))
     ⊎ ((bits : ℕ) × (c : Configuration) × FirstBad (in_order most) (body_of bytes) [] bits c f)
     ⊎ ((c : Configuration) × (t : Spot)
-    × parameters most width height (body_of bytes) beginning (Ok (c, t)) × IsFirst checks c f)
+    × parameters most width height (body_of bytes) beginning (Ok (c, t)) × IsFirstIn p checks c f)

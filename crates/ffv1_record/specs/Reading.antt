@@ -14,7 +14,8 @@ use Rattle.ffv1_record.specs.declared.config.Colour.TheVariants as colour
 use Rattle.ffv1_record.specs.declared.planes.Planes.{Planes}
 use Rattle.ffv1_record.specs.Parity.{remainder_of}
 use Rattle.ffv1_record.specs.Configuration.{Configuration}
-use Rattle.ffv1_record.specs.Accepted.{IsFirst, checks, is_depth}
+use Rattle.ffv1_record.specs.declared.config.Profile.{Profile}
+use Rattle.ffv1_record.specs.Accepted.{IsFirstIn, checks, is_depth}
 use Rattle.ffv1_record.specs.Record.{body_of, depth_of}
 use Rattle.ffv1_record.specs.Reader.{Reader, Spot, ◌>>=◌, done, require, next_table, number}
 use Rattle.ffv1_record.specs.Reader.{signed_number, truth, number_within, makes_table}
@@ -193,20 +194,20 @@ abbrev pub beginning : Spot
 beginning = record { past = []; fresh = 32 }
 
 -- what is read of a record of at least 5 bytes and remainder 0
-abbrev pub IsMet : ℕ → List ℕ → ℕ → ℕ → RecordFault → Type 0
-IsMet most bytes width height f =
+abbrev pub IsMet : Profile → ℕ → List ℕ → ℕ → ℕ → RecordFault → Type 0
+IsMet p most bytes width height f =
     ((65280 ≤ value (body_of bytes) 2) × (f ≡ fault.BadStart))
     ⊎ parameters most width height (body_of bytes) beginning (Err f)
     ⊎ ((c : Configuration) × (t : Spot)
-    × parameters most width height (body_of bytes) beginning (Ok (c, t)) × IsFirst checks c f)
+    × parameters most width height (body_of bytes) beginning (Ok (c, t)) × IsFirstIn p checks c f)
 
--- the bytes are no record of a configuration of this size with a depth up to `most`, and this is
--- the first fault
-abbrev pub IsRefused : ℕ → List ℕ → ℕ → ℕ → RecordFault → Type 0
-IsRefused most bytes width height f =
+-- the bytes are no record of a configuration of this size, in a profile, with a depth up to `most`,
+-- and this is the first fault
+abbrev pub IsRefused : Profile → ℕ → List ℕ → ℕ → ℕ → RecordFault → Type 0
+IsRefused p most bytes width height f =
     ((length bytes < 5) × (f ≡ fault.Short))
     ⊎ ((5 ≤ length bytes) × (remainder_of bytes ≢ 0) × (f ≡ fault.Parity))
-    ⊎ ((5 ≤ length bytes) × (remainder_of bytes ≡ 0) × IsMet most bytes width height f)
+    ⊎ ((5 ≤ length bytes) × (remainder_of bytes ≡ 0) × IsMet p most bytes width height f)
 
 -- the bytes are no record with a depth up to `most`, and this fault stands before the first set: it
 -- is answered whatever memory there is

@@ -2,7 +2,7 @@
 
 ghost use Rattle.std.specs.Prelude.{◌≡◌, ℕ, ◌+◌, ◌*◌, ◌<◌, ◌≤◌};
 ghost use Rattle.ffv1_record.specs.Configuration.{configuration_of, at_depth};
-ghost use Rattle.ffv1_record.specs.Accepted.{IsAccepted, deepest};
+ghost use Rattle.ffv1_record.specs.Accepted.{IsAccepted, PassesAll, checks, deepest};
 ghost use Rattle.ffv1_record.specs.Held.{held_of};
 ghost use Rattle.ffv1_range.specs.Table.{IsTable};
 
@@ -16,13 +16,14 @@ use std::marker::Model;
 pub const OFFSETS: usize = 1025;
 
 /// How much a decoder of pictures holds: the lengths of its vectors. The height of the pictures
-/// changes none.
+/// says only whether two lines of chroma are kept.
 #[derive(Clone, Copy, Debug, PartialEq, Eq)]
 pub struct Held {
     /// States: 32 for each column, class of planes, and context of the largest set.
     pub states: usize,
     /// Samples: three lines of each plane that is held at once, in words of 32 bits if a coded
-    /// sample has 17, as RCT of 16 bits has, else of 16.
+    /// sample has 17, as RCT of 16 bits has, else of 16; and a line of Cb and one of Cr if two
+    /// rows of slices share a line of chroma.
     pub samples: usize,
     /// Bytes of output: one line of each such plane, of one byte a sample at 8 bits, else two.
     pub output: usize,
@@ -45,7 +46,7 @@ pub struct Checked<A: Allocator = Global> {
 impl<A: Allocator> Model for Checked<A> {
     ghost use Rattle.ffv1_record.specs.Configuration.{configuration_of, at_depth};
     ghost use Rattle.std.specs.Prelude.{◌≤◌};
-    ghost use Rattle.ffv1_record.specs.Accepted.{Accepted, IsAccepted, deepest};
+    ghost use Rattle.ffv1_record.specs.Accepted.{Accepted, IsAccepted, PassesAll, checks, deepest};
 
     ghost Value = { Accepted };
 
@@ -56,7 +57,8 @@ impl<A: Allocator> Model for Checked<A> {
     } };
 
     ghost invariant = { λ c. IsAccepted (at_depth (configuration_of c.config) c.depth) c.table
-        × (c.depth ≤ deepest c.profile 16) };
+        × (c.depth ≤ deepest c.profile 16)
+        × PassesAll c.profile checks (at_depth (configuration_of c.config) c.depth) };
 }
 
 impl<A: Allocator> Checked<A> {
@@ -69,6 +71,7 @@ impl<A: Allocator> Checked<A> {
     ) -> Checked<A>
         requires accepted { IsAccepted (at_depth (configuration_of config) depth) table }
         requires depth { depth ≤ deepest profile 16 }
+        requires passes { PassesAll profile checks (at_depth (configuration_of config) depth) }
         ensures value { result ≡ record {
           configuration = at_depth (configuration_of config) depth;
           table = table;
@@ -111,9 +114,10 @@ impl<A: Allocator> Checked<A> {
         &self.table
     }
 
-    /// The profile that it was checked in.
+    /// The profile that it was checked in, whose checks it passes.
     pub fn profile(&self) -> Profile
-        ensures { result ≡ self.now.profile }
+        ensures value { result ≡ self.now.profile }
+        ensures passes { PassesAll result checks self.now.configuration }
     {
         self.profile
     }
@@ -129,9 +133,10 @@ impl<A: Allocator> Checked<A> {
         };
         let columns = config.columns as usize;
         let width = config.width as usize;
+        let kept = config.kept();
         Held {
             states: 32 * columns * config.classes() * config.sets.most_contexts() as usize,
-            samples: 3 * planes * width,
+            samples: 3 * planes * width + kept,
             output: sample_bytes(self.depth) * (planes * width),
             columns,
             offsets: OFFSETS,

@@ -5,13 +5,14 @@ ghost use Rattle.std.specs.Prelude.{IsFalse, IfOk, IfErr, length};
 ghost use Rattle.ffv1_range.specs.Table.{Table, IsTable};
 ghost use Rattle.ffv1_range.specs.Deltas.{IsTableOf, HaveNoTable};
 ghost use Rattle.ffv1_record.specs.Configuration.{configuration_of, at_depth, is_rct};
-ghost use Rattle.ffv1_record.specs.Held.{classes_of};
+ghost use Rattle.ffv1_record.specs.Held.{classes_of, kept_of};
 ghost use Rattle.ffv1_record.specs.Sets.{AreSets};
 ghost use Rattle.ffv1_record.specs.Writable.{AreDeltas, IsWritable};
 ghost use Rattle.ffv1_record.specs.Accepted.{is_sized, is_subsampled, is_transparent, are_counted};
-ghost use Rattle.ffv1_record.specs.Accepted.{is_divided, IsTableFor, AreMultiples, IsFirst, Passes};
+ghost use Rattle.ffv1_record.specs.Accepted.{is_divided, IsTableFor, AreMultiples, AreReached};
+ghost use Rattle.ffv1_record.specs.Accepted.{are_multiples, IsFirst, PassesIn, PassesAll};
 ghost use Rattle.ffv1_record.specs.Accepted.{checks, IsAccepted, IsFirstUpTo, is_depth, has_depth};
-ghost use Rattle.ffv1_record.specs.Accepted.{deepest};
+ghost use Rattle.ffv1_record.specs.Accepted.{deepest, reduced};
 
 use crate::checked::Checked;
 use crate::fault::RecordFault;
@@ -41,10 +42,12 @@ pub enum Colour {
 #[derive(Clone, Copy, Debug)]
 pub enum Profile {
     /// A depth of 8, and a head whose sample aspect has two numbers that are both 0, which is
-    /// unknown, or neither (RFC 9043, 4.6.8 and 4.6.9).
+    /// unknown, or neither (RFC 9043, 4.6.8 and 4.6.9). Each inner edge of the slices is a multiple
+    /// of its chroma factor, so that no two slices code one sample.
     Strict,
     /// Each depth up to a greatest one, and also a head of which just one of these numbers is 0: it
-    /// is read as 0:0, unknown.
+    /// is read as 0:0, unknown. Slices may share a column or a line of chroma, if each column
+    /// and each line of it lies in a slice.
     Wide,
 }
 
@@ -134,11 +137,13 @@ impl Coder {
 
 /// Whether each inner edge of a size that is divided into some parts is a multiple of the chroma
 /// factor.
-fn are_multiples(size: u32, count: u32, log2: u32) -> bool
+#[tactic(auto, unfolding(crate::specs::Accepted::are_multiples))]
+pub(crate) fn are_multiples(size: u32, count: u32, log2: u32) -> bool
     requires size { size ≤ 8192 }
     requires count { count ≤ 32 }
     requires log2 { log2 ≤ 2 }
-    ensures { IsTrue result ↔ AreMultiples size count log2 }
+    ensures exact { IsTrue result ↔ AreMultiples size count log2 }
+    ensures value { result ≡ are_multiples size count log2 }
 {
     for k in 1..count {
         if k * size / count % (1 << log2) != 0 {
@@ -146,6 +151,35 @@ fn are_multiples(size: u32, count: u32, log2: u32) -> bool
         }
     }
     true
+}
+
+/// A size over a factor, given by its binary logarithm, rounded up (RFC 9043, 4.7.2 and 4.8.1).
+pub fn reduced(log2: u32, size: u32) -> u32
+    requires log2 { log2 ≤ 2 }
+    requires size { size ≤ 8192 }
+    ensures value { result ≡ reduced log2 size }
+    ensures fits { result ≤ size }
+{
+    if log2 == 0 {
+        return size;
+    }
+    if log2 == 1 {
+        return (size + 1) / 2;
+    }
+    (size + 3) / 4
+}
+
+/// Whether each sample of a chroma plane, along a size that is divided into some parts, lies in a
+/// part: the last part ends where the plane does.
+fn reaches(size: u32, count: u32, log2: u32) -> bool
+    requires size { size ≤ 8192 }
+    requires some { 0 < count }
+    requires count { count ≤ 32 }
+    requires log2 { log2 ≤ 2 }
+    ensures { IsTrue result ↔ AreReached size count log2 }
+{
+    let last = (count - 1) * size / count;
+    last / (1 << log2) + reduced(log2, size - last) == reduced(log2, size)
 }
 
 /// Whether a depth is accepted, in bits a sample: 8, 9, 10, 12, 14 or 16 if it is not above
@@ -237,26 +271,53 @@ impl<A: Allocator> Config<A> {
             && (1 <= self.rows && (self.rows <= 32 && self.rows <= self.height))
     }
 
-    /// Whether each inner edge is a multiple of its chroma factor.
-    fn is_aligned(&self) -> bool
+    /// How many samples of the last lines of Cb and Cr are kept of a row of slices, for the row
+    /// below it: none if no two rows share a line of chroma.
+    pub(crate) fn kept(&self) -> usize
         requires sized { IsTrue (is_sized (configuration_of self.now)) }
         requires subsampled { IsTrue (is_subsampled (configuration_of self.now)) }
         requires divided { IsTrue (is_divided (configuration_of self.now)) }
-        ensures { IsTrue result ↔ Passes RecordFault.ChromaEdge (configuration_of self.now) }
+        ensures value { result ≡ kept_of (configuration_of self.now) }
+        ensures few { result ≤ 16384 }
     {
-        are_multiples(self.width, self.columns, self.log2_h)
-            && are_multiples(self.height, self.rows, self.log2_v)
+        if are_multiples(self.height, self.rows, self.log2_v) {
+            return 0;
+        }
+        2 * reduced(self.log2_h, self.width) as usize
     }
 
-    /// The state transition table of a configuration that is accepted with a depth of at most
-    /// `most`. Refuses as `check_in` does.
-    fn judged(&self, depth: u32, most: u32) -> Result<StateTable, RecordFault>
+    /// Whether each inner edge is a multiple of its chroma factor, in `Strict`; in `Wide`, whether
+    /// each column and each line of chroma lies in a slice.
+    fn is_aligned(&self, profile: Profile) -> bool
+        requires sized { IsTrue (is_sized (configuration_of self.now)) }
+        requires subsampled { IsTrue (is_subsampled (configuration_of self.now)) }
+        requires divided { IsTrue (is_divided (configuration_of self.now)) }
+        ensures { IsTrue result
+            ↔ PassesIn profile RecordFault.ChromaEdge (configuration_of self.now) }
+    {
+        match profile {
+            Profile::Strict => {
+                are_multiples(self.width, self.columns, self.log2_h)
+                    && are_multiples(self.height, self.rows, self.log2_v)
+            }
+            Profile::Wide => {
+                reaches(self.width, self.columns, self.log2_h)
+                    && reaches(self.height, self.rows, self.log2_v)
+            }
+        }
+    }
+
+    /// The state transition table of a configuration that is accepted in a profile with a depth of
+    /// at most `most`. Refuses as `check_in` does.
+    fn judged(&self, profile: Profile, depth: u32, most: u32) -> Result<StateTable, RecordFault>
         ensures depth { IfOk result
             (λ _. IsTrue (has_depth most (at_depth (configuration_of self.now) depth))) }
         ensures accepted { IfOk result
             (λ t. IsAccepted (at_depth (configuration_of self.now) depth) t) }
+        ensures passes { IfOk result
+            (λ _. PassesAll profile checks (at_depth (configuration_of self.now) depth)) }
         ensures refused { IfErr result
-            (λ f. IsFirstUpTo most (at_depth (configuration_of self.now) depth) f) }
+            (λ f. IsFirstUpTo profile most (at_depth (configuration_of self.now) depth) f) }
         ensures memory { IfErr result (λ f. f ≢ RecordFault.OutOfMemory) }
     {
         if !self.is_sized() {
@@ -280,19 +341,21 @@ impl<A: Allocator> Config<A> {
         if !self.is_divided() {
             return Err(RecordFault::Grid);
         }
-        if !self.is_aligned() {
+        if !self.is_aligned(profile) {
             return Err(RecordFault::ChromaEdge);
         }
         Ok(table)
     }
 
     /// The configuration, checked in the profile `Strict`. Refuses with the first of these that
-    /// stands: `Size`, `Subsampling`, `ExtraPlane`, `Sets`, `StateTable`, `Grid`, `ChromaEdge`;
-    /// else accepts. It takes no memory.
+    /// stands: `Size`, `Subsampling`, `ExtraPlane`, `Sets`, `StateTable`, `Grid`, `ChromaEdge`, the
+    /// last if an inner edge is no multiple of its chroma factor; else accepts. It takes no
+    /// memory.
     pub fn check(self) -> Result<Checked<A>, RecordFault>
         ensures ok { IfOk result (λ c. c.configuration ≡ configuration_of self) }
         ensures profile { IfOk result (λ c. c.profile ≡ Profile.Strict) }
         ensures accepted { IfOk result (λ c. IsAccepted c.configuration c.table) }
+        ensures passes { IfOk result (λ c. PassesAll Profile.Strict checks c.configuration) }
         ensures refused { IfErr result (λ f. IsFirst checks (configuration_of self) f) }
         ensures memory { IfErr result (λ f. f ≢ RecordFault.OutOfMemory) }
     {
@@ -306,7 +369,9 @@ impl<A: Allocator> Config<A> {
     /// is the greatest depth that the profile `Wide` accepts. Refuses with the first of these that
     /// stands: `Size`, `Depth`, `Subsampling`, `ExtraPlane`, `Sets`, `StateTable`, `Grid`,
     /// `ChromaEdge`; else accepts. `Depth` comes in `Strict` if the depth is not 8, and in
-    /// `Wide` if it is not 8, 9, 10, 12, 14 or 16, or is above `most`. It takes no memory.
+    /// `Wide` where it is not 8, 9, 10, 12, 14 or 16, or is above `most`. `ChromaEdge` comes in
+    /// `Strict` if an inner edge is no multiple of its chroma factor, and in `Wide` if a column
+    /// or a line of chroma lies in no slice. It takes no memory.
     pub fn check_in(
         self,
         profile: Profile,
@@ -318,11 +383,12 @@ impl<A: Allocator> Config<A> {
         ensures ok { IfOk result (λ c. c.configuration ≡ at_depth (configuration_of self) depth) }
         ensures profile { IfOk result (λ c. c.profile ≡ profile) }
         ensures accepted { IfOk result (λ c. IsAccepted c.configuration c.table) }
-        ensures refused { IfErr result (λ f. IsFirstUpTo (deepest profile most)
+        ensures passes { IfOk result (λ c. PassesAll profile checks c.configuration) }
+        ensures refused { IfErr result (λ f. IsFirstUpTo profile (deepest profile most)
             (at_depth (configuration_of self) depth) f) }
         ensures memory { IfErr result (λ f. f ≢ RecordFault.OutOfMemory) }
     {
-        match self.judged(depth, deepest(profile, most)) {
+        match self.judged(profile, depth, deepest(profile, most)) {
             Ok(table) => Ok(Checked::new(self, depth, table, profile)),
             Err(fault) => Err(fault),
         }

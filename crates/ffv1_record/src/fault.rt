@@ -35,7 +35,8 @@ pub enum RecordFault {
     /// height.
     #[error("11 Grid")]
     Grid,
-    /// An inner edge of the slices is no multiple of its chroma factor.
+    /// In `Strict`, an inner edge of the slices is no multiple of its chroma factor; in `Wide`, a
+    /// column or a line of chroma lies in no slice.
     #[error("12 ChromaEdge")]
     ChromaEdge,
     /// A chroma factor is above 4; or RCT has no chroma planes; or a chroma factor is not 1 with

@@ -11,8 +11,10 @@ ghost use Rattle.ffv1_plane.specs.Quantisation.{IsSet};
 ghost use Rattle.ffv1_record.specs.declared.config.Colour.TheVariants as colour;
 ghost use Rattle.ffv1_record.specs.declared.fault.RecordFault.{RecordFault};
 ghost use Rattle.ffv1_record.specs.Sets.{AreSets, most_contexts};
-ghost use Rattle.ffv1_record.specs.Accepted.{IsAccepted, IsTableFor, AreMultiples};
-ghost use Rattle.ffv1_record.specs.Accepted.{IsFirst, Passes, PassesAll, checks};
+ghost use Rattle.ffv1_record.specs.declared.config.Profile.{Profile};
+ghost use Rattle.ffv1_record.specs.declared.config.Profile.TheVariants as profile;
+ghost use Rattle.ffv1_record.specs.Accepted.{IsAccepted, IsTableFor, AreMultiples, AreReached};
+ghost use Rattle.ffv1_record.specs.Accepted.{are_multiples, IsFirstIn, PassesIn, PassesAll, checks};
 ghost use Rattle.ffv1_record.specs.Writable.{IsWritable};
 ghost use Rattle.ffv1_record.specs.Order.{FirstBad, IsRefusedBy, in_order};
 ghost use Rattle.ffv1_record.specs.Reading.{beginning, parameters, IsRefused, IsRefusedBeforeSets};
@@ -47,7 +49,7 @@ pub fn bursts_change_the_remainder()
         remainder_of xs ≡ remainder_of ys → ⊥ }
 {}
 
-/// Bytes of the remainder 0 behind others of the remainder 0 have it together.
+/// Two runs of bytes whose remainders are 0 have the remainder 0 together.
 pub fn remainder_of_sound_bytes_in_a_row_is_zero()
     ensures { (xs ys : List ℕ) → AreBytes ys → 4 ≤ length xs → 4 ≤ length ys →
         remainder_of xs ≡ 0 → remainder_of ys ≡ 0 → remainder_of (xs ++ ys) ≡ 0 }
@@ -61,11 +63,12 @@ pub fn written_bytes_are_a_record()
 }
 
 /// What is written of an accepted configuration is read: it is its record, and no fault stands in
-/// it.
+/// it in a profile whose checks it passes.
 pub fn written_record_is_read_back()
     ensures stored { (c : Configuration) (t : Table) → IsAccepted c t → IsRecord (record_of c) c }
-    ensures none { (c : Configuration) (t : Table) (most : ℕ) (f : RecordFault) → IsAccepted c t →
-        c.depth ≤ most → IsRefused most (record_of c) c.width c.height f → ⊥ }
+    ensures none { (p : Profile) (c : Configuration) (t : Table) (most : ℕ) (f : RecordFault) →
+        IsAccepted c t → PassesAll p checks c →
+        c.depth ≤ most → IsRefused p most (record_of c) c.width c.height f → ⊥ }
 {
     laws::written_bytes_are_a_record();
 }
@@ -82,30 +85,45 @@ pub fn record_has_one_configuration()
 /// A fault that stands before the first set is answered whatever memory there is: the bytes are
 /// refused with it, and `read_record` answers `OutOfMemory` for no such bytes.
 pub fn faults_before_sets_need_no_memory()
-    ensures refused { (most : ℕ) (bytes : List ℕ) (width height : ℕ) (f : RecordFault) →
-        IsRefusedBeforeSets most bytes f → IsRefused most bytes width height f }
+    ensures refused { (p : Profile) (most : ℕ) (bytes : List ℕ) (width height : ℕ)
+        (f : RecordFault) →
+        IsRefusedBeforeSets most bytes f → IsRefused p most bytes width height f }
     ensures apart { (most : ℕ) (bytes : List ℕ) (f : RecordFault) → AreBytes bytes →
         ReachesSets most bytes → IsRefusedBeforeSets most bytes f → ⊥ }
 {}
 
-/// Bytes are refused for one reason at most, and none that are a record of an accepted
-/// configuration of a depth up to the greatest one.
+/// Bytes are refused for one reason at most in a profile, and none that are a record of an accepted
+/// configuration, of a depth up to the greatest one, that passes the checks of the profile.
 pub fn bytes_are_refused_for_one_reason()
-    ensures one { (most : ℕ) (bytes : List ℕ) (width height : ℕ) (f g : RecordFault) →
-        AreBytes bytes →
-        IsRefused most bytes width height f → IsRefused most bytes width height g → f ≡ g }
-    ensures none { (most : ℕ) (bytes : List ℕ) (c : Configuration) (t : Table) (f : RecordFault) →
-        AreBytes bytes → IsAccepted c t → c.depth ≤ most →
-        IsRecord bytes c → IsRefused most bytes c.width c.height f → ⊥ }
+    ensures one { (p : Profile) (most : ℕ) (bytes : List ℕ) (width height : ℕ)
+        (f g : RecordFault) → AreBytes bytes →
+        IsRefused p most bytes width height f → IsRefused p most bytes width height g → f ≡ g }
+    ensures none { (p : Profile) (most : ℕ) (bytes : List ℕ) (c : Configuration) (t : Table)
+        (f : RecordFault) → AreBytes bytes → IsAccepted c t → PassesAll p checks c →
+        c.depth ≤ most → IsRecord bytes c → IsRefused p most bytes c.width c.height f → ⊥ }
 {}
 
-/// Which fault `Config::check` tells: one of its own seven, the one of which the configuration does
-/// not meet what it has to, and none of the faults of reading.
+/// Which fault `Config::check` tells, and in a profile `Config::check_in`: one of its own seven,
+/// the one of which the configuration does not meet what it has to, and none of the faults of
+/// reading.
 pub fn first_fault_is_an_unmet_check()
-    ensures named { (c : Configuration) (f : RecordFault) → IsFirst checks c f → Contains checks f }
-    ensures fails { (c : Configuration) (f : RecordFault) → IsFirst checks c f → Passes f c → ⊥ }
-    ensures passes { (c : Configuration) (f : RecordFault) →
-        PassesAll checks c → IsFirst checks c f → ⊥ }
+    ensures named { (p : Profile) (c : Configuration) (f : RecordFault) →
+        IsFirstIn p checks c f → Contains checks f }
+    ensures fails { (p : Profile) (c : Configuration) (f : RecordFault) →
+        IsFirstIn p checks c f → PassesIn p f c → ⊥ }
+    ensures passes { (p : Profile) (c : Configuration) (f : RecordFault) →
+        PassesAll p checks c → IsFirstIn p checks c f → ⊥ }
+{}
+
+/// What passes the checks of `Strict` passes those of `Wide`: multiples of the chroma factor leave
+/// no column and no line of chroma out.
+pub fn strict_checks_are_the_narrower()
+    ensures edges { (size count log2 : ℕ) → 0 < count → count ≤ size →
+        AreMultiples size count log2 → AreReached size count log2 }
+    ensures wide { (c : Configuration) →
+        PassesAll profile.Strict checks c → PassesAll profile.Wide checks c }
+    ensures decided { (size count log2 : ℕ) →
+        (are_multiples size count log2 ≡ true) ↔ AreMultiples size count log2 }
 {}
 
 /// What holds of a configuration that was checked, in numbers.
@@ -121,7 +139,7 @@ pub fn accepted_configuration_is_in_range()
     ensures rows { (c : Configuration) (t : Table) → IsAccepted c t →
         (1 ≤ c.rows) × (c.rows ≤ 32) × (c.rows ≤ c.height) }
     ensures edges { (c : Configuration) (t : Table) → IsAccepted c t →
-        AreMultiples c.width c.columns c.log2_h × AreMultiples c.height c.rows c.log2_v }
+        AreReached c.width c.columns c.log2_h × AreReached c.height c.rows c.log2_v }
     ensures sets { (c : Configuration) (t : Table) → IsAccepted c t →
         (1 ≤ length c.sets) × (length c.sets ≤ 8) × AreSets c.sets }
 {}
@@ -151,13 +169,15 @@ pub fn first_bad_parameter_is_the_fault()
         (c : Configuration) (f : RecordFault) →
         AreBytes bytes → FirstBad (in_order most) bytes [] bits c f →
         parameters most width height bytes beginning (Err f) }
-    ensures refused { (most : ℕ) (bytes : List ℕ) (width height bits : ℕ)
+    ensures refused { (p : Profile) (most : ℕ) (bytes : List ℕ) (width height bits : ℕ)
         (c : Configuration) (f : RecordFault) →
         AreBytes bytes → 5 ≤ length bytes → remainder_of bytes ≡ 0 →
-        FirstBad (in_order most) (body_of bytes) [] bits c f → IsRefused most bytes width height f }
+        FirstBad (in_order most) (body_of bytes) [] bits c f →
+        IsRefused p most bytes width height f }
     ensures found { (most : ℕ) (bytes : List ℕ) (width height : ℕ) (f : RecordFault) →
         parameters most width height bytes beginning (Err f) →
         (bits : ℕ) × (c : Configuration) × FirstBad (in_order most) bytes [] bits c f }
-    ensures because { (most : ℕ) (bytes : List ℕ) (width height : ℕ) (f : RecordFault) →
-        IsRefused most bytes width height f → IsRefusedBy most bytes width height f }
+    ensures because { (p : Profile) (most : ℕ) (bytes : List ℕ) (width height : ℕ)
+        (f : RecordFault) →
+        IsRefused p most bytes width height f → IsRefusedBy p most bytes width height f }
 {}

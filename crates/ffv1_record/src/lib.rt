@@ -38,7 +38,7 @@ pub mod write;
 mod writer;
 
 pub use checked::{Checked, Held, OFFSETS};
-pub use config::{Coder, Colour, Config, Profile};
+pub use config::{Coder, Colour, Config, Profile, reduced};
 pub use fault::RecordFault;
 pub use read::{read_record, read_record_in};
 pub use remainder::parity;

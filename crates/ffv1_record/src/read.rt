@@ -5,7 +5,8 @@ ghost use Rattle.std.specs.Prelude.{length, take, IsTrue, IfOk, IfErr, MatchResu
 ghost use Rattle.std.specs.Prelude.{Err, true};
 ghost use Rattle.ffv1_record.specs.declared.fault.RecordFault.TheVariants as fault;
 ghost use Rattle.ffv1_record.specs.Configuration.{Configuration, configuration_of, at_depth};
-ghost use Rattle.ffv1_record.specs.Accepted.{IsAccepted, deepest, is_depth, has_depth};
+ghost use Rattle.ffv1_record.specs.Accepted.{IsAccepted, PassesAll, checks, deepest, is_depth};
+ghost use Rattle.ffv1_record.specs.Accepted.{has_depth};
 ghost use Rattle.ffv1_record.specs.Record.{IsRecord, depth_of};
 ghost use Rattle.ffv1_record.specs.Reader.{truth, number_within};
 ghost use Rattle.ffv1_record.specs.Reading.{deltas_onto, opening, depth, colour_of, planes};
@@ -303,11 +304,12 @@ pub fn read_record<A: Allocator + Copy>(
     ensures depth { IfOk result (λ c. c.configuration.depth ≡ 8) }
     ensures profile { IfOk result (λ c. c.profile ≡ Profile.Strict) }
     ensures accepted { IfOk result (λ c. IsAccepted c.configuration c.table) }
+    ensures passes { IfOk result (λ c. PassesAll Profile.Strict checks c.configuration) }
     ensures only { (c : Configuration) (t : Table) → c.width ≡ width → c.height ≡ height →
-        c.depth ≡ 8 → IsAccepted c t → IsRecord bytes.now c →
+        c.depth ≡ 8 → IsAccepted c t → PassesAll Profile.Strict checks c → IsRecord bytes.now c →
         MatchResult result (λ r. r.configuration ≡ c) (λ f. f ≡ fault.OutOfMemory) }
     ensures exact { IfErr result
-        (λ f. (f ≡ fault.OutOfMemory) ⊎ IsRefused 8 bytes.now width height f) }
+        (λ f. (f ≡ fault.OutOfMemory) ⊎ IsRefused Profile.Strict 8 bytes.now width height f) }
     ensures memory { IfErr result (λ f. f ≡ fault.OutOfMemory → ReachesSets 8 bytes.now) }
     ensures run { IfErr result (λ f. f ≡ fault.OutOfMemory → ReachesRun 8 bytes.now) }
 {
@@ -327,7 +329,9 @@ pub fn read_record<A: Allocator + Copy>(
 /// `Runs`, `Contexts` and `Sets`, each judged when its symbol has been read, the deltas after
 /// their last; else with the first that `Config::check_in` finds. `Depth` comes in `Strict` if
 /// the bits of a sample are not 0 or 8, and in `Wide` if they are not 0, 8, 9, 10, 12, 14 or 16,
-/// or are above `most`. `OutOfMemory` if a growth was refused before another fault was met: no
+/// or are above `most`. `ChromaEdge` comes in `Strict` if an inner edge of the slices is no
+/// multiple of its chroma factor, and in `Wide` if a column or a line of chroma lies in no slice.
+/// `OutOfMemory` if a growth was refused before another fault was met: no
 /// memory is taken before the first run of the first set was read, so a fault that stands before
 /// that comes first. Bytes between the parameters and the parity are ignored, and 0 bits of a
 /// sample mean 8. After a refusal the bytes are as they were, and may be read again.
@@ -345,11 +349,13 @@ pub fn read_record_in<A: Allocator + Copy>(
     ensures depth { IfOk result (λ c. IsTrue (has_depth (deepest profile most) c.configuration)) }
     ensures profile { IfOk result (λ c. c.profile ≡ profile) }
     ensures accepted { IfOk result (λ c. IsAccepted c.configuration c.table) }
+    ensures passes { IfOk result (λ c. PassesAll profile checks c.configuration) }
     ensures only { (c : Configuration) (t : Table) → c.width ≡ width → c.height ≡ height →
-        c.depth ≤ deepest profile most → IsAccepted c t → IsRecord bytes.now c →
+        c.depth ≤ deepest profile most → IsAccepted c t → PassesAll profile checks c →
+        IsRecord bytes.now c →
         MatchResult result (λ r. r.configuration ≡ c) (λ f. f ≡ fault.OutOfMemory) }
     ensures exact { IfErr result (λ f. (f ≡ fault.OutOfMemory)
-        ⊎ IsRefused (deepest profile most) bytes.now width height f) }
+        ⊎ IsRefused profile (deepest profile most) bytes.now width height f) }
     ensures memory { IfErr result
         (λ f. f ≡ fault.OutOfMemory → ReachesSets (deepest profile most) bytes.now) }
     ensures run { IfErr result

@@ -12,7 +12,6 @@ pub mod FoundHeads
 pub mod Sharing
 pub mod SpanOffsets
 pub mod FirstDamaged
-pub mod Factors
 pub mod OffsetsFound
 pub mod Refusals
 pub mod OneWay

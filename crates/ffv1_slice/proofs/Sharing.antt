@@ -2,13 +2,21 @@
 use Rattle.std.proofs.Common.{◌≡◌, ℕ, zero, suc, ◌+◌, ◌-◌, ◌/◌, ◌%◌, ◌^◌, ◌<◌, ◌≤◌, ap, sym, ◌∙◌, arith, pow_pos, div-add-mod'}
 use Rattle.std.proofs.Math.Nat.{mul-le-mul_left}
 use Rattle.ffv1_record.specs.Accepted.{edge, AreMultiples}
-use Rattle.ffv1_slice.specs.Grid.{Side, reduced, first_of, coded_of, shared_of, factor_of}
-use Rattle.ffv1_slice.proofs.Parts.{edge_first, edge_rises, reduced_behind, whole_reduced, zero_mod, multiple_at, clean_shares_none}
+use Rattle.ffv1_slice.specs.Grid.{Side, reduced, first_of, coded_of, begin_of, length_of, shared_of, factor_of}
+use Rattle.ffv1_record.proofs.Edges.{edge_first, edge_rises, reduced_behind, whole_reduced, zero_mod}
+use Rattle.ffv1_slice.proofs.Parts.{begins, multiple_at, clean_shares_none}
 
 pub shares_none : (s : Side) (k : ℕ) → 0 < s.count → s.count ≤ s.size → AreMultiples s.size s.count s.log2 → k < s.count → shared_of s k ≡ 0
 shares_none s zero some fits multiples inside = omega arith
 shares_none s (suc k) some fits multiples inside =
     clean_shares_none s k some fits (multiple_at s k some multiples (omega (arith, inside))) (multiple_at s (suc k) some multiples inside)
+
+pub clean_same : (s : Side) (k : ℕ) → 0 < s.count → s.count ≤ s.size → AreMultiples s.size s.count s.log2 → k < s.count → (begin_of s k ≡ first_of s k) × (length_of s k ≡ coded_of s k)
+clean_same s k some fits multiples inside =
+    let none : begin_of s k - first_of s k ≡ 0 = shares_none s k some fits multiples inside in
+    let here = begins s k some fits in
+    let first : begin_of s k ≡ first_of s k = omega (arith, none, here.0) in
+    (first, omega (arith, first))
 
 -- what is rounded up to what it is rounded down to is a multiple
 exact : (e p : ℕ) → 0 < p → (e + (p - 1)) / p ≤ e / p → e % p ≡ 0

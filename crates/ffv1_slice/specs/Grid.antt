@@ -4,6 +4,7 @@ use Rattle.std.specs.Prelude.{◌≡◌, ℕ, ◌+◌, ◌-◌, ◌*◌, ◌/◌
 use Rattle.std.proofs.Common.{zero, suc}
 use Rattle.ffv1_record.specs.Configuration.{Configuration}
 use Rattle.ffv1_record.specs.Accepted.{edge}
+unfoldable pub use Rattle.ffv1_record.specs.Accepted.{reduced}
 
 -- what the division of pictures depends on, and the bits of a sample
 pub record Division : Type 0 where
@@ -40,10 +41,6 @@ factor_of log2 zero = 0
 factor_of log2 (suc zero) = log2
 factor_of log2 (suc (suc zero)) = log2
 factor_of log2 (suc (suc (suc p))) = 0
-
--- a size over a factor, rounded up
-unfoldable pub reduced : ℕ → ℕ → ℕ
-reduced log2 n = (n + (2 ^ log2 - 1)) / 2 ^ log2
 
 -- a size that is divided into some parts, seen in a plane of some factor
 pub record Side : Type 0 where
@@ -112,19 +109,31 @@ pub record IsDivision (d : Division) : Type 0 where
 abbrev pub slices_in : Division → ℕ
 slices_in d = d.columns * d.rows
 
--- a position lies in a part
+-- a position lies in what is coded of a part
+pub record IsCoded (s : Side) (x k : ℕ) : Type 0 where
+  pub inside : k < s.count
+  pub least : first_of s k ≤ x
+  pub most : x < first_of s k + coded_of s k
+
+-- it lies in that of the part which the part before does not code
 pub record Lies (s : Side) (x k : ℕ) : Type 0 where
   pub inside : k < s.count
   pub least : begin_of s k ≤ x
   pub most : x < begin_of s k + length_of s k
 
--- the cell of slice n in plane p holds the sample in column x and line y
+-- the cell of slice n in plane p has the sample in column x and line y
+pub record CodedBy (d : Division) (p n x y : ℕ) : Type 0 where
+  pub inside : n < slices_in d
+  pub column : IsCoded (across d p) x (n % d.columns)
+  pub row : IsCoded (down d p) y (n / d.columns)
+
+-- the cell has it, and neither the cell to the left nor the one above has it
 pub record Covers (d : Division) (p n x y : ℕ) : Type 0 where
   pub inside : n < slices_in d
   pub column : Lies (across d p) x (n % d.columns)
   pub row : Lies (down d p) y (n / d.columns)
 
--- one cell does, and no other
+-- so it is of one cell, and of no other
 pub record CoversOnce (d : Division) (p x y : ℕ) : Type 0 where
   pub slice : ℕ
   pub covers : Covers d p slice x y

@@ -10,7 +10,7 @@ ghost use Rattle.ffv1_slice.specs.Grid.{across, down};
 ghost use Rattle.ffv1_samples.specs.Samples.{sample_bytes};
 
 use crate::laws;
-use ffv1_record::{Checked, laws as record_laws};
+use ffv1_record::{Checked, laws as record_laws, reduced};
 use ffv1_samples::sample_bytes;
 use std::alloc::Allocator;
 use std::marker::Model;
@@ -96,22 +96,6 @@ fn factor_of(log2: u32, plane: u32) -> u32
         2 => log2,
         _ => 0,
     }
-}
-
-/// A size over a factor, rounded up.
-fn reduced(log2: u32, size: u32) -> u32
-    requires log2 { log2 ≤ 2 }
-    requires size { size ≤ 8192 }
-    ensures value { result ≡ reduced log2 size }
-    ensures fits { result ≤ size }
-{
-    if log2 == 0 {
-        return size;
-    }
-    if log2 == 1 {
-        return (size + 1) / 2;
-    }
-    (size + 3) / 4
 }
 
 /// Where part k begins of a size that is divided into count parts.

@@ -8,7 +8,8 @@ ghost use Rattle.ffv1_range.specs.Table.{Table, IsTable};
 ghost use Rattle.ffv1_range.specs.Symbols.{Step};
 ghost use Rattle.ffv1_record.specs.declared.config.Profile.{Profile};
 ghost use Rattle.ffv1_record.specs.Configuration.{Configuration};
-ghost use Rattle.ffv1_record.specs.Accepted.{AreMultiples, IsAccepted};
+ghost use Rattle.ffv1_record.specs.declared.config.Profile.TheVariants as profile;
+ghost use Rattle.ffv1_record.specs.Accepted.{AreMultiples, IsAccepted, PassesAll, checks};
 ghost use Rattle.ffv1_slice.specs.declared.cutting.CutFault.{CutFault};
 ghost use Rattle.ffv1_slice.specs.declared.fault.SliceFault.{SliceFault};
 ghost use Rattle.ffv1_slice.specs.declared.head.SliceHead.{SliceHead};
@@ -19,7 +20,7 @@ ghost use Rattle.ffv1_slice.specs.Cutting.{joined_of, offset_in, AreCodedBytes, 
 ghost use Rattle.ffv1_slice.specs.Grid.{Side, IsDivided, begin_of, length_of, whole_of, Lies};
 ghost use Rattle.ffv1_slice.specs.Grid.{first_of, coded_of, shared_of};
 ghost use Rattle.ffv1_slice.specs.Grid.{Division, IsDivision, CoversOnce, across, down};
-ghost use Rattle.ffv1_slice.specs.Grid.{division_of, slices_in, Covers};
+ghost use Rattle.ffv1_slice.specs.Grid.{division_of, slices_in, CodedBy, Covers};
 ghost use Rattle.ffv1_slice.specs.Head.{CodesHead, RefusesHead, IsHead, Stops, head_rules};
 ghost use Rattle.ffv1_slice.specs.Head.{head_steps};
 ghost use Rattle.ffv1_slice.specs.Length.{head_most, numbers_most};
@@ -83,13 +84,18 @@ pub fn parts_follow_one_another()
     ensures inside { (s : Side) (x k : ℕ) → IsDivided s → Lies s x k → x < whole_of s }
 {}
 
-/// The cells of a plane cover each of its samples once, and nothing else.
+/// Each sample of a plane is of one slice, whose cell has it, and no cell has anything else. Of two
+/// cells that have it, it is of the upper or left one.
 pub fn cells_tile_their_plane()
     ensures across { (d : Division) (p : ℕ) → IsDivision d → IsDivided (across d p) }
     ensures down { (d : Division) (p : ℕ) → IsDivision d → IsDivided (down d p) }
     ensures covered { (d : Division) (p x y : ℕ) → IsDivision d → x < whole_of (across d p) →
         y < whole_of (down d p) → CoversOnce d p x y }
     ensures inside { (d : Division) (p n x y : ℕ) → IsDivision d → Covers d p n x y →
+        (x < whole_of (across d p)) × (y < whole_of (down d p)) }
+    ensures coded { (d : Division) (p n x y : ℕ) → IsDivision d → Covers d p n x y →
+        CodedBy d p n x y }
+    ensures within { (d : Division) (p n x y : ℕ) → IsDivision d → CodedBy d p n x y →
         (x < whole_of (across d p)) × (y < whole_of (down d p)) }
 {}
 
@@ -122,23 +128,28 @@ pub fn accepted_pictures_are_divided()
     record_laws::accepted_configuration_is_in_range();
 }
 
-/// Slices of a configuration that was checked have no sample in common.
-pub fn accepted_slices_share_nothing()
-    ensures across { (c : Configuration) (t : Table) (p k : ℕ) → IsAccepted c t → k < c.columns →
+/// Slices of a configuration that was checked in `Strict` have no sample in common.
+pub fn strict_slices_share_nothing()
+    ensures across { (c : Configuration) (t : Table) (p k : ℕ) → IsAccepted c t →
+        PassesAll profile.Strict checks c → k < c.columns →
         shared_of (across (division_of c) p) k ≡ 0 }
-    ensures down { (c : Configuration) (t : Table) (p k : ℕ) → IsAccepted c t → k < c.rows →
+    ensures down { (c : Configuration) (t : Table) (p k : ℕ) → IsAccepted c t →
+        PassesAll profile.Strict checks c → k < c.rows →
         shared_of (down (division_of c) p) k ≡ 0 }
 {
     record_laws::accepted_configuration_is_in_range();
 }
 
 /// The parts of a side have no sample in common exactly if each inner edge is a multiple of the
-/// factor.
+/// factor. Then what is coded of each is what it has alone.
 pub fn sides_share_nothing_at_multiples()
     ensures none { (s : Side) (k : ℕ) → 0 < s.count → s.count ≤ s.size →
         AreMultiples s.size s.count s.log2 → k < s.count → shared_of s k ≡ 0 }
     ensures only { (s : Side) → 0 < s.count → s.count ≤ s.size →
         ((k : ℕ) → k < s.count → shared_of s k ≡ 0) → AreMultiples s.size s.count s.log2 }
+    ensures same { (s : Side) (k : ℕ) → 0 < s.count → s.count ≤ s.size →
+        AreMultiples s.size s.count s.log2 → k < s.count →
+        (begin_of s k ≡ first_of s k) × (length_of s k ≡ coded_of s k) }
 {}
 
 /// After its key bytes code one head at most, or are refused in one way.

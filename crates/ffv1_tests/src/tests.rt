@@ -15,6 +15,7 @@ mod line;
 mod made;
 mod matroska;
 mod orders;
+mod overlaps;
 mod packs;
 mod pictures;
 mod plane;

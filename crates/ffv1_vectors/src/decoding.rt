@@ -73,6 +73,7 @@ fn number_of(fault: CodecFault) -> u32 {
         CodecFault::Leftover => 36,
         CodecFault::SliceParity => 37,
         CodecFault::SliceStatus => 38,
+        CodecFault::Overlap => 39,
         CodecFault::SliceTooLong => 40,
         CodecFault::InfoDiffers => 41,
         CodecFault::Sink => 42,

@@ -1,5 +1,5 @@
 -- What calls leave of the vectors that they are lent.
-use Rattle.std.specs.Prelude.{◌≡◌, ℕ, ◌≤◌, length, vec_capacity}
+use Rattle.std.specs.Prelude.{◌≡◌, ℕ, ◌≤◌, List, length, vec_capacity}
 use Rattle.ffv1_codec.specs.declared.decode.buffers.Slices.{Slices}
 use Rattle.ffv1_codec.specs.declared.decode.buffers.Lines.{Lines}
 use Rattle.ffv1_codec.specs.declared.decode.buffers.Lines.TheVariants as kind
@@ -9,6 +9,11 @@ use Rattle.ffv1_codec.specs.declared.decode.buffers.Buffers.{Buffers}
 abbrev pub length_of_lines : {A : Type 0} → Lines A → ℕ
 length_of_lines (kind.Narrow v) = length v.items
 length_of_lines (kind.Wide v) = length v.items
+
+-- the samples of lines
+abbrev pub samples_of_lines : {A : Type 0} → Lines A → List ℕ
+samples_of_lines (kind.Narrow v) = v.items
+samples_of_lines (kind.Wide v) = v.items
 
 -- for how many samples they have memory
 abbrev pub capacity_of_lines : {A : Type 0} → Lines A → ℕ

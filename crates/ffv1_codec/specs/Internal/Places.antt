@@ -1,4 +1,5 @@
--- The parts of a side lie beside one another, from 0 to its end, and no cell is empty or passes it.
+-- The parts of a side lie beside one another, from 0 to its end; no cell is empty or passes it, and
+-- neighbours have one sample in common at most.
 use Rattle.std.specs.Prelude.{◌≡◌, ℕ, ◌+◌, ◌<◌, ◌≤◌}
 use Rattle.std.proofs.Common.{suc}
 use Rattle.ffv1_slice.specs.Grid.{Side, begin_of, length_of, first_of, coded_of, shared_of}
@@ -10,6 +11,6 @@ pub record AreParts (s : Side) : Type 0 where
   pub some : (k : ℕ) → k < s.count → 0 < coded_of s k
   pub begins : (k : ℕ) → k < s.count → first_of s k ≤ begin_of s k
   pub ends : (k : ℕ) → k < s.count → first_of s k + coded_of s k ≤ whole_of s
-  pub none : (k : ℕ) → k < s.count → shared_of s k ≡ 0
+  pub few : (k : ℕ) → k < s.count → shared_of s k ≤ 1
   pub last : begin_of s s.count ≡ whole_of s
   pub fits : whole_of s ≤ s.size

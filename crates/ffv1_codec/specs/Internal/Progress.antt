@@ -1,7 +1,7 @@
 -- What some events of decoding leave, and a sink with them: they were made, one was refused, or the
 -- sink refused a line.
 use Rattle.std.specs.Prelude.{◌≡◌, ◌⊎◌, ℕ, ◌+◌, ◌*◌, ◌<◌, List, [], ◌∷◌}
-use Rattle.std.specs.Prelude.{◌++◌, Result, MatchResult}
+use Rattle.std.specs.Prelude.{◌++◌, Result, MatchResult, length}
 use Rattle.std.proofs.Common.{get_or, suc}
 use Rattle.std.specs.List.{flat_map, range_with_len}
 use Rattle.ffv1_wire.specs.Runs.{LineStep, Grows}
@@ -19,6 +19,7 @@ use Rattle.ffv1_codec.specs.Decoding.{State, StepsBy, FaultsWith, fault_in, top_
 use Rattle.ffv1_codec.specs.Internal.Stands.{window}
 use Rattle.ffv1_codec.specs.Internal.Tied.{AreTold, RowSlices, TiedColumns, TiedPlanes}
 use Rattle.ffv1_codec.specs.Internal.Tied.{row_slices, rolling_lines, plane_group}
+use Rattle.ffv1_codec.specs.Internal.Shared.{AreAbove, AreLast, IsLast}
 
 -- the lines that are handed over next stand in a line of output, in bytes
 abbrev pub StandsIn : Configuration → ℕ → ℕ → List ℕ → State → Type 0
@@ -113,6 +114,18 @@ module _ {S : Type 0} (takes refuses : LineStep S) (a : Accepted) (coded : ℕ �
         (series_events a.configuration r (series_at a.configuration r first count)) columns states
         now s
 
+    -- and what is kept is their last line
+    pub record SeriesKept (r : ℕ) (payload : List ℕ) (first count : ℕ) (columns : List Column)
+        (states kept : List ℕ) (now : S) (s : State) : Type 0 where
+      pub decoded : SeriesDecoded r payload first count columns states now s
+      pub last : 0 < length kept → IsLast a.configuration r first kept decoded.state
+
+    -- the planes before `next` of row r were decoded, and of chroma their last lines are kept
+    pub record PlanesKept (r next : ℕ) (payload : List ℕ) (events : List Event)
+        (columns : List Column) (states kept : List ℕ) (now : S) (s : State) : Type 0 where
+      pub decoded : Decoded r next payload events columns states now s
+      pub last : AreLast a.configuration r next kept decoded.state
+
     -- so many of their lines
     pub record LinesDecoded (r next : ℕ) (payload : List ℕ) (first count y : ℕ)
         (columns : List Column) (states two one : List ℕ) (now : S) (s : State) : Type 0 where
@@ -126,15 +139,16 @@ module _ {S : Type 0} (takes refuses : LineStep S) (a : Accepted) (coded : ℕ �
       pub kept : Kept s state
       pub grows : Grows takes initial state.lines now
 
--- the planes of row r are decoded, of columns and states with what is known of them before, and
--- after; a sink has taken the lines, or what stopped it is known
+-- the planes of row r are decoded, of columns, states and kept lines with what is known of them
+-- before, and after; a sink has taken the lines, or what stopped it is known
 abbrev pub DecodesPlanes : {S : Type 0} → LineStep S → LineStep S → Accepted → ℕ → List ℕ →
-    RowSlices → RowSlices → S → S → Result (Unit {0}) FrameFault → Type 0
-DecodesPlanes {S = S} takes refuses a r payload old new before after result =
+    RowSlices → RowSlices → List ℕ → List ℕ → S → S → Result (Unit {0}) FrameFault → Type 0
+DecodesPlanes {S = S} takes refuses a r payload old new kept last before after result =
     (coded : ℕ → List ℕ) (initial : S) (s : State) → TiedColumns a coded r 0 payload old s →
+    AreAbove a.configuration r kept s →
     Grows takes initial s.lines before →
     MatchResult result
-    (λ _. Decoded takes refuses a coded initial r (plane_count a.configuration) payload
-    (planes_events a.configuration r) new.columns new.states after s)
+    (λ _. PlanesKept takes refuses a coded initial r (plane_count a.configuration) payload
+    (planes_events a.configuration r) new.columns new.states last after s)
     (λ f. FailsIn takes refuses a coded initial r new.columns (planes_events a.configuration r) f
     after s)

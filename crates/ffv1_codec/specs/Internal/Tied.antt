@@ -1,6 +1,6 @@
 -- What ties the columns, states and lines of a decoder to what is known between two events.
 use Rattle.std.specs.Prelude.{◌≡◌, ◌≢◌, ℕ, ◌+◌, ◌-◌, ◌*◌, ◌^◌, ◌<◌, ◌≤◌, IsSome, None, List}
-use Rattle.std.specs.Prelude.{◌⊎◌, [], ◌++◌, length, slice_index, slice_index_or}
+use Rattle.std.specs.Prelude.{◌⊎◌, [], ◌++◌, IsFalse, length, slice_index, slice_index_or}
 use Rattle.std.proofs.Common.{suc}
 use Rattle.std.specs.List.{flat_map, range_with_len}
 use Rattle.ffv1_range.specs.Table.{Table}
@@ -9,7 +9,7 @@ use Rattle.ffv1_record.specs.Configuration.{Configuration}
 use Rattle.ffv1_record.specs.Accepted.{Accepted, IsAccepted}
 use Rattle.ffv1_record.specs.Held.{classes_of, planes_of}
 use Rattle.ffv1_record.specs.Sets.{most_contexts}
-use Rattle.ffv1_slice.specs.Grid.{division_of}
+use Rattle.ffv1_slice.specs.Grid.{division_of, across, down, shared_of}
 use Rattle.ffv1_line.specs.Cell.{Rolls}
 use Rattle.ffv1_codec.specs.declared.decode.column.Column.{Column}
 use Rattle.ffv1_codec.specs.declared.decode.parts.Frame.{Frame}
@@ -17,13 +17,14 @@ use Rattle.ffv1_codec.specs.declared.fault.CodecFault.TheVariants as fault
 use Rattle.ffv1_codec.specs.declared.fault.FrameFault.{FrameFault}
 use Rattle.ffv1_codec.specs.Overread.{IsWithin, IsOverread}
 use Rattle.ffv1_codec.specs.Ending.{HasEnding, LacksEnding}
-use Rattle.ffv1_codec.specs.Picture.{plane, plane_count, width_bytes}
+use Rattle.ffv1_codec.specs.Picture.{plane, plane_count, plane_width, width_bytes}
 use Rattle.ffv1_codec.specs.SliceList.{bits_of}
 use Rattle.ffv1_codec.specs.Runs.{Runs, Stops}
-use Rattle.ffv1_codec.specs.Order.{Event, IsLastLine, column_events}
+use Rattle.ffv1_codec.specs.Order.{Event, IsLastLine, column_events, lines_down}
 use Rattle.ffv1_codec.specs.Order.Event.{Read}
 use Rattle.ffv1_codec.specs.Decoding.{State, Slice, StepsBy, FaultsWith, slice_at, slice_number}
-use Rattle.ffv1_codec.specs.Decoding.{fault_in, left_of, width_in}
+use Rattle.ffv1_codec.specs.Decoding.{fault_in, left_of, width_in, above_sample}
+use Rattle.ffv1_codec.specs.Decoding.{SaidBefore, Agrees}
 use Rattle.ffv1_codec.specs.Internal.Stands.{Stands, window, told_by, tally_after}
 use Rattle.ffv1_line.specs.declared.cell.rows.RollingRows.{RollingRows}
 
@@ -52,6 +53,7 @@ pub record IsFrame {A : Type 0} (f : Frame A) : Type 0 where
   pub grid : f.grid ≡ division_of f.checked.now.configuration
   pub most : f.most ≡ most_contexts f.checked.now.configuration.sets
   pub slots : f.slots ≡ slots_in f.checked.now.configuration
+  pub apart : IsFalse f.shares → (k : ℕ) → k < f.grid.columns → shared_of (across f.grid 1) k ≡ 0
   pub accepted : IsAccepted f.checked.now.configuration f.checked.now.table
 
 abbrev pub no_column : Column
@@ -127,6 +129,26 @@ pub record TiedLine (c : Configuration) (p offset n y : ℕ) (lines : RollingRow
       Rolls (width_in c p k) (plane (slice_at s k).cells p) (part_of c p offset k lines.one)
       (part_of c p offset k lines.cur) (suc y)
 
+-- so many samples of line y of plane p in row r are kept from the row of slices above: the line of
+-- the plane, if both rows code it, else none
+abbrev pub IsKept : Configuration → ℕ → ℕ → ℕ → ℕ → Type 0
+IsKept c r p y long =
+    ((long ≡ 0) × (shared_of (down (division_of c) p) r ≤ y))
+    ⊎ ((long ≡ plane_width c p) × (y < shared_of (down (division_of c) p) r))
+
+-- they are what the slices above have
+abbrev pub TiedKept : Configuration → ℕ → ℕ → ℕ → List ℕ → State → Type 0
+TiedKept c r p y kept s =
+    y < shared_of (down (division_of c) p) r → (k x : ℕ) → k < c.columns → x < width_in c p k →
+    slice_index kept (left_of c p k + x) ≡ above_sample c s r k p x
+
+-- they are the last line that the slices of row r have of plane p
+abbrev pub TiedLast : Configuration → ℕ → ℕ → List ℕ → State → Type 0
+TiedLast c r p kept s =
+    (k x : ℕ) → k < c.columns → x < width_in c p k → slice_index kept (left_of c p k + x)
+    ≡ slice_index (plane (slice_at s k).cells p)
+    ((lines_down c p r - 1) * width_in c p k + x)
+
 -- planes that are coded together: the first of them, and how many they are
 pub record PlaneGroup : Type 0 where
   pub first : ℕ
@@ -162,24 +184,38 @@ overread_in c r k p y = fault_in c fault.Overread r k p y 0
 abbrev pub unended_in : Configuration → ℕ → ℕ → ℕ → ℕ → FrameFault
 unended_in c r k p y = fault_in c fault.Ending r k p y 0
 
+-- the fault of a sample of which a slice before says another value
+abbrev pub overlap_in : Configuration → ℕ → ℕ → ℕ → ℕ → ℕ → FrameFault
+overlap_in c r k p y x = fault_in c fault.Overlap r k p y (left_of c p k + x)
+
 module _ (a : Accepted) (coded : ℕ → List ℕ) (r next : ℕ) (payload : List ℕ) where
-  -- a segment was read, and it is to be looked at whether its slice was read too far, and, if it is
-  -- the last, whether the slice ends there
+  -- a segment was read, and it is to be looked at whether its slice was read too far, whether
+  -- slices before say other values of its samples, and, if it is the last, whether the slice ends
+  -- there
   pub record SegmentMade (p offset y k : ℕ) (columns : List Column) (states two one cur : List ℕ)
       (s : State) : Type 0 where
     pub state : State
+    pub row : List ℕ
+    pub row_is : part_of a.configuration p offset k cur ≡ row
     pub step : IsWithin a (coded (slice_number a.configuration r k)) (slice_at state k).past →
         (IsLastLine a.configuration r p y →
         HasEnding a (coded (slice_number a.configuration r k)) (slice_at state k).past) →
+        Agrees a.configuration s r k p y (width_in a.configuration p k) row →
         StepsBy a coded s (Read r k p y) state
     pub fault : IsOverread a (coded (slice_number a.configuration r k)) (slice_at state k).past →
         FaultsWith a coded s (Read r k p y) (overread_in a.configuration r k p y) state
     pub unended : IsWithin a (coded (slice_number a.configuration r k)) (slice_at state k).past →
         IsLastLine a.configuration r p y →
         LacksEnding a (coded (slice_number a.configuration r k)) (slice_at state k).past →
+        Agrees a.configuration s r k p y (width_in a.configuration p k) row →
         FaultsWith a coded s (Read r k p y) (unended_in a.configuration r k p y) state
+    pub differs : IsWithin a (coded (slice_number a.configuration r k)) (slice_at state k).past →
+        (x v : ℕ) → x < width_in a.configuration p k → Agrees a.configuration s r k p y x row →
+        SaidBefore a.configuration s r k p y x v → slice_index row x ≢ v →
+        FaultsWith a coded s (Read r k p y) (overlap_in a.configuration r k p y x) state
     pub columns_are : TiedColumns a coded r next payload (row_slices columns states) state
-    pub line_is : TiedLine a.configuration p offset (suc k) y (rolling_lines two one cur) state
+    pub line_is : Agrees a.configuration s r k p y (width_in a.configuration p k) row →
+        TiedLine a.configuration p offset (suc k) y (rolling_lines two one cur) state
     pub others : SameOthers p s state
     pub same : state ≡ record s { columns = state.columns }
 

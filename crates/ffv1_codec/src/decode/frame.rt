@@ -25,8 +25,8 @@ use crate::decode::parts::Frame;
 use crate::decode::row::decode_row;
 use crate::fault::{CodecFault, FrameFault};
 use crate::info::Info;
-use crate::laws;
 use crate::line_word::bits_of;
+use crate::{laws, places};
 use ffv1_range::{Tally, laws as range_laws};
 use ffv1_record::{Checked, laws as record_laws};
 use ffv1_slice::{Spans, cut};
@@ -156,6 +156,7 @@ fn decode_rows<A: Allocator, B: Allocator, S: LineSink>(
 {
     record_laws::accepted_configuration_is_in_range();
     range_laws::each_step_is_one_or_zero();
+    places::slices_lie_beside_one_another();
     let frame = Frame::new(checked, payload);
     let mut first = None;
     for row in 0..frame.grid.rows() {
@@ -189,8 +190,9 @@ fn cut_payload<A: Allocator, B: Allocator>(
 
 impl<A: Allocator + Copy> FrameDecoder<A> {
     /// A decoder of pictures of this configuration, in its profile. All the memory that it ever
-    /// takes is taken here, in five vectors as long as `Checked::held` says, whatever the pictures'
-    /// height. Answers `OutOfMemory` where one of them was refused.
+    /// takes is taken here, in five vectors as long as `Checked::held` says: the pictures' height
+    /// says only whether two lines of chroma are kept. Answers `OutOfMemory` if one of them was
+    /// refused.
     pub fn new(alloc: A, checked: Checked<A>) -> Result<FrameDecoder<A>, CodecFault>
         ensures ok { IfOk result (λ d. d ≡ record {
           accepted = checked;
@@ -273,20 +275,32 @@ impl<A: Allocator> FrameDecoder<A> {
     /// plays no part. It takes no memory and gives none back, whatever it answers: length and
     /// capacity of each of the five vectors stay.
     ///
-    /// It is Ok exactly where the payload codes a picture and the sink takes its lines. The fault
-    /// is the first in that order, with its place: `Footer`, `Leftover`, `SliceParity` or
+    /// It is Ok exactly if the payload codes a picture and the sink takes its lines. The fault is
+    /// the first in that order, with its place: `Footer`, `Leftover`, `SliceParity` or
     /// `SliceStatus` before any line, `BadStart`, `NotKey`, a fault of the head or `InfoDiffers`
-    /// where a slice is opened, `SymbolTooLong` in a sample, `Overread` at `Wide` after a head and
-    /// after each line of a cell, `Ending` at `Wide` after the last line of a slice, `Colour` in a
-    /// line that was read, and `Sink` exactly where the sink refused the line that came next. The
-    /// sink then has the lines before it and nothing is decided after it; the decoder is ready for
-    /// the next frame.
+    /// when a slice is opened, `SymbolTooLong` in a sample, `Overread` at `Wide` after a head and
+    /// after each line of a cell, `Overlap` at `Wide` after a line of a cell, `Ending` at `Wide`
+    /// after the last line of a slice, `Colour` in a line that was read, and `Sink` exactly if the
+    /// sink refused the line that came next. The sink then has exactly the lines before it and
+    /// nothing is decided after it; the decoder is ready for the next frame.
     ///
     /// Heads are read in the profile of the configuration: at `Wide` an aspect of which just one
     /// number is 0 says what 0:0 says, that it is unknown.
     ///
+    /// At `Wide` the slice to the left may code the first sample of a chroma line, too, and the one
+    /// above each sample of the first chroma line of a cell. Both then say the same value, which is
+    /// handed over once: a line that two rows of slices code as the upper row says it, as soon as
+    /// it is whole there. Else it is `Overlap`, as soon as the later slice has read its line, and
+    /// not too far: in that slice, in that plane and line, and `x` is the first column of the plane
+    /// at which it says another value. The sink then has exactly the lines before: if the row of
+    /// slices above codes that line, too, it is among them, as that row says it; else it is not.
+    ///
+    /// Whatever bytes come, it makes at most 63 decisions for each sample that a slice codes (one
+    /// that several slices code counts for each of them), and 559 for each slice, or 621 if there
+    /// is transparency.
+    ///
     /// Bytes after the end of a slice are read as 0. At `Wide` a slice that is read more than two
-    /// bytes past its end is `Overread`, exactly where its decoder has renormalised more often than
+    /// bytes past its end is `Overread`, exactly if its decoder has renormalised more often than
     /// the slice has coded bytes. So a payload is decoded in a time that goes by its length.
     ///
     /// At `Wide` a slice ends where its coder does (RFC 9043, 3.8.1.1.1): one more decision by

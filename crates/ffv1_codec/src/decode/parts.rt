@@ -4,8 +4,10 @@ ghost use Rattle.std.specs.Prelude.{◌≡◌, ◌≤◌, ◌<◌, ◌^◌};
 ghost use Rattle.ffv1_codec.specs.Decoding.{fault_in};
 ghost use Rattle.ffv1_codec.specs.Order.{lines_down};
 
+use crate::decode::shared::shares_columns;
 use crate::fault::{CodecFault, FrameFault};
 use crate::places;
+use ffv1_line::Word;
 use ffv1_record::{Checked, laws as record_laws};
 use ffv1_slice::Grid;
 use std::alloc::Allocator;
@@ -23,6 +25,8 @@ pub struct Frame<'a, A: Allocator> {
     pub most: usize,
     /// How many states a slice has.
     pub slots: usize,
+    /// Whether columns of slices may have a column of chroma in common.
+    pub shares: bool,
 }
 
 impl<'a, A: Allocator> Frame<'a, A> {
@@ -37,12 +41,15 @@ impl<'a, A: Allocator> Frame<'a, A> {
         let config = checked.config();
         let most = config.sets.most_contexts() as usize;
         let classes = config.classes();
+        let grid = Grid::of(checked);
+        let shares = shares_columns(&grid);
         Frame {
             checked,
-            grid: Grid::of(checked),
+            grid,
             payload,
             most,
             slots: classes * most * 32,
+            shares,
         }
     }
 
@@ -72,8 +79,10 @@ impl<'a, A: Allocator> Frame<'a, A> {
 }
 
 /// Planes of a row of slices that are coded together.
-#[derive(Clone, Copy)]
-pub struct CodedPlanes {
+#[derive(Drop)]
+pub struct CodedPlanes<'a, A: Allocator> {
+    /// The frame.
+    pub frame: &'a Frame<'a, A>,
     /// The row of slices.
     pub row: u32,
     /// The first plane.
@@ -97,6 +106,18 @@ pub struct CodedLine {
     pub y: u32,
     /// How many lines of each of these planes the row has.
     pub height: u32,
+}
+
+/// The two lines above one that is read, and that line as the row of slices above has it, if it
+/// codes it, too; else nothing.
+#[derive(Clone, Copy)]
+pub struct LinesAbove<'a, W: Word> {
+    /// The upper line.
+    pub two: &'a [W],
+    /// The lower line.
+    pub one: &'a [W],
+    /// The line itself.
+    pub kept: &'a [W],
 }
 
 /// The segment of a line that lies in one slice.

@@ -9,14 +9,15 @@ ghost use Rattle.ffv1_codec.specs.OwnFaults.{IsOwn};
 ghost use Rattle.ffv1_codec.specs.Order.{lines_down, column_events};
 ghost use Rattle.ffv1_codec.specs.Decoding.{State};
 ghost use Rattle.ffv1_codec.specs.Internal.Tied.{IsFrame, AreOpen, row_slots, TiedColumns};
+ghost use Rattle.ffv1_codec.specs.Internal.Tied.{IsKept, TiedKept};
 ghost use Rattle.ffv1_codec.specs.Internal.Tied.{TiedPlanes, PlanesRead, Stopped, row_slices};
 ghost use Rattle.ffv1_codec.specs.Internal.Tied.{rolling_lines, plane_group};
 
 use crate::decode::column::Column;
-use crate::decode::parts::{CodedLine, Frame, Segment};
+use crate::decode::parts::{CodedLine, Frame, LinesAbove, Segment};
 use crate::decode::segment::read_at;
 use crate::fault::FrameFault;
-use crate::line_word::{Above, LineWord};
+use crate::line_word::LineWord;
 use crate::places;
 use std::alloc::Allocator;
 
@@ -26,7 +27,7 @@ pub(crate) fn read_planes<W: LineWord, A: Allocator>(
     line: &CodedLine,
     columns: &mut [Column],
     states: &mut [u8],
-    above: &Above<'_, W>,
+    above: &LinesAbove<'_, W>,
     cur: &mut [W],
 ) -> Result<(), FrameFault>
     requires frame { IsFrame frame.now }
@@ -50,6 +51,9 @@ pub(crate) fn read_planes<W: LineWord, A: Allocator>(
         ≤ length above.now.one.now }
     requires cur_long { line.now.count * frame.now.checked.now.configuration.width
         ≤ length cur.old }
+    requires kept { (i : ℕ) → i < line.now.count →
+        IsKept frame.now.checked.now.configuration line.now.row (line.now.first + i) line.now.y
+        (length above.now.kept.now) }
     requires room { length states.old ≡ row_slots frame.now.checked.now.configuration }
     requires held { AllHeld frame.now.checked.now.table states.old }
     ensures exact { (coded : ℕ → List ℕ) (next : ℕ) (s : State) →
@@ -60,6 +64,8 @@ pub(crate) fn read_planes<W: LineWord, A: Allocator>(
         TiedPlanes a.configuration (plane_group line.now.first line.now.count) 0 0 line.now.y
         (rolling_lines (W.samples above.now.two.now) (W.samples above.now.one.now)
         (W.samples cur.old)) s →
+        ((i : ℕ) → i < line.now.count → TiedKept a.configuration line.now.row
+        (line.now.first + i) line.now.y (W.samples above.now.kept.now) s) →
         MatchResult result
         (λ _. PlanesRead a coded line.now.row next frame.now.payload.now line.now.first
         line.now.count line.now.y a.configuration.columns 0 columns.new states.new

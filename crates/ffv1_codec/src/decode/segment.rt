@@ -13,6 +13,7 @@ ghost use Rattle.ffv1_codec.specs.Order.Event.{Read};
 ghost use Rattle.ffv1_codec.specs.Decoding.{State, fault_in, left_of, width_in, slice_number};
 ghost use Rattle.ffv1_codec.specs.Internal.Stands.{Stands, SegmentRead, SegmentRefused, window};
 ghost use Rattle.ffv1_codec.specs.Internal.Tied.{KeepsBeside, IsFrame, IsOpen, AreOpen, bytes_in};
+ghost use Rattle.ffv1_codec.specs.Internal.Tied.{IsKept, TiedKept};
 ghost use Rattle.ffv1_codec.specs.Internal.Tied.{HasPlane, row_slots, slots_in};
 ghost use Rattle.ffv1_codec.specs.Internal.Tied.{TiedColumns, TiedLine, SegmentMade};
 ghost use Rattle.ffv1_codec.specs.Internal.Tied.{StepMade, Stopped, overread_in, row_slices};
@@ -23,7 +24,8 @@ use crate::class::class_of;
 use crate::decode::column::Column;
 use crate::decode::ending::lacks_ending;
 use crate::decode::overread::is_overread;
-use crate::decode::parts::{Frame, Segment};
+use crate::decode::parts::{Frame, LinesAbove, Segment};
+use crate::decode::shared::{first_difference, said_left};
 use crate::fault::{CodecFault, FrameFault};
 use crate::line_word::{Above, LineCoding, LineWord, bits_of};
 use crate::places;
@@ -146,7 +148,7 @@ fn read_column<W: LineWord, A: Allocator>(
 }
 
 /// Where a segment begins and ends in a rolling line.
-fn extent<A: Allocator>(frame: &Frame<'_, A>, segment: &Segment) -> (usize, usize)
+pub(crate) fn extent<A: Allocator>(frame: &Frame<'_, A>, segment: &Segment) -> (usize, usize)
     requires frame { IsFrame frame.now }
     requires column { segment.now.column < frame.now.checked.now.configuration.columns }
     requires few { segment.now.index < 4 }
@@ -168,8 +170,13 @@ fn extent<A: Allocator>(frame: &Frame<'_, A>, segment: &Segment) -> (usize, usiz
     (left, left + cell.1 as usize)
 }
 
-/// The fault of a segment of which a symbol is refused.
-fn refusal<A: Allocator>(frame: &Frame<'_, A>, segment: &Segment, x: usize) -> FrameFault
+/// A fault of a segment, at this of its samples.
+fn fault_at<A: Allocator>(
+    frame: &Frame<'_, A>,
+    fault: CodecFault,
+    segment: &Segment,
+    x: usize,
+) -> FrameFault
     requires frame { IsFrame frame.now }
     requires row { segment.now.row < frame.now.checked.now.configuration.rows }
     requires column { segment.now.column < frame.now.checked.now.configuration.columns }
@@ -177,8 +184,8 @@ fn refusal<A: Allocator>(frame: &Frame<'_, A>, segment: &Segment, x: usize) -> F
         segment.now.plane segment.now.row }
     requires x { x < width_in frame.now.checked.now.configuration segment.now.plane
         segment.now.column }
-    ensures { result ≡ fault_in frame.now.checked.now.configuration CodecFault.SymbolTooLong
-        segment.now.row segment.now.column segment.now.plane segment.now.y
+    ensures { result ≡ fault_in frame.now.checked.now.configuration fault segment.now.row
+        segment.now.column segment.now.plane segment.now.y
         (left_of frame.now.checked.now.configuration segment.now.plane segment.now.column + x) }
 {
     places::slices_lie_beside_one_another();
@@ -186,7 +193,7 @@ fn refusal<A: Allocator>(frame: &Frame<'_, A>, segment: &Segment, x: usize) -> F
     let cell = frame
         .grid
         .cell_across(segment.plane as u32, segment.column as u32);
-    frame.fault_in(CodecFault::SymbolTooLong, segment, cell.0 as usize + x)
+    frame.fault_in(fault, segment, cell.0 as usize + x)
 }
 
 /// Reads a segment into its place of a line. How far its slice was read, and whether it ends, is
@@ -262,18 +269,19 @@ fn read_on<W: LineWord, A: Allocator>(
         &mut cur[left..right],
     ) {
         Ok(()) => Ok(()),
-        Err(refused) => Err(refusal(frame, segment, refused.x)),
+        Err(refused) => Err(fault_at(frame, CodecFault::SymbolTooLong, segment, refused.x)),
     }
 }
 
-/// Reads a segment into its place of a line, and looks at how far its slice was read, and whether
-/// it ends if that was its last line.
+/// Reads a segment into its place of a line, and looks at how far its slice was read, whether the
+/// slices to the left and above say the same of the samples that it has in common with them, and
+/// whether the slice ends if that was its last line.
 pub(crate) fn read_at<W: LineWord, A: Allocator>(
     frame: &Frame<'_, A>,
     segment: &Segment,
     columns: &mut [Column],
     states: &mut [u8],
-    above: &Above<'_, W>,
+    above: &LinesAbove<'_, W>,
     cur: &mut [W],
 ) -> Result<(), FrameFault>
     requires frame { IsFrame frame.now }
@@ -295,6 +303,8 @@ pub(crate) fn read_at<W: LineWord, A: Allocator>(
         (length above.now.one.now) }
     requires cur_long { HasPlane frame.now.checked.now.configuration segment.now.index
         (length cur.old) }
+    requires kept { IsKept frame.now.checked.now.configuration segment.now.row
+        segment.now.plane segment.now.y (length above.now.kept.now) }
     requires room { length states.old ≡ row_slots frame.now.checked.now.configuration }
     requires held { AllHeld frame.now.checked.now.table states.old }
     ensures exact { (coded : ℕ → List ℕ) (next : ℕ) (s : State) →
@@ -306,6 +316,8 @@ pub(crate) fn read_at<W: LineWord, A: Allocator>(
         TiedLine a.configuration segment.now.plane offset segment.now.column segment.now.y
         (rolling_lines (W.samples above.now.two.now) (W.samples above.now.one.now)
         (W.samples cur.old)) s →
+        TiedKept a.configuration segment.now.row segment.now.plane segment.now.y
+        (W.samples above.now.kept.now) s →
         MatchResult result
         (λ _. StepMade a coded segment.now.row next frame.now.payload.now segment.now.plane offset
         segment.now.y segment.now.column columns.new states.new (W.samples above.now.two.now)
@@ -321,10 +333,20 @@ pub(crate) fn read_at<W: LineWord, A: Allocator>(
     ensures held { AllHeld frame.now.checked.now.table states.new }
 {
     range_laws::counters_from_zero_show_all_steps();
-    read_on(frame, segment, columns, states, above, cur)?;
+    places::slices_lie_beside_one_another();
+    let said = said_left(frame, segment, cur);
+    let lines = Above {
+        two: above.two,
+        one: above.one,
+    };
+    read_on(frame, segment, columns, states, &lines, cur)?;
     let column = &columns[segment.column];
     if is_overread(frame, column) {
         return Err(frame.fault_in(CodecFault::Overread, segment, 0));
+    }
+    match first_difference(frame, segment, said, above.kept, cur) {
+        Some(x) => return Err(fault_at(frame, CodecFault::Overlap, segment, x)),
+        None => (),
     }
     if lacks_ending(frame, segment, column) {
         return Err(frame.fault_in(CodecFault::Ending, segment, 0));

@@ -7,7 +7,7 @@ ghost use Rattle.ffv1_range.specs.Codes.{AreBytes};
 ghost use Rattle.ffv1_range.specs.History.{decisions_after};
 ghost use Rattle.ffv1_range.specs.Symbols.{Step};
 ghost use Rattle.ffv1_range.specs.Weight.{AreHeldBy};
-ghost use Rattle.ffv1_record.specs.Accepted.{Accepted, IsAccepted};
+ghost use Rattle.ffv1_record.specs.Accepted.{Accepted, IsAccepted, PassesAll, checks};
 ghost use Rattle.ffv1_record.specs.declared.config.Profile.TheVariants as profile;
 ghost use Rattle.ffv1_range.specs.Standard.{standard};
 ghost use Rattle.ffv1_range.specs.Renormalising.{decisions_a_byte};
@@ -204,6 +204,17 @@ pub fn answered_fault_is_of_decoding<S: LineSink>()
         Answers S.takes S.refuses a payload old new tally (Err f) →
         is_decode_fault f.fault ≡ true }
 {}
+
+/// A configuration that passes the checks of `Strict` has slices with no sample in common, so that
+/// no answer is that two of them say different values of one.
+pub fn strict_slices_do_not_differ<S: LineSink>()
+    ensures { (a : Accepted) (payload : List ℕ) (old new : S) (tally : Tally) (f : FrameFault) →
+        IsAccepted a.configuration a.table → PassesAll profile.Strict checks a.configuration →
+        Answers S.takes S.refuses a payload old new tally (Err f) →
+        f.fault ≢ codec_fault.Overlap }
+{
+    slice_laws::strict_slices_share_nothing();
+}
 
 /// With parity, a payload that differs from a good one within 32 neighbouring bits of one slice,
 /// its slice_size aside, is answered by the parity of that slice, before any line and any decision.

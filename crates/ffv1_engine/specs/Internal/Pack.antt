@@ -14,6 +14,8 @@ use Rattle.ffv1_engine.specs.Video.{Video, Begins, ReadsVideo, at_first, picture
 use Rattle.ffv1_engine.specs.Packing.{AllShort, IsFor}
 use Rattle.ffv1_engine.specs.Packing.{packed_frames, packed_head}
 use Rattle.ffv1_engine.specs.Pack.{FaultsPacked, HasHead}
+use Rattle.ffv1_engine.specs.declared.profile.Profile.{Profile}
+use Rattle.ffv1_engine.specs.Profiles.{greatest_depth}
 
 -- if the text is known, it begins with the video, and no picture is after it
 abbrev pub EndsVideo : ℕ → Option (List ℕ) → Option (List ℕ) → Video → Type 0
@@ -22,14 +24,14 @@ EndsVideo most old new v = Known old new (λ text rest.
     × (picture_next v.ppm most v.head (at_first v.pictures) left ≡ Ok (None, rest)))
 
 -- a video was read, at least one picture of it, and its file has this head and these frames
-pub record EncodesVideo (most : ℕ) (choice : Choice) (p : Passage) (head : Head)
+pub record EncodesVideo (profile : Profile) (choice : Choice) (p : Passage) (head : Head)
     (frames : List (List ℕ)) : Type 0 where
   pub video : Video
   pub accepted : Accepted
-  pub reads : ReadsVideo most p.old p.new video
-  pub ends : EndsVideo most p.old p.new video
-  pub deep : video.head.depth ≤ most
-  pub for : IsFor choice video.ppm video.head accepted
+  pub reads : ReadsVideo (greatest_depth profile) p.old p.new video
+  pub ends : EndsVideo (greatest_depth profile) p.old p.new video
+  pub deep : video.head.depth ≤ greatest_depth profile
+  pub for : IsFor profile choice video.ppm video.head accepted
   pub some : 0 < length video.pictures
   pub short : AllShort accepted video.head video.pictures
   pub head_is : head ≡ packed_head choice video accepted
@@ -37,12 +39,13 @@ pub record EncodesVideo (most : ℕ) (choice : Choice) (p : Passage) (head : Hea
   pub kept : p.after ≡ p.before
 
 -- why none was encoded
-abbrev pub StopsVideoBy : ℕ → Cause → Choice → Passage → Fault → Type 0
-StopsVideoBy most Reading choice p f = p.after ≡ one_more p.before
-StopsVideoBy most Writing choice p f = ⊥
-StopsVideoBy most Memory choice p f = (p.after ≡ p.before) × HasHead most p.old
-StopsVideoBy most Content choice p f =
-    (p.after ≡ p.before) × FaultsPacked most choice p.old p.new f
+abbrev pub StopsVideoBy : Profile → Cause → Choice → Passage → Fault → Type 0
+StopsVideoBy profile Reading choice p f = p.after ≡ one_more p.before
+StopsVideoBy profile Writing choice p f = ⊥
+StopsVideoBy profile Memory choice p f =
+    (p.after ≡ p.before) × HasHead (greatest_depth profile) p.old
+StopsVideoBy profile Content choice p f =
+    (p.after ≡ p.before) × FaultsPacked profile choice p.old p.new f
 
-abbrev pub StopsVideo : ℕ → Choice → Passage → Fault → Type 0
-StopsVideo most choice p f = StopsVideoBy most (cause_of f) choice p f
+abbrev pub StopsVideo : Profile → Choice → Passage → Fault → Type 0
+StopsVideo profile choice p f = StopsVideoBy profile (cause_of f) choice p f

@@ -13,6 +13,8 @@ use Rattle.ffv1_engine.specs.Faults.{Cause, cause_of}
 use Rattle.ffv1_engine.specs.Faults.Cause.{Reading, Writing, Memory, Content}
 use Rattle.ffv1_engine.specs.Grids.{choice_for}
 use Rattle.ffv1_engine.specs.Pack.{HasHead}
+use Rattle.ffv1_engine.specs.declared.profile.Profile.{Profile}
+use Rattle.ffv1_engine.specs.Profiles.{greatest_depth}
 use Rattle.ffv1_engine.specs.Packing.{IsFor}
 use Rattle.ffv1_engine.specs.Packing.{head_for}
 use Rattle.ffv1_engine.specs.Video.{video_head}
@@ -23,24 +25,26 @@ use Rattle.ffv1_engine.specs.PackMatroska.{FaultsBefore, StandsAfterHead, shown_
 
 -- a head was read, and its rate and a configuration for it are such as they have to be; the writer
 -- has written nothing
-pub record OpensMatroska (most : ℕ) (choice : Choice) (p : Passage) (r : VideoReading)
+pub record OpensMatroska (profile : Profile) (choice : Choice) (p : Passage) (r : VideoReading)
     (a : Accepted) (w : Writer) : Type 0 where
-  pub read : HeadRead most p r
+  pub read : HeadRead (greatest_depth profile) p r
   pub head : IsHeadOf r
-  pub for : IsFor (choice_for choice r.head) r.ppm r.head a
+  pub for : IsFor profile (choice_for profile choice r.head) r.ppm r.head a
   pub timed : IsTimed (rate_in (head_for choice r.ppm r.head a.configuration))
   pub fresh : w
       ≡ writing_of (head_for choice r.ppm r.head a.configuration) (shown_for r.head) []
 
 -- why not
-abbrev pub LacksMatroskaBy : ℕ → Cause → Choice → Passage → Fault → Type 0
-LacksMatroskaBy most Reading choice p f =
-    (p.after ≡ one_more p.before) × Known p.old p.new (Taken (Wants (video_head most)))
-LacksMatroskaBy most Writing choice p f = ⊥
-LacksMatroskaBy most Memory choice p f =
-    (p.after ≡ p.before) × HasHead most p.old × StandsAfterHead most p.old p.new
-LacksMatroskaBy most Content choice p f =
-    (p.after ≡ p.before) × FaultsBefore most choice p.old p.new f
+abbrev pub LacksMatroskaBy : Profile → Cause → Choice → Passage → Fault → Type 0
+LacksMatroskaBy profile Reading choice p f =
+    (p.after ≡ one_more p.before)
+    × Known p.old p.new (Taken (Wants (video_head (greatest_depth profile))))
+LacksMatroskaBy profile Writing choice p f = ⊥
+LacksMatroskaBy profile Memory choice p f =
+    (p.after ≡ p.before) × HasHead (greatest_depth profile) p.old
+    × StandsAfterHead (greatest_depth profile) p.old p.new
+LacksMatroskaBy profile Content choice p f =
+    (p.after ≡ p.before) × FaultsBefore profile choice p.old p.new f
 
-abbrev pub LacksMatroska : ℕ → Choice → Passage → Fault → Type 0
-LacksMatroska most choice p f = LacksMatroskaBy most (cause_of f) choice p f
+abbrev pub LacksMatroska : Profile → Choice → Passage → Fault → Type 0
+LacksMatroska profile choice p f = LacksMatroskaBy profile (cause_of f) choice p f

@@ -19,7 +19,7 @@ fn are_shown<T: Display>(rt: &impl Abort, alloc: Global, rows: &[(T, &str)]) {
 }
 
 /// Those of the engine.
-static ENGINE: [(Fault, &str); 62] = [
+static ENGINE: [(Fault, &str); 63] = [
     (Fault::StateTable, "1 StateTable"),
     (Fault::OutOfMemory, "2 OutOfMemory"),
     (Fault::BadStart, "3 BadStart"),
@@ -54,6 +54,7 @@ static ENGINE: [(Fault, &str); 62] = [
     (Fault::Leftover, "36 Leftover"),
     (Fault::SliceParity, "37 SliceParity"),
     (Fault::SliceStatus, "38 SliceStatus"),
+    (Fault::Overlap, "39 Overlap"),
     (Fault::SliceTooLong, "40 SliceTooLong"),
     (Fault::InfoDiffers, "41 InfoDiffers"),
     (Fault::Sink, "42 Sink"),
@@ -175,7 +176,7 @@ static SLICES: [(SliceFault, &str); 12] = [
 ];
 
 /// Those of the codec.
-static CODEC: [(CodecFault, &str); 18] = [
+static CODEC: [(CodecFault, &str); 19] = [
     (CodecFault::OutOfMemory, "2 OutOfMemory"),
     (CodecFault::BadStart, "3 BadStart"),
     (CodecFault::SymbolTooLong, "4 SymbolTooLong"),
@@ -191,6 +192,7 @@ static CODEC: [(CodecFault, &str); 18] = [
     (CodecFault::Leftover, "36 Leftover"),
     (CodecFault::SliceParity, "37 SliceParity"),
     (CodecFault::SliceStatus, "38 SliceStatus"),
+    (CodecFault::Overlap, "39 Overlap"),
     (CodecFault::SliceTooLong, "40 SliceTooLong"),
     (CodecFault::InfoDiffers, "41 InfoDiffers"),
     (CodecFault::Sink, "42 Sink"),

@@ -3,6 +3,7 @@
 
 mod checks;
 mod depths;
+mod edges;
 mod held;
 mod made;
 mod read;

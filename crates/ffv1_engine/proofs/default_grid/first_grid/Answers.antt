@@ -13,7 +13,7 @@ returns-in-Some c =
     let h = c.args.head.now in
     let left : 1025 - c.loop-slices.slices ≡ suc (1025 - (c.loop-slices.slices + 1)) =
     omega (arith, c.loop-slices-test.true) in
-    let here = lists_found (λ (g : Grid). has_grid c.args.depth h g.0 g.1) (grids_of c.args.wide)
+    let here = lists_found (λ (g : Grid). has_grid c.args.profile c.args.depth h g.0 g.1) (grids_of c.args.wide)
     c.loop-slices.slices _ _ c.in-Some.grid left (sym c.grid_of.ensures ∙ c.in-Some.is) in
     sym (sym c.loop-slices.invariant.0 ∙ here)
 
@@ -22,7 +22,7 @@ loop-slices-preserved c =
     let h = c.args.head.now in
     let left : 1025 - c.loop-slices.slices ≡ suc (1025 - (c.loop-slices.slices + 1)) =
     omega (arith, c.loop-slices-test.true) in
-    let so = lists_more (λ (g : Grid). has_grid c.args.depth h g.0 g.1) (grids_of c.args.wide)
+    let so = lists_more (λ (g : Grid). has_grid c.args.profile c.args.depth h g.0 g.1) (grids_of c.args.wide)
     c.loop-slices.slices _ _ left (sym c.grid_of.ensures ∙ c.in_default.is) in (
       sym so ∙ c.loop-slices.invariant.0,
       omega (arith, c.loop-slices.invariant.1),

@@ -6,8 +6,8 @@ use Rattle.ffv1_engine.proofs.default_grid.first_grid.Given as goal
 
 abbrev pub invariant-loop-slices : goal.invariant-loop-slices
 invariant-loop-slices l =
-    (left_in (λ (g : Grid). has_grid l.depth l.head g.0 g.1) (grids_of l.wide) l.slices (1025 - l.slices)
-    ≡ find (λ (g : Grid). has_grid l.depth l.head g.0 g.1) (grid_order l.wide))
+    (left_in (λ (g : Grid). has_grid l.profile l.depth l.head g.0 g.1) (grids_of l.wide) l.slices (1025 - l.slices)
+    ≡ find (λ (g : Grid). has_grid l.profile l.depth l.head g.0 g.1) (grid_order l.wide))
     × (4 ≤ l.slices) × (l.slices ≤ 1025)
 
 abbrev pub decreases-loop-slices : goal.decreases-loop-slices

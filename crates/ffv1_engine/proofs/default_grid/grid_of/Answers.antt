@@ -34,17 +34,17 @@ loop-columns-preserved c =
     let h = c.args.head.now in
     let few : Bool = nat_le rows (most_rows c.args.wide k) in
     let whole : Bool = k * rows == c.args.slices in
-    let none : ((whole && few) && has_grid c.args.depth h k rows) ≡ false =
+    let none : ((whole && few) && has_grid c.args.profile c.args.depth h k rows) ≡ false =
     elim c.else-columns-rows.branch [
       | else-columns-rows-via-then-columns-rows+then-rows-most+else-has_grid w ↦ third whole few
-          (has_grid c.args.depth h k rows) (sym w.has_grid.ensures ∙ w.if-has_grid.false)
+          (has_grid c.args.profile c.args.depth h k rows) (sym w.has_grid.ensures ∙ w.if-has_grid.false)
       | else-columns-rows-via-then-columns-rows+else-rows-most w ↦ second whole few
-          (has_grid c.args.depth h k rows) (grind (arith, nat_tests, w.if-rows-most.false))
-      | else-columns-rows-via-else-columns-rows w ↦ first whole few (has_grid c.args.depth h k rows)
+          (has_grid c.args.profile c.args.depth h k rows) (grind (arith, nat_tests, w.if-rows-most.false))
+      | else-columns-rows-via-else-columns-rows w ↦ first whole few (has_grid c.args.profile c.args.depth h k rows)
           (ne_eqb (k * rows) c.args.slices w.if-columns-rows.false)
     ] in
     let left : 33 - k ≡ suc (33 - (k + 1)) = omega (arith, c.loop-columns-test.true) in
-    let so = left_more (λ (g : Grid). has_grid c.args.depth h g.0 g.1)
+    let so = left_more (λ (g : Grid). has_grid c.args.profile c.args.depth h g.0 g.1)
     (λ g. (g.0 * g.1 == c.args.slices) && nat_le g.1 (most_rows c.args.wide g.0))
     (λ columns. (columns, c.args.slices / columns)) k _ _ left none in (
       sym so ∙ c.loop-columns.invariant.0,

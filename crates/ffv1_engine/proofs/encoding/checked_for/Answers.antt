@@ -4,7 +4,7 @@ use Rattle.ffv1_record.specs.Accepted.{IsFirstUpTo}
 use Rattle.ffv1_record.specs.Configuration.{at_depth, configuration_of}
 use Rattle.std.proofs.lemmas.Result.{err_from_is_err_and}
 use Rattle.ffv1_engine.specs.Packing.{configuration_for}
-use Rattle.ffv1_engine.specs.Profiles.{greatest_depth}
+use Rattle.ffv1_engine.specs.Profiles.{greatest_depth, record_profile}
 use Rattle.ffv1_engine.specs.Internal.VideoReads.{reading_of}
 use Rattle.ffv1_engine.proofs.VideoChecks.{own_in}
 use Rattle.ffv1_engine.proofs.encoding.checked_for.Goals as goal
@@ -18,8 +18,8 @@ returns-in_err-check_in-clause-err g c =
     c.args.choice.now (reading_of c.args.reader.now).ppm (reading_of c.args.reader.now).head =
     ap (at_depth (configuration_of c.in_ok-config.config)) c.depth.ensures.value ∙
     c.in_ok-config.ensures.ok in
-    let first = subst (λ z. IsFirstUpTo (greatest_depth c.args.profile) z f) k
-    (rw c.of_record.ensures at c.in_err-check_in.ensures.refused) in
+    let first = subst (λ z. IsFirstUpTo (record_profile c.args.profile)
+    (greatest_depth c.args.profile) z f) k (rw c.of_record.ensures at c.in_err-check_in.ensures.refused) in
     rw (p.1, p.2) (inr (f, first, refl))
 
 pub returns-clause-ok : goal.returns-clause-ok
@@ -28,6 +28,7 @@ returns-clause-ok g c = record {
       ap (at_depth (configuration_of c.in_ok-config.config)) c.depth.ensures.value ∙
       c.in_ok-config.ensures.ok;
   accepted = c.in_ok-check_in.ensures.accepted;
+  passes = rw c.of_record.ensures at c.in_ok-check_in.ensures.passes;
 }
 
 pub returns-in_err-check_in-clause-own : goal.returns-in_err-check_in-clause-own
@@ -39,8 +40,8 @@ returns-in_err-check_in-clause-own g c =
     c.args.choice.now (reading_of c.args.reader.now).ppm (reading_of c.args.reader.now).head =
     ap (at_depth (configuration_of c.in_ok-config.config)) c.depth.ensures.value ∙
     c.in_ok-config.ensures.ok in
-    let first = subst (λ z. IsFirstUpTo (greatest_depth c.args.profile) z f) k
-    (rw c.of_record.ensures at c.in_err-check_in.ensures.refused) in
+    let first = subst (λ z. IsFirstUpTo (record_profile c.args.profile)
+    (greatest_depth c.args.profile) z f) k (rw c.of_record.ensures at c.in_err-check_in.ensures.refused) in
     rw (p.1, p.2) (own_in c.args.profile c.args.choice.now (reading_of c.args.reader.now).ppm
     (reading_of c.args.reader.now).head f c.deltas_make_one_table.ensures.standard
     c.in_ok-config.ensures.head c.depth.ensures.least c.requires first)

@@ -12,9 +12,9 @@ use Rattle.ffv1_engine.proofs.encoding.encode_picture.Goals as goal
 pub unwrap-picture-requires : goal.unwrap-picture-requires
 unwrap-picture-requires g c =
     let more : c.in_ok-next.field-0 ≡ true = search in
-    is_made c.requires.suits.0 _ _ c.config.result.now.configuration _ _ c.new-2.result
+    is_made c.requires.suits.1 _ _ c.config.result.now.configuration _ _ c.new-2.result
     c.info_for-info.ensures.head (ap (λ a. a.configuration) c.config.ensures ∙
-    c.requires.suits.1.configuration) (ap (λ v. planes_of v.items) c.replace-lent.ensures.value)
+    c.requires.suits.2.configuration) (ap (λ v. planes_of v.items) c.replace-lent.ensures.value)
     (c.in_ok-next.ensures.fits more) (c.in_ok-next.ensures.depth more) c.new-2.ensures.none
 
 pub returns-clause-ok : goal.returns-clause-ok

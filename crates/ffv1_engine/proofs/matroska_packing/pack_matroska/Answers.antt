@@ -15,7 +15,7 @@ use Rattle.ffv1_engine.proofs.matroska_packing.pack_matroska.Goals as goal
 pub returns-in_err-reader-clause-err : goal.returns-in_err-reader-clause-err
 returns-in_err-reader-clause-err g c =
     let p = err_from_is_err_and c.from_residual.result c.from_residual.ensures.1 in
-    rw (p.1, p.2) (lacks _ c.args.choice.now _ (g.W.ByteOut.contents c.args.output.now)
+    rw (p.1, p.2) (lacks c.args.profile c.args.choice.now _ (g.W.ByteOut.contents c.args.output.now)
     (g.W.ByteOut.failures c.args.output.now) c.in_err-reader.field-0.0
     c.in_err-reader.ensures.err)
 
@@ -23,12 +23,12 @@ pub returns-in_err-packed-clause-err : goal.returns-in_err-packed-clause-err
 returns-in_err-packed-clause-err g c =
     let p = err_from_is_err_and c.from_residual-in_err-packed.result
     c.from_residual-in_err-packed.ensures.1 in
-    rw (p.1, p.2) (putting_stops _ c.args.choice.now _ _ _ _ c.in_ok-reader.ensures.ok _ _ refl refl
+    rw (p.1, p.2) (putting_stops c.args.profile c.args.choice.now _ _ _ _ c.in_ok-reader.ensures.ok _ _ refl refl
     c.in_err-packed.field-0.0 c.in_err-packed.ensures.err)
 
 pub returns-then-packed-eq0-clause-err : goal.returns-then-packed-eq0-clause-err
 returns-then-packed-eq0-clause-err g c =
-    no_pictures _ c.args.choice.now _ _ _ _ c.in_ok-reader.ensures.ok _ _ refl refl _ _
+    no_pictures c.args.profile c.args.choice.now _ _ _ _ c.in_ok-reader.ensures.ok _ _ refl refl _ _
     c.in_ok-packed.ensures.ok c.if-packed-eq0.true
 
 pub returns-in_err-finished-clause-err : goal.returns-in_err-finished-clause-err
@@ -48,7 +48,7 @@ returns-in_err-finished-clause-err g c =
     c.finish.new.out in
     let finishes = c.in_err-finished.ensures.answer (ap (λ (x : Writing). x.failed) put.is)
     (subst (λ n. 0 < n) (put.frames_are ∙ sym (ap (λ (x : Writing). x.count) put.is)) many) in
-    rw (p.1, p.2) (finish_stops _ c.args.choice.now _ _ _ _ c.in_ok-reader.ensures.ok _ _ refl refl
+    rw (p.1, p.2) (finish_stops c.args.profile c.args.choice.now _ _ _ _ c.in_ok-reader.ensures.ok _ _ refl refl
     _ _ c.in_ok-packed.ensures.ok laws c.text_is_read_as_its_pictures.ensures.only
     c.text_is_read_as_its_images.ensures.told out refl refl many c.in_err-finished.field-0.0
     finishes)
@@ -82,7 +82,7 @@ returns-clause-ok g c =
     c.finish.new.out in
     let finishes = c.in_ok-finished.ensures.answer (ap (λ (x : Writing). x.failed) put.is)
     (subst (λ n. 0 < n) (put.frames_are ∙ sym (ap (λ (x : Writing). x.count) put.is)) many) in
-    packs _ c.args.choice.now _ _ _ _ c.in_ok-reader.ensures.ok _ _ refl refl _ _
+    packs c.args.profile c.args.choice.now _ _ _ _ c.in_ok-reader.ensures.ok _ _ refl refl _ _
     c.in_ok-packed.ensures.ok laws c.text_is_read_as_its_pictures.ensures.only
     c.text_is_read_as_its_images.ensures.told out refl refl many c.in_ok-finished.finished
     finishes

@@ -10,20 +10,20 @@ use Rattle.ffv1_engine.proofs.packing.encode_video.Goals as goal
 pub returns-in_err-reader-clause-err : goal.returns-in_err-reader-clause-err
 returns-in_err-reader-clause-err g c =
     let p = err_from_is_err_and c.from_residual.result c.from_residual.ensures.1 in
-    rw (p.1, p.2) (no_head _ c.args.choice.now _ c.in_err-reader.field-0.0
+    rw (p.1, p.2) (no_head c.args.profile c.args.choice.now _ c.in_err-reader.field-0.0
     c.in_err-reader.ensures.err)
 
 pub returns-in_err-head-clause-err : goal.returns-in_err-head-clause-err
 returns-in_err-head-clause-err g c =
     let p = err_from_is_err_and c.from_residual-in_err-head.result
     c.from_residual-in_err-head.ensures.1 in
-    rw (p.1, p.2) (wants_memory _ _ _ _ _ c.in_ok-reader.ensures.ok c.in_err-head.ensures.err)
+    rw (p.1, p.2) (wants_memory c.args.profile _ _ _ _ c.in_ok-reader.ensures.ok c.in_err-head.ensures.err)
 
 pub returns-in_err-encoder-clause-err : goal.returns-in_err-encoder-clause-err
 returns-in_err-encoder-clause-err g c =
     let p = err_from_is_err_and c.from_residual-in_err-encoder.result
     c.from_residual-in_err-encoder.ensures.1 in
-    rw (p.1, p.2) (rejected _ c.args.choice.now _ _ c.in_err-encoder.field-0.0
+    rw (p.1, p.2) (rejected c.args.profile c.args.choice.now _ _ c.in_err-encoder.field-0.0
     c.in_ok-reader.ensures.ok c.in_err-encoder.ensures.err)
 
 pub returns-in_err-encode_pictures-clause-err : goal.returns-in_err-encode_pictures-clause-err
@@ -31,7 +31,7 @@ returns-in_err-encode_pictures-clause-err g c =
     let p = err_from_is_err_and c.from_residual-in_err-encode_pictures.result
     c.from_residual-in_err-encode_pictures.ensures.1 in
     let for = c.in_ok-encoder.ensures.ok in
-    rw (p.1, p.2) (stops _ c.args.choice.now _ _ _ _ c.in_err-encode_pictures.field-0.0 refl refl
+    rw (p.1, p.2) (stops c.args.profile c.args.choice.now _ _ _ _ c.in_err-encode_pictures.field-0.0 refl refl
     c.in_ok-reader.ensures.ok for c.in_err-encode_pictures.ensures.err)
 
 pub returns-then-is_empty-clause-err : goal.returns-then-is_empty-clause-err
@@ -39,7 +39,7 @@ returns-then-is_empty-clause-err g c =
     let for = c.in_ok-encoder.ensures.ok in
     let empty : length c.encode_pictures.new.frames.items ≡ 0 = empty_of
     c.encode_pictures.new.frames _ c.is_empty.ensures c.if-is_empty.true in
-    none _ c.args.choice.now _ _ _ _ _ refl refl c.in_ok-reader.ensures.ok for
+    none c.args.profile c.args.choice.now _ _ _ _ _ refl refl c.in_ok-reader.ensures.ok for
     c.in_ok-encode_pictures.ensures.ok (no_frames _ empty)
 
 pub returns-clause-ok : goal.returns-clause-ok
@@ -49,6 +49,6 @@ returns-clause-ok g c =
     (arith, common_steps, c.is_empty.ensures, c.if-is_empty.false) in
     let head = rw c.config.ensures at c.in_ok-head.ensures.ok in
     encodes_video c.text_is_read_as_its_pictures.ensures.only
-    c.text_is_read_as_its_images.ensures.told _ c.args.choice.now _ _ _ _ _ _ refl refl
+    c.text_is_read_as_its_images.ensures.told c.args.profile c.args.choice.now _ _ _ _ _ _ refl refl
     c.in_ok-reader.ensures.ok c.in_ok-reader.ensures.head for c.in_ok-encode_pictures.ensures.ok
     (some_frames _ some) head

@@ -16,7 +16,7 @@ pub returns-in_err-write_avi-clause-err : goal.returns-in_err-write_avi-clause-e
 returns-in_err-write_avi-clause-err g c =
     let p = err_from_is_err_and c.from_residual-in_err-write_avi.result
     c.from_residual-in_err-write_avi.ensures.1 in
-    rw (p.1, p.2) (file_refused _ c.args.choice.now _ _ _ _ c.in_ok-stream.ensures.ok
+    rw (p.1, p.2) (file_refused c.args.profile c.args.choice.now _ _ _ _ c.in_ok-stream.ensures.ok
     c.in_err-write_avi.field-0.0 (subst (λ fs. WritesFile
     (passage g.W.ByteOut.contents g.W.ByteOut.failures c.args.output.now c.write_avi.new.out)
     (head_of c.in_ok-stream.stream.head) (frames_of fs) (Err c.in_err-write_avi.field-0.0))
@@ -36,7 +36,7 @@ returns-clause-ok g c =
     let written = subst (λ fs. WritesFile (passage g.W.ByteOut.contents g.W.ByteOut.failures
     c.args.output.now c.write_avi.new.out) (head_of c.in_ok-stream.stream.head) (frames_of fs)
     (Ok c.in_ok-write_avi.field-0)) c.deref.ensures.value c.in_ok-write_avi.ensures in
-    file_written _ c.args.choice.now _ _ _ _ c.in_ok-stream.ensures.ok _
+    file_written c.args.profile c.args.choice.now _ _ _ _ c.in_ok-stream.ensures.ok _
     (record { frames = c.len.result; bytes = c.bytes_in.result }) written
     (c.len.ensures ∙ many_frames c.in_ok-stream.stream.frames)
     (c.bytes_in.ensures ∙ ap (λ fs. bytes_in (frames_of fs)) c.deref-2.ensures.value)

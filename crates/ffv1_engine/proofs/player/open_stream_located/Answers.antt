@@ -5,7 +5,7 @@ use Rattle.ffv1_wire.specs.Passage.{passage}
 use Rattle.ffv1_record.specs.Reading.{IsRefused, ReachesSets}
 use Rattle.ffv1_record.specs.declared.fault.RecordFault.TheVariants as record_fault
 use Rattle.ffv1_reads.specs.Head.{Head}
-use Rattle.ffv1_engine.specs.Profiles.{greatest_depth, scope_in}
+use Rattle.ffv1_engine.specs.Profiles.{greatest_depth, record_profile, scope_in}
 use Rattle.ffv1_engine.specs.Stream.{IsStream}
 use Rattle.ffv1_engine.proofs.FaultsLocated.{record_located}
 use Rattle.ffv1_engine.proofs.Openings.{lacks_file, lacks_record}
@@ -21,8 +21,8 @@ returns-in_err-checked-clause-err g c =
     (lacks_record c.args.profile (passage g.R.ByteIn.remaining g.R.ByteIn.failures c.args.input.now
     c.open_located.new.input) c.in_ok-reader.reader.head c.in_ok-reader.reader.place f
     c.in_ok-reader.ensures.answer.0 (rw c.scope.ensures at c.in_ok-reader.ensures.answer.1)
-    (subst (λ (z : Head). (f ≡ record_fault.OutOfMemory) ⊎ IsRefused (greatest_depth c.args.profile)
-    z.config_record z.width z.height f) c.head.ensures.value c.in_err-checked.ensures.err)
+    (subst (λ (z : Head). (f ≡ record_fault.OutOfMemory) ⊎ IsRefused (record_profile
+    c.args.profile) (greatest_depth c.args.profile) z.config_record z.width z.height f) c.head.ensures.value c.in_err-checked.ensures.err)
     (λ memory. subst (λ (z : Head). ReachesSets (greatest_depth c.args.profile) z.config_record)
     c.head.ensures.value (c.in_err-checked.ensures.memory memory)))
 

@@ -10,6 +10,7 @@ returns-in-Ok-clause-ok g c = record {
   width = c.in-Ok.ensures.width;
   height = c.in-Ok.ensures.height;
   accepted = c.in-Ok.ensures.accepted;
+  passes = rw c.of_record.ensures at c.in-Ok.ensures.passes;
   profiled = c.in-Ok.ensures.profile ∙ c.of_record.ensures;
   deep = depth_within (greatest_depth c.args.profile) c.in-Ok.checked.configuration
       (rw c.of_record.ensures at c.in-Ok.ensures.depth);

@@ -100,7 +100,7 @@ returns-clause-read c = read_in
 pub returns-clause-holds : goal.returns-clause-holds
 returns-clause-holds c = λ packing profile choice text w read.
     holds profile (file_laws profile c) (frame_laws c) (record_laws c) choice text w.packs.video
-    (accepted_in profile w) refl read (given packing profile choice text w)
+    (accepted_in profile w) refl read.deep (given packing profile choice text w read)
     (packed_file choice w.packs.video (accepted_in profile w))
     (avi_reads packing profile (file_laws profile c) (frame_laws c) (record_laws c) choice text w
     read) (IsFileIn profile) (avi_is packing profile (file_laws profile c) (frame_laws c)
@@ -109,7 +109,7 @@ returns-clause-holds c = λ packing profile choice text w read.
 pub returns-clause-written : goal.returns-clause-written
 returns-clause-written c = λ packing profile choice text w input output count read.
     written profile (file_laws profile c) (frame_laws c) (record_laws c) choice text w.packs.video
-    (accepted_in profile w) refl read (given packing profile choice text w)
+    (accepted_in profile w) refl read.deep (given packing profile choice text w read)
     (packed_file choice w.packs.video (accepted_in profile w))
     (avi_reads packing profile (file_laws profile c) (frame_laws c) (record_laws c) choice text w
     read) input output count
@@ -117,7 +117,7 @@ returns-clause-written c = λ packing profile choice text w input output count r
 pub returns-clause-refused : goal.returns-clause-refused
 returns-clause-refused c = λ packing profile choice text w input output f read known stops.
     unpack_refused profile (file_laws profile c) (frame_laws c) (record_laws c) choice text
-    w.packs.video (accepted_in profile w) refl read (given packing profile choice text w)
+    w.packs.video (accepted_in profile w) refl read.deep (given packing profile choice text w read)
     (packed_file choice w.packs.video (accepted_in profile w))
     (avi_reads packing profile (file_laws profile c) (frame_laws c) (record_laws c) choice text w
     read) input output known f stops
@@ -125,7 +125,7 @@ returns-clause-refused c = λ packing profile choice text w input output f read 
 pub returns-clause-checked : goal.returns-clause-checked
 returns-clause-checked c = λ packing profile choice text w place input output f read known stops.
     check_refused profile (file_laws profile c) (frame_laws c) (record_laws c) choice text
-    w.packs.video (accepted_in profile w) refl read (given packing profile choice text w)
+    w.packs.video (accepted_in profile w) refl read.deep (given packing profile choice text w read)
     (packed_file choice w.packs.video (accepted_in profile w))
     (avi_reads packing profile (file_laws profile c) (frame_laws c) (record_laws c) choice text w
     read) input output known place f stops
@@ -133,7 +133,7 @@ returns-clause-checked c = λ packing profile choice text w place input output f
 pub returns-clause-shown : goal.returns-clause-shown
 returns-clause-shown c = λ packing profile choice text w cost input output f read known stops.
     show_refused profile (file_laws profile c) (frame_laws c) (record_laws c) choice text
-    w.packs.video (accepted_in profile w) refl read (given packing profile choice text w)
+    w.packs.video (accepted_in profile w) refl read.deep (given packing profile choice text w read)
     (packed_file choice w.packs.video (accepted_in profile w))
     (avi_reads packing profile (file_laws profile c) (frame_laws c) (record_laws c) choice text w
     read) input output known cost f stops
@@ -155,39 +155,39 @@ returns-clause-ppm c = same_ppm
 pub returns-clause-matroska_holds : goal.returns-clause-matroska_holds
 returns-clause-matroska_holds c = λ packing choice text w.
     holds Wide (file_laws Wide c) (frame_laws c) (record_laws c)
-    (choice_for choice w.packs.video.head) text w.packs.video (accepted_wide w) refl
-    (read_wide packing choice text w) (of_matroska packing choice text w) (matroska_file w)
+    (choice_for packing choice w.packs.video.head) text w.packs.video (accepted_wide w) refl
+    (read_wide packing choice text w).deep (of_matroska packing choice text w) (matroska_file w)
     (file_reads packing (frame_laws c) (record_laws c) (matroska_laws c) choice text w) MatroskaFile
     (file_is packing (frame_laws c) (record_laws c) (matroska_laws c) choice text w)
 
 pub returns-clause-matroska_written : goal.returns-clause-matroska_written
 returns-clause-matroska_written c = λ packing choice text w.
     written Wide (file_laws Wide c) (frame_laws c) (record_laws c)
-    (choice_for choice w.packs.video.head) text w.packs.video (accepted_wide w) refl
-    (read_wide packing choice text w) (of_matroska packing choice text w) (matroska_file w)
+    (choice_for packing choice w.packs.video.head) text w.packs.video (accepted_wide w) refl
+    (read_wide packing choice text w).deep (of_matroska packing choice text w) (matroska_file w)
     (file_reads packing (frame_laws c) (record_laws c) (matroska_laws c) choice text w)
 
 pub returns-clause-matroska_refused : goal.returns-clause-matroska_refused
 returns-clause-matroska_refused c = λ packing choice text w input output f known stops.
     unpack_refused Wide (file_laws Wide c) (frame_laws c) (record_laws c)
-    (choice_for choice w.packs.video.head) text w.packs.video (accepted_wide w) refl
-    (read_wide packing choice text w) (of_matroska packing choice text w) (matroska_file w)
+    (choice_for packing choice w.packs.video.head) text w.packs.video (accepted_wide w) refl
+    (read_wide packing choice text w).deep (of_matroska packing choice text w) (matroska_file w)
     (file_reads packing (frame_laws c) (record_laws c) (matroska_laws c) choice text w) input output
     known f stops
 
 pub returns-clause-matroska_checked : goal.returns-clause-matroska_checked
 returns-clause-matroska_checked c = λ packing choice text w place input output f known stops.
     check_refused Wide (file_laws Wide c) (frame_laws c) (record_laws c)
-    (choice_for choice w.packs.video.head) text w.packs.video (accepted_wide w) refl
-    (read_wide packing choice text w) (of_matroska packing choice text w) (matroska_file w)
+    (choice_for packing choice w.packs.video.head) text w.packs.video (accepted_wide w) refl
+    (read_wide packing choice text w).deep (of_matroska packing choice text w) (matroska_file w)
     (file_reads packing (frame_laws c) (record_laws c) (matroska_laws c) choice text w) input output
     known place f stops
 
 pub returns-clause-matroska_shown : goal.returns-clause-matroska_shown
 returns-clause-matroska_shown c = λ packing choice text w cost input output f known stops.
     show_refused Wide (file_laws Wide c) (frame_laws c) (record_laws c)
-    (choice_for choice w.packs.video.head) text w.packs.video (accepted_wide w) refl
-    (read_wide packing choice text w) (of_matroska packing choice text w) (matroska_file w)
+    (choice_for packing choice w.packs.video.head) text w.packs.video (accepted_wide w) refl
+    (read_wide packing choice text w).deep (of_matroska packing choice text w) (matroska_file w)
     (file_reads packing (frame_laws c) (record_laws c) (matroska_laws c) choice text w) input output
     known cost f stops
 
@@ -209,5 +209,5 @@ returns-clause-matroska_ppm c = λ packing choice text w is. ppm_by w.packs.vide
     w.packs.video.head w.packs.video.pictures is
 
 pub returns-clause-begun : goal.returns-clause-begun
-returns-clause-begun c = λ choice v a has some rated. begun_read (matroska_laws c) choice v a some
-    (writable (frame_laws c) (record_laws c) choice v a has some rated)
+returns-clause-begun c = λ profile choice v a has some rated. begun_read (matroska_laws c) choice v a some
+    (writable profile (frame_laws c) (record_laws c) choice v a has some rated)

@@ -13,7 +13,7 @@ returns-clause-read c = λ most bytes width height bits x f are h. ordered bytes
     width height h
 
 pub returns-clause-refused : goal.returns-clause-refused
-returns-clause-refused c = λ most bytes width height bits x f are long whole h.
+returns-clause-refused c = λ p most bytes width height bits x f are long whole h.
     inr (inr (
       long,
       whole,
@@ -25,5 +25,5 @@ pub returns-clause-found : goal.returns-clause-found
 returns-clause-found c = λ most bytes width height f h. first_bad bytes most width height f h
 
 pub returns-clause-because : goal.returns-clause-because
-returns-clause-because c = λ most bytes width height f h. refused_because most bytes width height f
-    h
+returns-clause-because c = λ p most bytes width height f h. refused_because p most bytes width height
+    f h

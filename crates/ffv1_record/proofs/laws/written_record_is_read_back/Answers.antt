@@ -9,5 +9,5 @@ pub returns-clause-stored : goal.returns-clause-stored
 returns-clause-stored c = λ x t is. c.written_bytes_are_a_record.ensures x
 
 pub returns-clause-none : goal.returns-clause-none
-returns-clause-none c = λ x t most f is low refused. no_refusal most (record_of x) (record_bytes x)
-    x t f is low (c.written_bytes_are_a_record.ensures x) refused
+returns-clause-none c = λ p x t most f is passes low refused. no_refusal p most (record_of x)
+    (record_bytes x) x t f is passes low (c.written_bytes_are_a_record.ensures x) refused

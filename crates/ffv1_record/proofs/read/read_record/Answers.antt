@@ -12,5 +12,5 @@ returns-in-Ok-clause-depth g c =
     omega (arith, least, most)
 
 pub returns-in-Ok-clause-only : goal.returns-in-Ok-clause-only
-returns-in-Ok-clause-only g c = λ x t wide high eight is stored. c.in-Ok.ensures.only x t wide high
-    (omega (arith, eight)) is stored
+returns-in-Ok-clause-only g c = λ x t wide high eight is passes stored. c.in-Ok.ensures.only x t wide
+    high (omega (arith, eight)) is passes stored

@@ -62,7 +62,7 @@ returns-in_err-read-clause-exact g c =
     let p = err_from_is_err_and c.from_residual-in_err-read.result
     c.from_residual-in_err-read.ensures.1 in
     rw (p.1, p.2) (not_read (deepest c.args.profile c.args.most) c.args.bytes.now c.args.width
-    c.args.height _ _ long whole c.in_ok-reader.ensures.ok _
+    c.args.height _ _ long whole c.in_ok-reader.ensures.ok c.args.profile _
     (seen_err (λ r. at_depth (configuration_of r.0) r.1) _ _ _ _
     (rw c.deepest-greatest.ensures at c.in_err-read.ensures.gives)))
 
@@ -74,18 +74,18 @@ returns-in-Err-clause-exact g c =
     (λ k. omega (arith, c.type_inv.bytes k))).0
     (omega (arith, c.parity.ensures, c.if-parity-ne0.false)) in
     inr (not_checked (deepest c.args.profile c.args.most) c.args.bytes.now c.args.width
-    c.args.height _ _ long whole c.in_ok-reader.ensures.ok _ _
+    c.args.height _ _ long whole c.in_ok-reader.ensures.ok c.args.profile _ _
     (seen (λ r. at_depth (configuration_of r.0) r.1) _ _ _ _
     (rw c.deepest-greatest.ensures at c.in_ok-read.ensures.gives)) c.in-Err.ensures.refused)
 
 pub returns-in_err-reader-clause-only : goal.returns-in_err-reader-clause-only
-returns-in_err-reader-clause-only g c = λ x t wide high low is stored.
+returns-in_err-reader-clause-only g c = λ x t wide high low is passes stored.
     let are : AreBytes (body_of c.args.bytes.now) = taken_bytes c.args.bytes.now
     (length c.args.bytes.now - 4) (λ k. omega (arith, c.type_inv.bytes k)) in
     absurd (good_start c.args.bytes.now are x t is stored _ low c.in_err-reader.ensures.refused.1)
 
 pub returns-in_err-read-clause-only : goal.returns-in_err-read-clause-only
-returns-in_err-read-clause-only g c = λ x t wide high low is stored.
+returns-in_err-read-clause-only g c = λ x t wide high low is passes stored.
     let are : AreBytes (body_of c.args.bytes.now) = taken_bytes c.args.bytes.now
     (length c.args.bytes.now - 4) (λ k. omega (arith, c.type_inv.bytes k)) in
     let p = err_from_is_err_and c.from_residual-in_err-read.result
@@ -96,7 +96,7 @@ returns-in_err-read-clause-only g c = λ x t wide high low is stored.
     (rw c.deepest-greatest.ensures at c.in_err-read.ensures.gives)))
 
 pub returns-in-Ok-clause-only : goal.returns-in-Ok-clause-only
-returns-in-Ok-clause-only g c = λ x t wide high low is stored.
+returns-in-Ok-clause-only g c = λ x t wide high low is passes stored.
     let are : AreBytes (body_of c.args.bytes.now) = taken_bytes c.args.bytes.now
     (length c.args.bytes.now - 4) (λ k. omega (arith, c.type_inv.bytes k)) in
     c.in-Ok.ensures.ok ∙ read_is c.args.bytes.now are x t is stored _ low c.args.width c.args.height
@@ -105,7 +105,7 @@ returns-in-Ok-clause-only g c = λ x t wide high low is stored.
     (rw c.deepest-greatest.ensures at c.in_ok-read.ensures.gives))
 
 pub returns-in-Err-clause-only : goal.returns-in-Err-clause-only
-returns-in-Err-clause-only g c = λ x t wide high low is stored.
+returns-in-Err-clause-only g c = λ x t wide high low is passes stored.
     let are : AreBytes (body_of c.args.bytes.now) = taken_bytes c.args.bytes.now
     (length c.args.bytes.now - 4) (λ k. omega (arith, c.type_inv.bytes k)) in
     let same = read_is c.args.bytes.now are x t is stored _ low c.args.width c.args.height wide high
@@ -113,8 +113,9 @@ returns-in-Err-clause-only g c = λ x t wide high low is stored.
     (rw c.deepest-greatest.ensures at c.in_ok-read.ensures.gives)) in
     let most = deepest c.args.profile c.args.most in
     let deep = depth_up_to 16 most x.depth is.depth low in
-    absurd (none_stands checks x c.in-Err.fault is.passes
-    (first_of most x c.in-Err.fault deep (subst (λ (z : Configuration). IsFirstUpTo most z
+    absurd (none_stands c.args.profile checks x c.in-Err.fault passes
+    (first_of c.args.profile most x c.in-Err.fault deep
+    (subst (λ (z : Configuration). IsFirstUpTo c.args.profile most z
     c.in-Err.fault) same c.in-Err.ensures.refused)))
 
 pub returns-in_err-read-clause-memory : goal.returns-in_err-read-clause-memory

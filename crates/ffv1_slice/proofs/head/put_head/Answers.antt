@@ -1,9 +1,10 @@
 -- Puts the head of a slice, whose number in raster order gives its place, by 32 fresh states.
-use Rattle.std.proofs.Common.{◌++◌, arith}
+use Rattle.std.proofs.Common.{◌++◌, ◌/◌, ◌<◌, ◌^◌, ap, subst, arith}
 use Rattle.std.proofs.lemmas.Grind.{common_steps}
-use Rattle.ffv1_record.specs.Configuration.{configuration_of}
+use Rattle.ffv1_record.specs.Configuration.{Configuration, configuration_of}
 use Rattle.ffv1_slice.specs.Head.{head_values, place_of, indexes_of, info_of, values_steps}
 use Rattle.ffv1_range.proofs.Growth.{on_err}
+use Rattle.ffv1_slice.proofs.Tilings.{few_rows}
 use Rattle.ffv1_slice.proofs.CallsGive.{refused_first_of, refused_behind}
 use Rattle.ffv1_slice.proofs.Symbols.{puts_at}
 use Rattle.ffv1_slice.proofs.CallsGive.{and_puts, values_below}
@@ -64,4 +65,12 @@ pub put_place-requires-clause-column : goal.put_place-requires-clause-column
 put_place-requires-clause-column g c = grind (arith, common_steps)
 
 pub put_place-requires-clause-row : goal.put_place-requires-clause-row
-put_place-requires-clause-row g c = grind (arith, common_steps)
+put_place-requires-clause-row g c =
+    let config = c.args.checked.now.configuration in
+    let table = c.args.checked.now.table in
+    let accepted = c.config-config.ensures.accepted in
+    let columns = c.accepted_configuration_is_in_range.ensures.columns config table accepted in
+    let rows = c.accepted_configuration_is_in_range.ensures.rows config table accepted in
+    let same = ap (λ (x : Configuration). x.columns) c.config-config.ensures.value in
+    subst (λ k. c.args.slice / k < 2 ^ 31) same (few_rows c.args.slice config.columns config.rows
+    columns.0 rows.1 c.requires.slice)

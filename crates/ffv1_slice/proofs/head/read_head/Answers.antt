@@ -42,7 +42,7 @@ returns-in_err-structure-clause-refused g c =
     (refused_head c.args.checked.now.profile config c.args.slice c.table-table.result.now
     c.args.decoder.now c.get_info.new.decoder c.get_info.new.states
     c.from_residual-in_err-structure.result c.from_residual-in_err-structure.ensures.1
-    (rw (← c.len.ensures.count, ← c.profile.ensures)
+    (rw (← c.len.ensures.count, ← c.profile.ensures.value)
     (and_stops c.in_ok-get_place.ensures.gives
     (and_stops c.in_ok-indexes.ensures.gives c.in_err-structure.ensures.gives))))
 
@@ -61,7 +61,7 @@ returns-clause-head g c =
     let all : Gives c.table-table.result.now (head_rules c.args.checked.now.profile config
     c.args.slice) c.args.decoder.now (replicate 32 128) c.get_info.new.decoder
     c.get_info.new.states (Ok (head_values config c.args.slice h)) =
-    rw (← c.len.ensures.count, ← c.profile.ensures)
+    rw (← c.len.ensures.count, ← c.profile.ensures.value)
     (and_gives c.in_ok-get_place.ensures.gives
     (and_gives c.in_ok-indexes.ensures.gives c.in_ok-structure.ensures.gives)) in
     rw c.config-config.ensures.value (is_head c.args.checked.now.profile config c.args.slice 0 h
@@ -81,6 +81,6 @@ returns-clause-ok g c =
     rw (← c.table-table.ensures.value, c.config-config.ensures.value)
     (found_head c.args.checked.now.profile config c.args.slice h c.table-table.result.now
     c.args.decoder.now c.get_info.new.decoder c.get_info.new.states
-    (rw (← c.len.ensures.count, ← c.profile.ensures)
+    (rw (← c.len.ensures.count, ← c.profile.ensures.value)
     (and_gives c.in_ok-get_place.ensures.gives
     (and_gives c.in_ok-indexes.ensures.gives c.in_ok-structure.ensures.gives))))

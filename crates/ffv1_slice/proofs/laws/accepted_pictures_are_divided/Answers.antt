@@ -1,5 +1,5 @@
 -- Pictures of a configuration that was checked are divided so.
-use Rattle.ffv1_slice.proofs.Parts.{clean_covered}
+use Rattle.ffv1_slice.proofs.Parts.{reach_covered}
 use Rattle.ffv1_slice.proofs.Tilings.{few_planes}
 use Rattle.ffv1_slice.proofs.laws.accepted_pictures_are_divided.Goals as goal
 
@@ -24,7 +24,7 @@ returns c = λ x t is.
       high = rows.2;
       log2_h = factors.0;
       log2_v = factors.1;
-      covered_h = clean_covered (record { size = x.width; count = x.columns; log2 = x.log2_h }) columns.0 columns.2 edges.0;
-      covered_v = clean_covered (record { size = x.height; count = x.rows; log2 = x.log2_v }) rows.0 rows.2 edges.1;
+      covered_h = reach_covered (record { size = x.width; count = x.columns; log2 = x.log2_h }) columns.0 edges.0;
+      covered_v = reach_covered (record { size = x.height; count = x.rows; log2 = x.log2_v }) rows.0 edges.1;
       planes = few_planes x.chroma_planes x.extra_plane;
     }

@@ -1,6 +1,7 @@
 use Rattle.std.proofs.Common.{◌≡◌, ◌<◌}
 use Rattle.std.specs.Prelude.{IsSome}
-use Rattle.ffv1_codec.specs.Internal.Buffers.{KeepsLengths}
+use Rattle.ffv1_codec.specs.Internal.Buffers.{KeepsLengths, samples_of_lines}
+use Rattle.ffv1_codec.specs.Internal.Shared.{kept_in}
 use Rattle.ffv1_codec.specs.Internal.Opened.{coded_by}
 use Rattle.ffv1_codec.specs.Internal.Rows.{RowsDecoded}
 use Rattle.ffv1_codec.proofs.decode.frame.decode_rows.Given as goal
@@ -11,5 +12,6 @@ invariant-loop-row g l = record {
   known : 0 < l.row → IsSome l.first;
   counted : g.S.LineSink.failures l.sink ≡ g.S.LineSink.failures l.fn.sink;
   rows : RowsDecoded g.S.LineSink.takes g.S.LineSink.refuses l.checked
-      (coded_by l.checked l.payload l.spans) l.fn.sink l.row l.tally l.first l.sink;
+      (coded_by l.checked l.payload l.spans) l.fn.sink l.row l.tally
+      (kept_in l.checked.configuration (samples_of_lines l.buffers.lines)) l.first l.sink;
 }

@@ -14,7 +14,8 @@ small g c =
     let p = c.args.plane in
     let are = c.slices_lie_beside_one_another.ensures.down conf c.args.frame.now.checked.now.table p
     c.requires.frame.accepted in
-    let top : c.first_top-top.result ≡ top_of conf p c.args.line.now.row = rw c.requires.frame.grid at
+    let top : c.first_top-top.result ≡ top_of conf p c.args.line.now.row = rw c.requires.frame.grid
+    at
     c.first_top-top.ensures in
     let all = inside (down (division_of conf) p) are c.args.line.now.row c.requires.row in
     let sizes = c.accepted_configuration_is_in_range.ensures.sizes conf

@@ -2,7 +2,6 @@
 use Rattle.std.proofs.Common.{rules, ◌≡◌, ℕ, ◌+◌, ◌-◌, ◌<◌, ◌≤◌, refl, ap, subst, ◌∙◌, Some, length}
 use Rattle.std.proofs.Common.{slice_index, replicate, ◌++◌, arith}
 use Rattle.std.proofs.lemmas.Result.{err_from_is_err_and}
-use Rattle.std.proofs.lemmas.Grind.{elements}
 use Rattle.ffv1_codec.specs.Internal.Stands.{told_by, tally_after, window}
 use Rattle.ffv1_range.specs.Codes.{value}
 use Rattle.ffv1_range.specs.History.{HasStates}
@@ -176,4 +175,8 @@ returns-in_err-head-clause-exact g c =
     c.in_err-head.ensures.err))
 
 pub is_overread-requires-clause-rises : goal.is_overread-requires-clause-rises
-is_overread-requires-clause-rises g c = grind (arith, elements)
+is_overread-requires-clause-rises g c =
+    let known = known g (goal.at.is_overread-requires-clause-rises g c).After-unwrap-begin in
+    begins_before c.args.frame.now.checked.now c.args.frame.now.payload.now c.args.spans.now
+    c.args.slice c.unwrap-begin.result.0 c.unwrap-begin.result.1 c.requires.cut known.0 known.1
+    c.requires.slice

@@ -4,7 +4,7 @@ use Rattle.std.proofs.Common.{refl, length, slice_set, List, arith, length-set, 
 use Rattle.std.proofs.Common.{get_or-set_other}
 use Rattle.std.specs.Prelude.{IsSome}
 use Rattle.std.proofs.lemmas.Bool.{cases_eq}
-use Rattle.std.proofs.lemmas.Grind.{common_steps, elements}
+use Rattle.std.proofs.lemmas.Grind.{elements}
 use Rattle.ffv1_codec.specs.Decoding.{slice_number}
 use Rattle.ffv1_codec.specs.Internal.Tied.{IsOpen, column_at, no_column}
 use Rattle.ffv1_codec.specs.Internal.Opened.{RowOpened, ColumnOpened, ColumnRefused, coded_by}
@@ -103,10 +103,28 @@ loop-k-preserved g c =
     }
 
 pub overflow_mul-slice : goal.overflow_mul-slice
-overflow_mul-slice g c = grind (arith, common_steps)
+overflow_mul-slice g c =
+    let conf = c.args.frame.now.checked.now.configuration in
+    let t = c.args.frame.now.checked.now.table in
+    let rows = c.accepted_configuration_is_in_range.ensures.rows conf t c.requires.frame.accepted in
+    let columns = c.accepted_configuration_is_in_range.ensures.columns conf t
+    c.requires.frame.accepted in
+    let long : length c.loop-k.columns ≡ conf.columns = omega (arith, c.requires.many) in
+    let few = grid_small c.args.row (length c.loop-k.columns)
+    (omega (arith, c.requires.row, rows.1)) (omega (arith, long, columns.1)) in
+    omega (arith, few)
 
 pub overflow_add-slice : goal.overflow_add-slice
-overflow_add-slice g c = grind (arith, common_steps)
+overflow_add-slice g c =
+    let conf = c.args.frame.now.checked.now.configuration in
+    let t = c.args.frame.now.checked.now.table in
+    let rows = c.accepted_configuration_is_in_range.ensures.rows conf t c.requires.frame.accepted in
+    let columns = c.accepted_configuration_is_in_range.ensures.columns conf t
+    c.requires.frame.accepted in
+    let long : length c.loop-k.columns ≡ conf.columns = omega (arith, c.requires.many) in
+    let few = grid_small c.args.row (length c.loop-k.columns)
+    (omega (arith, c.requires.row, rows.1)) (omega (arith, long, columns.1)) in
+    omega (arith, few, long, columns.1)
 
 pub open_column-requires-clause-closed : goal.open_column-requires-clause-closed
 open_column-requires-clause-closed g c = grind (arith, elements)

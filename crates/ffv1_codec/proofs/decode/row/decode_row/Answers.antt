@@ -1,5 +1,6 @@
 -- Decodes a row of slices.
-use Rattle.std.proofs.Common.{◌≡◌, ℕ, ◌∙◌, ◌++◌, ap, sym, subst, List, length, take, drop, arith}
+use Rattle.std.proofs.Common.{◌≡◌, refl, ℕ, ◌∙◌, ◌++◌, ap, sym, subst, List, length, take}
+use Rattle.std.proofs.Common.{drop, arith}
 use Rattle.std.proofs.lemmas.List.{with_items_is}
 use Rattle.std.proofs.lemmas.Result.{err_from_is_err_and, MatchResult-weaker}
 use Rattle.std.proofs.lemmas.Nat.{pow_pos}
@@ -10,7 +11,10 @@ use Rattle.ffv1_codec.specs.Internal.Progress.{FailsIn}
 use Rattle.ffv1_codec.specs.Internal.Rows.{open_events}
 use Rattle.ffv1_codec.specs.SliceList.{bits_of}
 use Rattle.ffv1_codec.proofs.RowDecodes.{opened_tied, open_fails, opened_grows, lines_fail}
-use Rattle.ffv1_codec.proofs.RowDecodes.{row_decoded}
+use Rattle.ffv1_codec.specs.Internal.Buffers.{samples_of_lines}
+use Rattle.ffv1_codec.specs.Internal.Shared.{kept_in}
+use Rattle.ffv1_codec.proofs.KeptBuffers.{kept_long, kept_planes}
+use Rattle.ffv1_codec.proofs.RowDecodes.{row_decoded, opened_above}
 use Rattle.ffv1_codec.proofs.decode.row.decode_row.Given.{Over}
 use Rattle.ffv1_codec.proofs.decode.row.decode_row.Goals.{After-open_row}
 use Rattle.ffv1_codec.proofs.decode.row.decode_row.Goals as goal
@@ -23,7 +27,7 @@ columns_back g c = with_items_is c.args.buffers.now.slices.columns c.open_row.ne
     (c.open_row.auto.columns ∙ c.deref_mut-2.ensures.len)
 
 pub returns-in_err-open_row-clause-exact : goal.returns-in_err-open_row-clause-exact
-returns-in_err-open_row-clause-exact g c = λ initial s between grows.
+returns-in_err-open_row-clause-exact g c = λ initial s between above grows.
     let a = c.args.frame.now.checked.now in
     let payload = c.args.frame.now.payload.now in
     let coded : ℕ → List ℕ = coded_by a payload c.args.spans.now in
@@ -38,7 +42,7 @@ returns-in_err-open_row-clause-exact g c = λ initial s between grows.
     (c.in_err-open_row.ensures.exact s between.known between.fresh between.says)))
 
 pub returns-clause-exact : goal.returns-clause-exact
-returns-clause-exact g c = λ initial s between grows.
+returns-clause-exact g c = λ initial s between above grows.
     let a = c.args.frame.now.checked.now in
     let payload = c.args.frame.now.payload.now in
     let coded : ℕ → List ℕ = coded_by a payload c.args.spans.now in
@@ -64,13 +68,21 @@ returns-clause-exact g c = λ initial s between grows.
     opened.state) (sym columns_back) tied) in
     let grown = opened_grows takes refuses a coded initial c.args.row payload s c.open_row.new.first
     c.open_row.new.columns opened c.args.sink.now grows in
-    let made = c.decode_lines.ensures.exact coded initial opened.state tied grown in
+    let lines = c.args.buffers.now.lines in
+    let kept = kept_in a.configuration (samples_of_lines c.decode_lines.new.lines) in
+    let long_kept = kept_long a.configuration lines c.decode_lines.new.lines
+    c.decode_lines.ensures.long in
+    let made = c.decode_lines.ensures.exact coded initial opened.state tied
+    (opened_above takes refuses a coded initial c.args.row payload s c.open_row.new.first
+    c.open_row.new.columns opened (kept_in a.configuration (samples_of_lines lines)) above)
+    grown in
     let long_after = c.decode_lines.ensures.same.columns ∙ ap length columns_back ∙ long in
     MatchResult-weaker c.decode_lines.result made
     (λ u done. row_decoded takes refuses a coded initial c.args.row payload s c.open_row.new.first
     c.open_row.new.columns opened c.counters_from_zero_show_all_steps.ensures
-    c.decode_lines.new.slices.columns.items c.decode_lines.new.slices.states.items
-    c.decode_lines.new.sink long_after done)
+    c.decode_lines.new.slices.columns.items c.decode_lines.new.slices.states.items kept
+    c.decode_lines.new.sink long_after
+    (λ some. kept_planes a.configuration _ c.requires.kept (omega (arith, some, long_kept))) done)
     (λ f stopped. lines_fail takes refuses a coded initial c.args.row payload s c.open_row.new.first
     c.open_row.new.columns opened c.decode_lines.new.slices.columns.items f
     c.decode_lines.new.sink stopped)
@@ -88,7 +100,35 @@ pub decode_lines-requires-clause-held : goal.decode_lines-requires-clause-held
 decode_lines-requires-clause-held g c = grind (arith, common_steps)
 
 pub returns-clause-same : goal.returns-clause-same
-returns-clause-same g c = grind (arith, common_steps)
+returns-clause-same g c =
+    let columns_back = columns_back g (goal.at.returns-clause-same g c).After-open_row in
+    let states_back : take c.args.buffers.now.slices.states.len
+    (c.reset.new.states ++ drop (length c.reset.new.states)
+    c.args.buffers.now.slices.states.items) ≡ c.reset.new.states =
+    with_items_is c.args.buffers.now.slices.states c.reset.new.states
+    (c.reset.auto.states ∙ c.deref_mut.ensures.len) in
+    let same = c.decode_lines.ensures.same in
+    let out_back : take c.args.buffers.now.out.len (c.decode_lines.new.out
+    ++ drop (length c.decode_lines.new.out) c.args.buffers.now.out.items)
+    ≡ c.decode_lines.new.out =
+    with_items_is c.args.buffers.now.out c.decode_lines.new.out
+    (c.decode_lines.auto.out ∙ c.deref_mut-3.ensures.len) in
+    record {
+      slices = record {
+        columns = same.columns ∙ ap length columns_back
+            ∙ (c.open_row.auto.columns ∙ ap length c.deref_mut-2.ensures.value);
+        states = same.states ∙ ap length states_back
+            ∙ (c.reset.auto.states ∙ ap length c.deref_mut.ensures.value);
+        columns_capacity = same.columns_capacity;
+        states_capacity = same.states_capacity;
+      };
+      lines = c.decode_lines.ensures.long;
+      words = c.decode_lines.ensures.words;
+      out = ap length out_back
+          ∙ (c.decode_lines.auto.out ∙ ap length c.deref_mut-3.ensures.value);
+      lines_capacity = c.decode_lines.ensures.capacity;
+      out_capacity = refl;
+    }
 
 pub decode_lines-requires-clause-open : goal.decode_lines-requires-clause-open
 decode_lines-requires-clause-open g c = grind (arith, elements)

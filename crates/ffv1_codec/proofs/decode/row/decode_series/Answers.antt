@@ -1,31 +1,38 @@
 -- Decodes the lines of planes that are coded together.
-use Rattle.std.proofs.Common.{rules, ◌≡◌, suc, ◌+◌, ◌-◌, ◌*◌, ◌<◌, ◌∙◌, ap, sym, subst, refl}
+use Rattle.std.proofs.Common.{rules, ◌≡◌, ℕ, suc, ◌+◌, ◌-◌, ◌*◌, ◌<◌, ◌≤◌, ◌∙◌, ap, sym, subst}
+use Rattle.std.proofs.Common.{refl, inl, inr, true}
 use Rattle.std.proofs.Common.{length, take, drop, replicate, arith}
 use Rattle.std.proofs.lemmas.Result.{err_from_is_err_and}
 use Rattle.std.proofs.lemmas.List.{take-replicate, drop-replicate}
-use Rattle.ffv1_record.specs.Configuration.{Configuration}
+use Rattle.ffv1_record.specs.Configuration.{Configuration, is_rct}
 use Rattle.ffv1_codec.specs.Order.{lines_down}
-use Rattle.ffv1_codec.specs.Decoding.{top_of}
+use Rattle.std.proofs.Math.Nat.{mul-le-mul_right}
+use Rattle.ffv1_slice.specs.Grid.{division_of, down, shared_of}
+use Rattle.ffv1_codec.specs.Picture.{plane_width}
+use Rattle.ffv1_codec.specs.Decoding.{State}
+use Rattle.ffv1_codec.specs.Internal.Tied.{TiedKept}
+use Rattle.ffv1_codec.proofs.KeptSeries.{line_kept, line_tied, series_last}
 use Rattle.ffv1_codec.specs.Internal.Progress.{LinesDecoded}
 use Rattle.ffv1_codec.proofs.KeptBuffers.{slices_kept}
 use Rattle.ffv1_codec.proofs.LineFinished.{rct_is}
 use Rattle.ffv1_codec.proofs.SeriesDecodes.{lines_alike, planes_any, none_decoded, one_decoded}
-use Rattle.ffv1_codec.proofs.SeriesDecodes.{one_fails, all_decoded}
+use Rattle.ffv1_codec.proofs.SeriesDecodes.{one_fails, all_kept}
 use Rattle.ffv1_codec.proofs.decode.row.decode_series.Given.{Over}
-use Rattle.ffv1_codec.proofs.decode.row.decode_series.Goals.{After-cell_down-cell}
+use Rattle.ffv1_codec.proofs.decode.row.decode_series.Goals.{After-cell_down-cell, After-kept_at}
 use Rattle.ffv1_codec.proofs.decode.row.decode_series.Goals as goal
 
 -- the row has the lines of its cells
 height_is : (g : Over) (c : After-cell_down-cell g) → c.cell_down-cell.result.1 ≡
-    lines_down c.args.frame.now.checked.now.configuration c.args.planes.now.first
+    lines_down c.args.planes.now.frame.now.checked.now.configuration c.args.planes.now.first
     c.args.planes.now.row
 height_is g c = rw c.requires.frame.grid at c.cell_down-cell.ensures.coded
 
 -- the cells begin at or before what is their own
 pub overflow_sub-shared : goal.overflow_sub-shared
 overflow_sub-shared g c =
-    let conf = c.args.frame.now.checked.now.configuration in
-    let are = c.slices_lie_beside_one_another.ensures.down conf c.args.frame.now.checked.now.table
+    let conf = c.args.planes.now.frame.now.checked.now.configuration in
+    let are = c.slices_lie_beside_one_another.ensures.down conf
+    c.args.planes.now.frame.now.checked.now.table
     c.args.planes.now.first c.requires.frame.accepted in
     let first = rw c.requires.frame.grid at c.cell_down-cell.ensures.first in
     let top = rw c.requires.frame.grid at c.top.ensures in
@@ -39,10 +46,10 @@ decode_whole_line-requires-clause-shared g c =
 
 pub loop-y-init : goal.loop-y-init
 loop-y-init g c =
-    let a = c.args.frame.now.checked.now in
+    let a = c.args.planes.now.frame.now.checked.now in
     let conf = a.configuration in
     let p = c.args.planes.now.first in
-    let payload = c.args.frame.now.payload.now in
+    let payload = c.args.planes.now.frame.now.payload.now in
     let takes = g.S.LineSink.takes in
     let refuses = g.S.LineSink.refuses in
     let size = c.args.planes.now.count * c.config.result.now.width in
@@ -83,7 +90,7 @@ loop-y-init g c =
       opened = c.requires.open;
       held = c.requires.held;
       counted = refl;
-      lines = λ coded initial s tied grows.
+      lines = λ coded initial s tied kept grows.
           none_decoded takes refuses a coded initial c.args.planes.now.row payload p
           c.args.planes.now.count s c.args.slices.now.columns.items
           c.args.slices.now.states.items size two one c.args.sink.now
@@ -94,7 +101,7 @@ loop-y-init g c =
 
 pub decode_whole_line-requires-clause-y : goal.decode_whole_line-requires-clause-y
 decode_whole_line-requires-clause-y g c =
-    let a = c.args.frame.now.checked.now in
+    let a = c.args.planes.now.frame.now.checked.now in
     let conf = a.configuration in
     let p = c.args.planes.now.first in
     let height_is = height_is g (goal.at.decode_whole_line-requires-clause-y g
@@ -106,9 +113,55 @@ decode_whole_line-requires-clause-y g c =
     c.requires.frame.accepted (rct_is conf.colour e)).2) h in
     omega (arith, same, inside)
 
+-- of a line that the row above codes, what is kept is there
+module _ (g : Over) (c : After-kept_at g) where
+  shared_is : c.top.result - c.cell_down-cell.result.0 ≡ shared_of (down (division_of
+      c.args.planes.now.frame.now.checked.now.configuration) c.args.planes.now.first)
+      c.args.planes.now.row
+  shared_is =
+      let first = rw c.requires.frame.grid at c.cell_down-cell.ensures.first in
+      let top = rw c.requires.frame.grid at c.top.ensures in
+      omega (arith, first, top)
+
+  flat : is_rct c.args.planes.now.frame.now.checked.now.configuration.colour ≡ true →
+      c.args.planes.now.frame.now.checked.now.configuration.log2_v ≡ 0
+  flat e =
+      let a = c.args.planes.now.frame.now.checked.now in
+      (c.accepted_configuration_has_sound_parts.ensures.rct a.configuration a.table
+      c.requires.frame.accepted (rct_is a.configuration.colour e)).2
+
+  kept_is : c.loop-y.y < shared_of (down (division_of
+      c.args.planes.now.frame.now.checked.now.configuration) c.args.planes.now.first)
+      c.args.planes.now.row →
+      g.W.Word.samples c.kept_at.result.now ≡ g.W.Word.samples c.args.kept.now
+  kept_is less = ap g.W.Word.samples (c.kept_at.ensures.yes (omega (arith, less, shared_is)))
+
+  tied_next : (s t : State) → t.done ≡ s.done → ((i y : ℕ) → i < c.args.planes.now.count → TiedKept
+      c.args.planes.now.frame.now.checked.now.configuration c.args.planes.now.row
+      (c.args.planes.now.first + i) y (g.W.Word.samples c.args.kept.now) s) →
+      (i : ℕ) → i < c.args.planes.now.count → TiedKept
+      c.args.planes.now.frame.now.checked.now.configuration c.args.planes.now.row
+      (c.args.planes.now.first + i) c.loop-y.y (g.W.Word.samples c.kept_at.result.now) t
+  tied_next s t done was i less =
+      line_tied c.args.planes.now.frame.now.checked.now.configuration c.args.planes.now.first
+      c.args.planes.now.count c.args.planes.now.row c.requires.together flat c.requires.row i
+      c.loop-y.y (g.W.Word.samples c.kept_at.result.now) (g.W.Word.samples c.args.kept.now) s t
+      less done kept_is (was i c.loop-y.y less)
+
+pub decode_whole_line-requires-clause-kept : goal.decode_whole_line-requires-clause-kept
+decode_whole_line-requires-clause-kept g c = λ i h.
+    let here = (goal.at.decode_whole_line-requires-clause-kept g c).After-kept_at in
+    let shared = shared_is g here in
+    line_kept c.args.planes.now.frame.now.checked.now.configuration c.args.planes.now.first
+    c.args.planes.now.count c.args.planes.now.row c.requires.together (flat g here)
+    c.requires.row i c.loop-y.y (length c.args.kept.now) (length c.kept_at.result.now) h
+    (c.requires.kept i h)
+    (λ less. ap length (c.kept_at.ensures.yes (omega (arith, less, shared))))
+    (λ apart. c.kept_at.ensures.no (omega (arith, apart, shared)))
+
 pub decode_whole_line-requires-clause-height : goal.decode_whole_line-requires-clause-height
 decode_whole_line-requires-clause-height g c =
-    let a = c.args.frame.now.checked.now in
+    let a = c.args.planes.now.frame.now.checked.now in
     let conf = a.configuration in
     let p = c.args.planes.now.first in
     let height_is = height_is g (goal.at.decode_whole_line-requires-clause-height g
@@ -121,11 +174,11 @@ decode_whole_line-requires-clause-height g c =
 
 pub returns-in_err-decode_whole_line-clause-exact :
     goal.returns-in_err-decode_whole_line-clause-exact
-returns-in_err-decode_whole_line-clause-exact g c = λ coded initial s tied grows.
-    let a = c.args.frame.now.checked.now in
+returns-in_err-decode_whole_line-clause-exact g c = λ coded initial s tied kept grows.
+    let a = c.args.planes.now.frame.now.checked.now in
     let conf = a.configuration in
     let p = c.args.planes.now.first in
-    let payload = c.args.frame.now.payload.now in
+    let payload = c.args.planes.now.frame.now.payload.now in
     let two = g.W.Word.samples c.loop-y.two.now in
     let one = g.W.Word.samples c.loop-y.one.now in
     let cur = g.W.Word.samples c.loop-y.cur.now in
@@ -133,11 +186,13 @@ returns-in_err-decode_whole_line-clause-exact g c = λ coded initial s tied grow
     let refuses = g.S.LineSink.refuses in
     let height_is = height_is g (goal.at.returns-in_err-decode_whole_line-clause-exact g
     c).After-cell_down-cell in
-    let before = c.loop-y.invariant.lines coded initial s tied grows in
+    let before = c.loop-y.invariant.lines coded initial s tied kept grows in
     let planes = planes_any conf p c.args.planes.now.count c.loop-y.y two one one cur before.state
     before.planes_are in
     let made = c.in_err-decode_whole_line.ensures.exact coded (p + c.args.planes.now.count) initial
-    before.state (omega arith) before.columns_are planes before.grows in
+    before.state (omega arith) before.columns_are planes
+    (tied_next g (goal.at.returns-in_err-decode_whole_line-clause-exact g c).After-kept_at s
+    before.state before.kept.done kept) before.grows in
     let inside : c.loop-y.y < lines_down conf p c.args.planes.now.row = omega (arith, height_is) in
     let stop = err_from_is_err_and c.from_residual.result c.from_residual.ensures.1 in
     rw (stop.1, stop.2) (one_fails takes refuses a coded initial c.args.planes.now.row payload p
@@ -148,10 +203,10 @@ returns-in_err-decode_whole_line-clause-exact g c = λ coded initial s tied grow
 
 pub loop-y-preserved : goal.loop-y-preserved
 loop-y-preserved g c =
-    let a = c.args.frame.now.checked.now in
+    let a = c.args.planes.now.frame.now.checked.now in
     let conf = a.configuration in
     let p = c.args.planes.now.first in
-    let payload = c.args.frame.now.payload.now in
+    let payload = c.args.planes.now.frame.now.payload.now in
     let two = g.W.Word.samples c.loop-y.two.now in
     let one = g.W.Word.samples c.loop-y.one.now in
     let cur = g.W.Word.samples c.loop-y.cur.now in
@@ -165,12 +220,14 @@ loop-y-preserved g c =
       opened = c.in_ok-decode_whole_line.ensures.open;
       held = c.in_ok-decode_whole_line.ensures.held;
       counted = c.in_ok-decode_whole_line.ensures.counted ∙ c.loop-y.invariant.counted;
-      lines = λ coded initial s tied grows.
-          let before = c.loop-y.invariant.lines coded initial s tied grows in
+      lines = λ coded initial s tied kept grows.
+          let before = c.loop-y.invariant.lines coded initial s tied kept grows in
           let planes = planes_any conf p c.args.planes.now.count c.loop-y.y two one one cur
           before.state before.planes_are in
           let made = c.in_ok-decode_whole_line.ensures.exact coded (p + c.args.planes.now.count)
-          initial before.state (omega arith) before.columns_are planes before.grows in
+          initial before.state (omega arith) before.columns_are planes
+          (tied_next g (goal.at.loop-y-preserved g c).After-kept_at s before.state before.kept.done
+          kept) before.grows in
           let next : suc c.loop-y.y ≡ c.loop-y.y + 1 = omega arith in
           subst (λ n. LinesDecoded takes refuses a coded initial c.args.planes.now.row
           (p + c.args.planes.now.count) payload p c.args.planes.now.count n
@@ -186,18 +243,54 @@ loop-y-preserved g c =
     }
 
 pub returns-clause-exact : goal.returns-clause-exact
-returns-clause-exact g c = λ coded initial s tied grows.
-    let a = c.args.frame.now.checked.now in
+returns-clause-exact g c = λ coded initial s tied kept grows.
+    let a = c.args.planes.now.frame.now.checked.now in
     let conf = a.configuration in
     let p = c.args.planes.now.first in
-    let payload = c.args.frame.now.payload.now in
+    let payload = c.args.planes.now.frame.now.payload.now in
     let two = g.W.Word.samples c.loop-y.two.now in
     let one = g.W.Word.samples c.loop-y.one.now in
     let takes = g.S.LineSink.takes in
     let refuses = g.S.LineSink.refuses in
     let height_is = height_is g (goal.at.returns-clause-exact g c).After-cell_down-cell in
-    let before = c.loop-y.invariant.lines coded initial s tied grows in
+    let before = c.loop-y.invariant.lines coded initial s tied kept grows in
     let all : c.loop-y.y ≡ lines_down conf p c.args.planes.now.row = omega (arith, height_is) in
-    all_decoded takes refuses a coded initial c.args.planes.now.row payload p
+    let law = g.met.W.Word in
+    let kept_is : g.W.Word.samples c.keep.new.kept ≡ take (length c.args.kept.now) one =
+    c.keep.ensures in
+    let long : length (g.W.Word.samples c.keep.new.kept) ≡ length c.args.kept.now =
+    law.lengths c.keep.new.kept ∙ c.keep.auto.kept in
+    let first : p + 0 ≡ p = omega arith in
+    let are = c.slices_lie_beside_one_another.ensures.across conf a.table p
+    c.requires.frame.accepted in
+    let high = (c.slices_lie_beside_one_another.ensures.down conf a.table p
+    c.requires.frame.accepted).some c.args.planes.now.row c.requires.row in
+    all_kept takes refuses a coded initial c.args.planes.now.row payload p
     c.args.planes.now.count s c.loop-y.y c.loop-y.slices.columns.items
     c.loop-y.slices.states.items two one c.loop-y.sink before all
+    (g.W.Word.samples c.keep.new.kept)
+    (λ some.
+    let wide : length c.args.kept.now ≡ plane_width conf p =
+    elim (c.requires.kept 0 c.requires.some) [
+      | inl none ↦ absurd (omega (arith, some, long, none.0))
+      | inr wide ↦ wide ∙ ap (plane_width conf) first
+    ] in
+    series_last conf c.args.planes.now.row p c.args.planes.now.count c.loop-y.y
+    (length c.args.kept.now) two one (g.W.Word.samples c.keep.new.kept) before.state are high
+    c.requires.some all before.planes_are wide kept_is)
+
+pub keep-requires : goal.keep-requires
+keep-requires g c =
+    let a = c.args.planes.now.frame.now.checked.now in
+    let conf = a.configuration in
+    let p = c.args.planes.now.first in
+    let first : p + 0 ≡ p = omega arith in
+    let some : 1 * conf.width ≤ c.args.planes.now.count * conf.width =
+    mul-le-mul_right {m = 1} {n = c.args.planes.now.count} conf.width c.requires.some in
+    let fits = (c.slices_lie_beside_one_another.ensures.across conf a.table p
+    c.requires.frame.accepted).fits in
+    let few : length c.args.kept.now ≤ conf.width = elim (c.requires.kept 0 c.requires.some) [
+      | inl none ↦ omega (arith, none.0)
+      | inr wide ↦ let wide = wide ∙ ap (plane_width conf) first in omega (arith, wide, fits)
+    ] in
+    omega (arith, few, some, c.loop-y.invariant.one_long)

@@ -1,13 +1,14 @@
 -- Decodes a line: reads it, makes of it what is handed over, and hands it over.
 use Rattle.std.proofs.Common.{◌≡◌, ℕ, List, ◌+◌, ◌<◌, ◌++◌, inl, inr, ◌∙◌, ap, sym, subst, length}
-use Rattle.std.proofs.Common.{take}
+use Rattle.std.proofs.Common.{take, Result, Ok, Err}
+use Rattle.std.specs.Prelude.{OnOk}
 use Rattle.std.proofs.Common.{drop, arith}
 use Rattle.std.proofs.lemmas.List.{with_items_is}
 use Rattle.std.proofs.lemmas.Result.{err_from_is_err_and, MatchResult-weaker}
 use Rattle.std.specs.List.{range_with_len}
 use Rattle.std.proofs.lemmas.Grind.{common_steps}
 use Rattle.ffv1_codec.specs.Order.{lines_down, line_events}
-use Rattle.ffv1_codec.specs.Internal.Tied.{AreTold, PlanesRead, TiedColumns, row_slices}
+use Rattle.ffv1_codec.specs.Internal.Tied.{AreOpen, AreTold, PlanesRead, TiedColumns, row_slices}
 use Rattle.ffv1_codec.specs.Internal.Finished.{StandRead}
 use Rattle.ffv1_codec.specs.Decoding.{State}
 use Rattle.ffv1_codec.specs.Internal.Progress.{FailsIn, LineDecoded}
@@ -19,6 +20,11 @@ use Rattle.ffv1_codec.proofs.NewPlanes.{line_new, line_old}
 use Rattle.ffv1_codec.proofs.decode.row.decode_whole_line.Given.{Over}
 use Rattle.ffv1_codec.proofs.decode.row.decode_whole_line.Goals.{After-read_planes, After-finish}
 use Rattle.ffv1_codec.proofs.decode.row.decode_whole_line.Goals as goal
+
+-- what holds of any answer
+ok_with : {T E P : Type 0} (r : Result T E) → P → OnOk r P
+ok_with (Ok x) p = p
+ok_with (Err e) p = tt
 
 -- what was read is lent back to the slices
 module _ (g : Over) (c : After-read_planes g) where
@@ -81,7 +87,7 @@ finish-requires-clause-y g c =
     (c.requires.y 0 c.requires.some)
 
 pub returns-in_err-read_planes-clause-exact : goal.returns-in_err-read_planes-clause-exact
-returns-in_err-read_planes-clause-exact g c = λ coded next initial s less tied planes grows.
+returns-in_err-read_planes-clause-exact g c = λ coded next initial s less tied planes kept grows.
     let a = c.args.frame.now.checked.now in
     let line = c.args.line.now in
     let payload = c.args.frame.now.payload.now in
@@ -93,10 +99,10 @@ returns-in_err-read_planes-clause-exact g c = λ coded next initial s less tied 
     (inl (read_fails takes refuses a coded initial line.row next payload
     line.first line.count line.y s c.read_planes.new.columns c.in_err-read_planes.field-0.0
     c.args.sink.now grows (c.in_err-read_planes.ensures.exact coded next
-    s less (lent g here.After-read_planes coded next s tied) planes)))
+    s less (lent g here.After-read_planes coded next s tied) planes kept)))
 
 pub returns-in_err-finish-clause-exact : goal.returns-in_err-finish-clause-exact
-returns-in_err-finish-clause-exact g c = λ coded next initial s less tied planes grows.
+returns-in_err-finish-clause-exact g c = λ coded next initial s less tied planes kept grows.
     let a = c.args.frame.now.checked.now in
     let line = c.args.line.now in
     let payload = c.args.frame.now.payload.now in
@@ -107,7 +113,7 @@ returns-in_err-finish-clause-exact g c = λ coded next initial s less tied plane
     let refuses = g.S.LineSink.refuses in
     let here = goal.at.returns-in_err-finish-clause-exact g c in
     let read = c.in_ok-read_planes.ensures.exact coded next s less
-    (lent g here.After-read_planes coded next s tied) planes in
+    (lent g here.After-read_planes coded next s tied) planes kept in
     let told = told g here.After-finish coded next s read in
     let stand = stand g here.After-finish coded next s read in
     let p = err_from_is_err_and c.from_residual-in_err-finish.result
@@ -121,7 +127,7 @@ returns-in_err-finish-clause-exact g c = λ coded next initial s less tied plane
     (c.in_err-finish.ensures.exact coded read.state stand))))
 
 pub returns-then-line-clause-exact : goal.returns-then-line-clause-exact
-returns-then-line-clause-exact g c = λ coded next initial s less tied planes grows.
+returns-then-line-clause-exact g c = λ coded next initial s less tied planes kept grows.
     let a = c.args.frame.now.checked.now in
     let line = c.args.line.now in
     let payload = c.args.frame.now.payload.now in
@@ -137,7 +143,7 @@ returns-then-line-clause-exact g c = λ coded next initial s less tied planes gr
     with_items_is c.args.slices.now.states c.read_planes.new.states
     (c.read_planes.auto.states ∙ c.deref_mut-2.ensures.len) in
     let read = c.in_ok-read_planes.ensures.exact coded next s less
-    (lent g here.After-read_planes coded next s tied) planes in
+    (lent g here.After-read_planes coded next s tied) planes kept in
     let told = told g here.After-finish coded next s read in
     let stand = stand g here.After-finish coded next s read in
     let made = c.in_ok-finish.ensures.exact coded read.state stand in
@@ -157,7 +163,7 @@ returns-then-line-clause-exact g c = λ coded next initial s less tied planes gr
     c.requires.frame.accepted)))
 
 pub returns-clause-exact : goal.returns-clause-exact
-returns-clause-exact g c = λ coded next initial s less tied planes grows.
+returns-clause-exact g c = λ coded next initial s less tied planes kept grows.
     let a = c.args.frame.now.checked.now in
     let line = c.args.line.now in
     let payload = c.args.frame.now.payload.now in
@@ -173,7 +179,7 @@ returns-clause-exact g c = λ coded next initial s less tied planes grows.
     with_items_is c.args.slices.now.states c.read_planes.new.states
     (c.read_planes.auto.states ∙ c.deref_mut-2.ensures.len) in
     let read = c.in_ok-read_planes.ensures.exact coded next s less
-    (lent g here.After-read_planes coded next s tied) planes in
+    (lent g here.After-read_planes coded next s tied) planes kept in
     let told = told g here.After-finish coded next s read in
     let stand = stand g here.After-finish coded next s read in
     let made = c.in_ok-finish.ensures.exact coded read.state stand in
@@ -218,7 +224,10 @@ pub returns-in_err-finish-clause-same : goal.returns-in_err-finish-clause-same
 returns-in_err-finish-clause-same g c = grind (arith, common_steps)
 
 pub returns-clause-open : goal.returns-clause-open
-returns-clause-open g c = grind (arith, common_steps)
+returns-clause-open g c =
+    let back = columns_back g (goal.at.returns-clause-open g c).After-read_planes in
+    ok_with c.hand_lines.result (subst (AreOpen c.args.frame.now.payload.now
+    c.args.frame.now.checked.now.configuration.sets) (sym back) c.in_ok-read_planes.ensures.open)
 
 pub returns-clause-held : goal.returns-clause-held
 returns-clause-held g c = grind (arith, common_steps)

@@ -1,5 +1,5 @@
 -- Where a segment begins and ends in a rolling line.
-use Rattle.std.proofs.Common.{◌≡◌, suc, ◌+◌, ◌*◌, ◌∙◌, ap, sym, arith}
+use Rattle.std.proofs.Common.{◌≡◌, ◌*◌, ap, sym, arith}
 use Rattle.ffv1_record.specs.Configuration.{Configuration}
 use Rattle.ffv1_slice.specs.Grid.{across, division_of}
 use Rattle.ffv1_codec.specs.Decoding.{left_of, width_in}

@@ -1,6 +1,7 @@
 -- Reads a segment into its place of a line.
 use Rattle.std.proofs.Common.{◌≡◌, ℕ, ◌++◌, ◌+◌, ◌-◌, ◌*◌, ◌<◌, ◌≤◌, ◌⊎◌, inl, inr, ap, sym, subst}
-use Rattle.std.proofs.Common.{◌∙◌}
+use Rattle.std.proofs.Common.{◌∙◌, rules, Fits, w64}
+use Rattle.std.proofs.Math.Nat.{mul-le-mul_right}
 use Rattle.std.proofs.Common.{length, slice_index_or, take, drop, arith}
 use Rattle.std.proofs.lemmas.List.{get_or_default, length-take-le}
 use Rattle.ffv1_record.specs.Held.{classes_of}
@@ -16,6 +17,7 @@ use Rattle.ffv1_codec.proofs.ColumnsOpen.{open_next}
 use Rattle.ffv1_codec.proofs.SegmentTied.{step_made, stopped, stands_here}
 use Rattle.ffv1_codec.proofs.decode.segment.read_on.Given.{Over}
 use Rattle.ffv1_codec.proofs.decode.segment.read_on.Goals.{After-index-columns-k, After-read_column}
+use Rattle.ffv1_codec.proofs.decode.segment.read_on.Goals.{After-extent-left}
 use Rattle.ffv1_codec.proofs.decode.segment.read_on.Goals as goal
 
 -- the states of a column lie in those of the row
@@ -94,8 +96,11 @@ module _ (g : Over) (c : After-read_column g) where
       c.read_column.new.cur) (put_other cur (g.W.Word.samples c.read_column.new.cur) left width
       cur_fits row_long b n within apart)
 
-pub overflow_add-at : goal.overflow_add-at
-overflow_add-at g c =
+-- the states of a column end where a number can say
+end_small : (g : Over) (c : After-extent-left g) →
+    c.args.segment.now.column * c.args.frame.now.slots
+    + c.args.frame.now.slots ≤ 100663296
+end_small g c =
     let a = c.args.frame.now.checked.now in
     let conf = a.configuration in
     let k = c.args.segment.now.column in
@@ -106,9 +111,47 @@ overflow_add-at g c =
     (classes_most conf.chroma_planes conf.extra_plane) most in
     let columns = c.accepted_configuration_is_in_range.ensures.columns conf a.table
     c.requires.frame.accepted in
-    let small = part_small k slots (omega (arith, c.requires.column, columns))
-    (omega (arith, few, c.requires.frame.slots)) in
+    part_small k slots (omega (arith, c.requires.column, columns))
+    (omega (arith, few, c.requires.frame.slots))
+
+pub overflow_mul-at : goal.overflow_mul-at
+overflow_mul-at g c =
+    let small = end_small g (goal.at.overflow_mul-at g c).After-extent-left in
     omega (arith, small)
+
+pub overflow_add-at : goal.overflow_add-at
+overflow_add-at g c =
+    let small = end_small g (goal.at.overflow_add-at g c).After-extent-left in
+    omega (arith, small)
+
+-- a segment begins in its line
+begins : (g : Over) (c : After-extent-left g) → c.extent-left.result.0 ≤ length c.args.cur.now
+begins g c = omega (
+  arith,
+  c.extent-left.ensures.some,
+  c.extent-left.ensures.inside,
+  c.requires.cur_long,
+)
+
+-- and so does it in bytes
+scaled : (left long size : ℕ) → left ≤ long → Fits w64 (long * size) → Fits w64 (left * size)
+scaled left long size below fits =
+    let less = mul-le-mul_right {m = left} {n = long} size below in
+    omega (arith, less, fits)
+
+pub offset_bounds-cur-left : goal.offset_bounds-cur-left
+offset_bounds-cur-left g c =
+    let below = begins g (goal.at.offset_bounds-cur-left g c).After-extent-left in
+    scaled c.extent-left.result.0 (length c.args.cur.now) _ below (search rules)
+
+pub fault_at-requires-clause-x : goal.fault_at-requires-clause-x
+fault_at-requires-clause-x g c =
+    let conf = c.args.frame.now.checked.now.configuration in
+    let right : c.extent-left.result.1 - c.extent-left.result.0
+    ≡ width_in conf c.args.segment.now.plane c.args.segment.now.column =
+    omega (arith, c.extent-left.ensures.right) in
+    let row_is = row_long g (goal.at.fault_at-requires-clause-x g c).After-read_column ∙ right in
+    omega (arith, c.in-Err.ensures.inside, row_is)
 
 pub slice_bounds-read_column-end : goal.slice_bounds-read_column-end
 slice_bounds-read_column-end g c = fits c.args.segment.now.column
@@ -251,7 +294,7 @@ returns-in-Err-clause-exact g c = λ coded next s less tied line.
     c.args.states.now s tied p c.args.segment.now.index c.args.segment.now.y k two one cur
     (take x row)
     c.read_column.new.column c.requires.column c.requires.many same rolls x taken few
-    c.counters_from_zero_show_all_steps.ensures raw c.refusal.result c.refusal.ensures
+    c.counters_from_zero_show_all_steps.ensures raw c.fault_at.result c.fault_at.ensures
 
 pub returns-in-Err-clause-beside : goal.returns-in-Err-clause-beside
 returns-in-Err-clause-beside g c = others g

@@ -26,24 +26,26 @@ pub returns-in-Ok-clause-same : goal.returns-in-Ok-clause-same
 returns-in-Ok-clause-same c =
     let x = c.args.checked.now.configuration in
     let low : x.depth ≤ deepest c.profile.result c.depth.result =
-    rw (← c.depth.ensures.value, c.profile.ensures)
+    rw (← c.depth.ensures.value, c.profile.ensures.value)
     (own_depth c.args.checked.now.profile c.depth.result c.depth.ensures.profile) in
     let read : c.in-Ok.again.configuration ≡ x = c.in-Ok.ensures.only x c.args.checked.now.table
     (ap (λ (z : Configuration). z.width) c.config.ensures.value)
     (ap (λ (z : Configuration). z.height) c.config-2.ensures.value) low
-    c.config.ensures.accepted (rw c.deref.ensures.value c.in_ok-record.ensures.stored) in
+    c.config.ensures.accepted c.profile.ensures.passes
+    (rw c.deref.ensures.value c.in_ok-record.ensures.stored) in
     let table = c.record_has_one_configuration.ensures.table x c.in-Ok.again.table
     c.args.checked.now.table (subst (λ z. IsAccepted z c.in-Ok.again.table) read
     c.in-Ok.ensures.accepted) c.config.ensures.accepted in
-    same c.in-Ok.again c.args.checked.now read table (c.in-Ok.ensures.profile ∙ c.profile.ensures)
+    same c.in-Ok.again c.args.checked.now read table (c.in-Ok.ensures.profile ∙ c.profile.ensures.value)
 
 pub returns-clause-memory : goal.returns-clause-memory
 returns-clause-memory c =
     let x = c.args.checked.now.configuration in
     let low : x.depth ≤ deepest c.profile.result c.depth.result =
-    rw (← c.depth.ensures.value, c.profile.ensures)
+    rw (← c.depth.ensures.value, c.profile.ensures.value)
     (own_depth c.args.checked.now.profile c.depth.result c.depth.ensures.profile) in
     c.in-Err.ensures.only x c.args.checked.now.table
     (ap (λ (z : Configuration). z.width) c.config.ensures.value)
     (ap (λ (z : Configuration). z.height) c.config-2.ensures.value) low
-    c.config.ensures.accepted (rw c.deref.ensures.value c.in_ok-record.ensures.stored)
+    c.config.ensures.accepted c.profile.ensures.passes
+    (rw c.deref.ensures.value c.in_ok-record.ensures.stored)

@@ -1,11 +1,11 @@
--- The fault of a segment of which a symbol is refused.
+-- A fault of a segment, at this of its samples.
 use Rattle.std.proofs.Common.{◌≡◌, ◌+◌, ◌<◌, arith}
 use Rattle.ffv1_slice.specs.Grid.{across, division_of}
 use Rattle.ffv1_codec.specs.Decoding.{left_of}
 use Rattle.ffv1_codec.proofs.PartPlaces.{inside}
-use Rattle.ffv1_codec.proofs.decode.segment.refusal.Goals.{After-cell_across-cell}
-use Rattle.ffv1_codec.proofs.decode.segment.refusal.Given.{Over}
-use Rattle.ffv1_codec.proofs.decode.segment.refusal.Goals as goal
+use Rattle.ffv1_codec.proofs.decode.segment.fault_at.Goals.{After-cell_across-cell}
+use Rattle.ffv1_codec.proofs.decode.segment.fault_at.Given.{Over}
+use Rattle.ffv1_codec.proofs.decode.segment.fault_at.Goals as goal
 
 -- the column lies in the picture, whose width has 16 bits
 within : (g : Over) (c : After-cell_across-cell g) → c.cell_across-cell.result.0 + c.args.x < 65536

@@ -1,13 +1,12 @@
 use Rattle.std.proofs.Common.{◌-◌, ◌≡◌, ◌≤◌, ◌%◌, ◌^◌, ◌==◌}
 use Rattle.std.specs.List.{list_all, range_with_len}
-use Rattle.ffv1_record.specs.Accepted.{edge}
-use Rattle.ffv1_engine.specs.Grids.{are_even_edges}
-use Rattle.ffv1_engine.proofs.default_grid.are_even_edges.Given as goal
+use Rattle.ffv1_record.specs.Accepted.{edge, are_multiples}
+use Rattle.ffv1_engine.proofs.default_grid.are_multiples.Given as goal
 
 abbrev pub invariant-loop-k : goal.invariant-loop-k
 invariant-loop-k l =
     (list_all (λ k. edge k l.size l.count % 2 ^ l.log2 == 0) (range_with_len l.k (l.count - l.k)) ≡
-    are_even_edges l.size l.count l.log2)
+    are_multiples l.size l.count l.log2)
     × (1 ≤ l.k)
 
 abbrev pub decreases-loop-k : goal.decreases-loop-k

@@ -2,9 +2,9 @@
 use Rattle.std.proofs.Common.{◌≡◌, ◌∙◌, ◌≤◌, ◌-◌, ◌+◌, ◌*◌, ◌/◌, ◌%◌, ◌^◌, ◌==◌, ℕ, zero, suc, true}
 use Rattle.std.proofs.Common.{refl, sym, subst, arith}
 use Rattle.std.proofs.lemmas.Bool.Decides.{nat_tests}
-use Rattle.ffv1_record.specs.Accepted.{edge}
+use Rattle.ffv1_record.specs.Accepted.{edge, are_multiples}
 use Rattle.ffv1_engine.proofs.GridLists.{all_more}
-use Rattle.ffv1_engine.proofs.default_grid.are_even_edges.Goals as goal
+use Rattle.ffv1_engine.proofs.default_grid.are_multiples.Goals as goal
 
 -- a chroma factor has few bits
 narrow : (log2 : ℕ) → log2 ≤ 2 → (1 * 2 ^ log2) % 4294967296 ≡ 2 ^ log2
