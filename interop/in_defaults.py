@@ -8,7 +8,8 @@ sys.dont_write_bytecode = True
 
 from exchange import ASPECT, KINDS, conch, decoded, ffmpeg, ffv1, load, run, save, text
 
-SIZES = [(640, 480), (720, 486), (720, 576), (1280, 720), (1440, 1080), (1920, 1080), (2048, 1556)]
+SIZES = [(640, 480), (720, 486), (720, 576), (854, 480), (1280, 720), (1366, 768), (1440, 1080),
+         (1920, 1080), (2048, 1556)]
 
 
 def picture(kind, width, height):

@@ -17,7 +17,7 @@ import check_matroska
 import commands
 import ffv1
 import files
-from known_answers import avi_files, cases, depths, frames, grids, slices
+from known_answers import avi_files, cases, depths, edges, frames, grids, slices
 from known_answers.case import fault_of
 
 
@@ -148,7 +148,7 @@ def results():
     for case in cases():
         yield passes(case, by_model)
     for name, found, wanted in itertools.chain(example_checks(), frames.checks(), slices.checks(),
-                                               depths.checks(), avi_files.checks(), grids.checks(),
+                                               depths.checks(), avi_files.checks(), grids.checks(), edges.checks(),
                                                check_matroska.checks()):
         if found != wanted:
             print(f"{name}: found {found}, wanted {wanted}")

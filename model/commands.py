@@ -22,6 +22,7 @@ import matroska
 from command_line import COMMANDS, Help, Kept, Refused, number, words
 from ffv1 import Fault
 from packing import is_matroska, pack, pack_matroska
+from record import are_multiples
 
 
 # --------------------------------------------------------------------------- unpack, check and show
@@ -184,13 +185,16 @@ def check_frames(said, out, place, every, judged):
 
 
 def held(config):
-    """Own: what a decoder holds: states, coded samples, output, and slices of a row."""
+    """Own: what a decoder holds: states, coded samples, output, and slices of a row. Where rows of
+    slices share lines of chroma, the last one of Cb and of Cr is kept."""
     classes = 3 if config.extra else 2 if config.chroma else 1
     contexts = max(ffv1.contexts_of(runs) for runs in config.sets)
     planes = ffv1.plane_count(config) if config.rct else 1
     states = 32 * config.columns * classes * contexts
     size = 1 if config.depth == 8 else 2
-    return states, 3 * planes * config.width, size * planes * config.width, config.columns
+    side = config.height, config.rows, 2 ** config.log2_v
+    kept = 0 if are_multiples(*side) else 2 * ffv1.reduced(config, 1, config.width, 0)[0]
+    return states, 3 * planes * config.width + kept, size * planes * config.width, config.columns
 
 
 def shown(head, config, segment):

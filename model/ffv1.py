@@ -14,8 +14,8 @@ decoded; the range coder and its symbols are in `range_coder.py`, the configurat
 # Some of these names are for those that import this module.
 from range_coder import FAULTS, Decoder, Encoder, Fault, get_number, put_number, table_of
 from record import (
-    DEPTHS, LARGE, SMALL, Config, check, contexts_of, edge, parity, read_record, remainder,
-    write_record,
+    DEPTHS, LARGE, SMALL, Config, are_multiples, check, contexts_of, edge, is_reached, parity, read_record,
+    remainder, write_record,
 )
 
 
@@ -117,12 +117,40 @@ def reduced(config, plane, width, height):
     return width, height
 
 
+def sides_of(config, plane):
+    """The two sides of a plane, each as its samples of luma, how many parts it has, and the factor."""
+    log2_h, log2_v = (config.log2_h, config.log2_v) if plane in (1, 2) else (0, 0)
+    return (config.width, config.columns, 2 ** log2_h), (config.height, config.rows, 2 ** log2_v)
+
+
+def coded_part(side, k):
+    """4.7.2, 4.7.4, 4.8.1, 4.8.3: where part k of a side begins and how long it is. Own: it begins at
+    the sample in which its edge lies, so it may have a sample that the part before has too."""
+    size, count, factor = side
+    begin, end = edge(k, size, count), edge(k + 1, size, count)
+    return begin // factor, -(-(end - begin) // factor)
+
+
+def shared_of(side, k):
+    """How many samples of part k the part before has too: 0 or 1."""
+    return sum(coded_part(side, k - 1)) - coded_part(side, k)[0] if k else 0
+
+
+def place_in(config, slice):
+    """The column and the row of a slice."""
+    return slice % config.columns, slice // config.columns
+
+
 def cell_of(config, slice, plane):
-    """4.7.4, 4.8.3: where the cell of a slice begins in a plane, and how wide and high it is."""
-    k, r = slice % config.columns, slice // config.columns
-    left, right = (edge(i, config.width, config.columns) for i in (k, k + 1))
-    top, bottom = (edge(i, config.height, config.rows) for i in (r, r + 1))
-    return reduced(config, plane, left, top) + reduced(config, plane, right - left, bottom - top)
+    """Where the cell that a slice codes begins in a plane, and how wide and high it is."""
+    parts = [coded_part(*part) for part in zip(sides_of(config, plane), place_in(config, slice))]
+    (left, width), (top, height) = parts
+    return left, top, width, height
+
+
+def shared_in(config, slice, plane):
+    """How many columns of its cell the slice to the left codes too, and how many lines the one above."""
+    return [shared_of(*part) for part in zip(sides_of(config, plane), place_in(config, slice))]
 
 
 def lines_in(config, slice):
@@ -331,8 +359,10 @@ class Decoded:
 
 
 def finished(config, row, planes, y):
-    """Line y of these planes as it is handed over. Own: 7 where samples have no colour."""
-    lines = [sum((slice.cells[plane].lines[y] for slice in row), []) for plane in planes]
+    """Line y of these planes as it is handed over, a sample that two slices code once. Own: 7 where
+    samples have no colour."""
+    lines = [sum((slice.cells[plane].lines[y][shared_in(config, slice.number, plane)[0]:] for slice in row), [])
+             for plane in planes]
     if not config.rct:
         return lines
     colours = [inverse(config, *place) for place in zip(*lines[:3])]
@@ -343,29 +373,59 @@ def finished(config, row, planes, y):
     return [[colour[k] for colour in colours] for k in range(3)] + lines[3:]
 
 
-def decode_line(config, row, planes, y, out, room):
-    """Own: a line of these planes: in each slice from the left, after which it is looked at how far
-    that was read, and, of its last line, whether it ends there; then as a whole, then handed over to a
-    sink that takes so many lines."""
+def said_before(config, slices, slice, plane, y):
+    """The samples of line y of a cell that a slice before it codes too, with their columns: those of
+    the cell to the left, and of line 0 those of the cell above."""
+    column, line = shared_in(config, slice.number, plane)
+    said = []
+    if column:
+        said.append((0, slices[slice.number - 1].cells[plane].lines[y][-1]))
+    if y < line:
+        said.extend(enumerate(slices[slice.number - config.columns].cells[plane].lines[-1]))
+    return said
+
+
+def compare(config, slices, slice, plane, y):
+    """Own: 39 at the first sample of line y of a cell of which a slice before says another value."""
+    left, top = cell_of(config, slice.number, plane)[:2]
+    line = slice.cells[plane].lines[y]
+    differ = [x for x, sample in said_before(config, slices, slice, plane, y) if line[x] != sample]
+    if differ:
+        raise Fault(39, slice.number, plane, top + y, left + min(differ))
+
+
+def read_line(config, slices, slice, plane, y):
+    """Own: the next line of a cell, after which it is looked at how far its slice was read, whether its
+    samples are those that slices before it say, and, of the last line, whether the slice ends there."""
+    left, top = cell_of(config, slice.number, plane)[:2]
+    try:
+        slice.read(plane)
+    except Fault as fault:
+        raise Fault(fault.number, slice.number, plane, top + y, left + fault.x)
+    slice.look(plane, top + y)
+    compare(config, slices, slice, plane, y)
+    if (plane, y) == lines_in(config, slice.number)[-1]:
+        slice.end(plane, top + y)
+
+
+def decode_line(config, slices, row, planes, y, out, room):
+    """Own: a line of these planes: in each slice from the left; then as a whole, then handed over to a
+    sink that takes so many lines. One that the row above has handed over is not handed over again."""
     for slice in row:
         for plane in planes:
-            left, top = cell_of(config, slice.number, plane)[:2]
-            try:
-                slice.read(plane)
-            except Fault as fault:
-                raise Fault(fault.number, slice.number, plane, top + y, left + fault.x)
-            slice.look(plane, top + y)
-            if (plane, y) == lines_in(config, slice.number)[-1]:
-                slice.end(plane, top + y)
+            read_line(config, slices, slice, plane, y)
     for plane, samples in zip(planes, finished(config, row, planes, y)):
+        if y < shared_in(config, row[0].number, plane)[1]:
+            continue
         line = cell_of(config, row[0].number, plane)[1] + y
         if len(out.lines) == room:
             raise Fault(42, row[0].number, plane, line)
         out.lines.append((plane, line, samples))
 
 
-def decode_row(config, row, out, room):
+def decode_row(config, slices, r, out, room):
     """Own: a row of slices: each is opened, from the left, and then its lines, side by side."""
+    row = slices[r * config.columns:(r + 1) * config.columns]
     for slice in row:
         try:
             info = slice.open()
@@ -377,7 +437,7 @@ def decode_row(config, row, out, room):
     planes = range(plane_count(config))
     for series in [planes] if config.rct else [[plane] for plane in planes]:
         for y in range(cell_of(config, row[0].number, series[0])[3]):
-            decode_line(config, row, series, y, out, room)
+            decode_line(config, slices, row, series, y, out, room)
 
 
 def decode_frame(config, payload, room=None):
@@ -388,7 +448,7 @@ def decode_frame(config, payload, room=None):
         spans = cut(config, payload)
         slices = [Slice(config, n, payload[begin:end]) for n, (begin, end) in enumerate(spans)]
         for r in range(config.rows):
-            decode_row(config, slices[r * config.columns:(r + 1) * config.columns], out, room)
+            decode_row(config, slices, r, out, room)
     except Fault as fault:
         out.fault = fault
     out.count(slices)

@@ -4,6 +4,7 @@ import ffv1
 import files
 import matroska
 from ffv1 import Fault
+from record import are_multiples
 
 
 # --------------------------------------------------------------------------------------------- pack
@@ -26,6 +27,7 @@ def raw_slice(head, columns, rows):
 
 
 def is_accepted(config):
+    """Whether a configuration is accepted."""
     try:
         ffv1.check(config)
     except Fault:
@@ -33,18 +35,28 @@ def is_accepted(config):
     return True
 
 
+def shares_none(config):
+    """Whether a configuration is accepted, and its slices share no sample."""
+    return all(are_multiples(*side) for side in ffv1.sides_of(config, 1)) and is_accepted(config)
+
+
 def default_grid(head, choice):
     """Section 5 wants at least 4 slices for more than 101376 pixels. Own: the grid of at least as many
-    columns as rows, of fewest slices, and of these of fewest columns, that the picture has and whose
-    greatest slice has less than 12 MiB of samples; else the first of any columns and rows; else one
-    slice."""
+    columns as rows, of fewest slices, and of these of fewest columns, that the picture has, whose
+    greatest slice has less than 12 MiB of samples, and whose slices share none; else the first such
+    whose slices may share samples; else the first of any columns and rows whose slices share none;
+    else one slice."""
     if head.width * head.height <= 101376:
         return 1, 1
     grids = [(columns, slices // columns) for slices in range(4, 1025) for columns in range(1, 33)
              if slices % columns == 0 and slices // columns <= 32]
-    wide_first = [grid for grid in grids if grid[0] >= grid[1]] + grids
-    return next((grid for grid in wide_first if is_accepted(config_of(head, choice, grid))
-                 and raw_slice(head, *grid) < 12 * 2 ** 20), (1, 1))
+    small = [grid for grid in grids if raw_slice(head, *grid) < 12 * 2 ** 20]
+    wide = [grid for grid in small if grid[0] >= grid[1]]
+    for suits, among in [(shares_none, wide), (is_accepted, wide), (shares_none, small)]:
+        for grid in among:
+            if suits(config_of(head, choice, grid)):
+                return grid
+    return 1, 1
 
 
 def grid_of(head, choice, by_default):

@@ -11,7 +11,7 @@ FAULTS = {
     17: "Version", 18: "MicroVersion", 19: "Coder", 20: "ColourSpace", 21: "Depth",
     22: "CodedStates", 23: "Ec", 24: "Intra", 25: "ExtraPlane", 30: "NotKey", 31: "Place",
     32: "SetIndex", 33: "Structure", 34: "Aspect", 35: "Footer", 36: "Leftover",
-    37: "SliceParity", 38: "SliceStatus", 40: "SliceTooLong", 41: "InfoDiffers",
+    37: "SliceParity", 38: "SliceStatus", 39: "Overlap", 40: "SliceTooLong", 41: "InfoDiffers",
     42: "Sink", 50: "NotAvi", 51: "NoFfv1", 52: "Truncated", 53: "ChunkTooLong", 54: "EmptyFrame",
     55: "TooLarge", 56: "Read", 57: "Write", 60: "Header", 61: "Tag", 62: "Unsupported",
     63: "FrameLine", 64: "FrameTruncated", 65: "SampleTooLarge", 70: "NoFrames", 71: "FormatChanged", 72: "NoY4mName",

@@ -74,9 +74,21 @@ def check(config):
     c.table()
     if not (1 <= c.columns <= min(32, c.width) and 1 <= c.rows <= min(32, c.height)):
         raise Fault(11)
-    for size, count, log2 in [(c.width, c.columns, c.log2_h), (c.height, c.rows, c.log2_v)]:
-        if any(edge(k, size, count) % 2 ** log2 for k in range(1, count)):
+    for side in [(c.width, c.columns, 2 ** c.log2_h), (c.height, c.rows, 2 ** c.log2_v)]:
+        if not (is_reached(*side) if c.wide else are_multiples(*side)):
             raise Fault(12)
+
+
+def are_multiples(size, count, factor):
+    """Whether each inner edge of so many parts is a multiple of a chroma factor."""
+    return not any(edge(k, size, count) % factor for k in range(1, count))
+
+
+def is_reached(size, count, factor):
+    """Whether the last part of a side has the last sample of chroma: with its first one where its edge
+    lies, and its length rounded up."""
+    last = edge(count - 1, size, count)
+    return last // factor - (last - size) // factor == -(-size // factor)
 
 
 # --------------------------------------------------------------------------- parity (4.3.2, 4.9.3)

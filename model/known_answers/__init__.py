@@ -3,12 +3,12 @@
 the formats. `check.py` asks them of the model, and `tests/commands` of the built program.
 """
 from known_answers import containers, depths, lines, matroska_commands, offsets, payloads, riffs
-from known_answers import shown, sums, texts, unpacking
+from known_answers import shared_chroma, shown, sums, texts, unpacking
 
 
 def cases():
     """All of them."""
     for subject in [texts, payloads, unpacking, containers, riffs, shown, lines,
-                    matroska_commands, depths, sums, offsets]:
+                    matroska_commands, depths, sums, offsets, shared_chroma]:
         for group in subject.CASES:
             yield from group()

@@ -111,8 +111,8 @@ def counts_of(config, info, payload):
     endings among them."""
     slices = [ffv1.Slice(config, number, payload[begin:end])
               for number, (begin, end) in enumerate(ffv1.cut(config, payload))]
-    for first in range(0, len(slices), config.columns):
-        ffv1.decode_row(config, slices[first:first + config.columns], ffv1.Decoded(), None)
+    for r in range(config.rows):
+        ffv1.decode_row(config, slices, r, ffv1.Decoded(), None)
     decisions = sum(slice.decoder.history.count for slice in slices)
     for slice in slices:
         slice.decoder.interval.narrow(129, 0)

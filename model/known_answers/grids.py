@@ -1,7 +1,8 @@
 # SPDX-License-Identifier: MIT OR Apache-2.0
 """Which columns and rows of slices a picture is packed in, where they are chosen and where not: in
 Matroska, and in AVI, which has one slice by default. Worked out by hand: a picture of more than
-101376 pixels has at least 4 slices, and each inner edge is a multiple of the chroma factor."""
+101376 pixels has at least 4 slices, and each inner edge is a multiple of the chroma factor, if a
+grid of at least as many columns as rows has such edges."""
 import files
 import packing
 
@@ -16,7 +17,10 @@ GRIDS = [
     (8192, 13, "mono", {}, (2, 2), (1, 1)),
     (720, 576, "422", {}, (2, 2), (1, 1)),
     (720, 486, "420jpeg", {}, (4, 1), (1, 1)),          # half of 486 is odd
-    (1366, 768, "422", {}, (1, 4), (1, 1)),             # no columns have even edges alone
+    (854, 480, "422", {}, (7, 1), (1, 1)),              # 854 is 2 * 7 * 61
+    (1366, 768, "422", {}, (2, 2), (1, 1)),             # no columns have even edges alone; 683 is shared
+    (1366, 768, "420jpeg", {}, (2, 2), (1, 1)),         # the same
+    (1998, 1080, "411", {}, (3, 2), (1, 1)),            # 2, 4 and 5 columns would leave the last out
 ]
 
 
