@@ -23,7 +23,7 @@ use Rattle.ffv1_plane.specs.Residual.{chosen_of, IsFolded}
 use Rattle.ffv1_plane.proofs.Folding.{chosen_folded}
 use Rattle.ffv1_line.specs.Cell.{Cell, seen, around, Shows, Above}
 use Rattle.ffv1_line.specs.Internal.Along.{Left}
-use Rattle.ffv1_line.specs.Internal.Parts.{ArePrepared, AreNumbered, part_steps, residual_by, residual_limit}
+use Rattle.ffv1_line.specs.Internal.Parts.{ArePrepared, HaveContexts, HaveResiduals, part_steps, residual_by, residual_limit}
 use Rattle.ffv1_line.specs.Row.{chosen_at, chosen_row, row_steps, sample_steps}
 use Rattle.ffv1_line.specs.Encoded.{Written, MayBeRefusedRow, CountsFirst}
 use Rattle.ffv1_line.specs.Beside.{before, two_before, beside, chosen_beside, place_steps, places_steps}
@@ -234,30 +234,41 @@ place_is p n k xs ys v is inside value =
     ap (λ j. shifted (j * 32) (signed_steps v)) (is.context k inside)
     ∙ ap (λ q. shifted (size_of p.set.now (beside p.two.now p.one.now p.cur.now (p.from + k)) * 32) (signed_steps q)) (value ∙ is.residual k inside)
 
--- the symbols of a block in the rows of its contexts
-pub rows_are : {A : Type 0} (p : Part A) (rows : List ℕ) (numbers : List ℤ) (n : ℕ) →
-    ((k : ℕ) → k < n → get_or rows k 0 ≡ size_of p.set.now (beside p.two.now p.one.now p.cur.now (p.from + k))) →
-    ((k : ℕ) → k < n → slice_index_or numbers k (pos 0) ≡ chosen_beside p.set.now p.bits p.two.now p.one.now p.cur.now (p.from + k)) →
-    rows_steps rows numbers n ≡ part_steps p n
+-- the symbols of places in the rows of their contexts
+pub rows_are : (set : Set) (bits : ℕ) (two one cur : List ℕ) (from : ℕ) (rows : List ℕ) (numbers : List ℤ) (n : ℕ) →
+    ((k : ℕ) → k < n → get_or rows k 0 ≡ size_of set (beside two one cur (from + k))) →
+    ((k : ℕ) → k < n → slice_index_or numbers k (pos 0) ≡ chosen_beside set bits two one cur (from + k)) →
+    rows_steps rows numbers n ≡ places_steps set bits two one cur from n
 unfolding rows_steps places_steps
-rows_are p rows numbers zero contexts chosen = refl
-rows_are p rows numbers (suc n) contexts chosen =
-    let before = rows_are p rows numbers n (λ k less. contexts k (omega arith)) (λ k less. chosen k (omega arith)) in
+rows_are set bits two one cur from rows numbers zero contexts chosen = refl
+rows_are set bits two one cur from rows numbers (suc n) contexts chosen =
+    let before = rows_are set bits two one cur from rows numbers n (λ k less. contexts k (omega arith)) (λ k less. chosen k (omega arith)) in
     let v = slice_index_or numbers n (pos 0) in
-    let here : shifted (get_or rows n 0 * 32) (signed_steps v) ≡ place_steps p.set.now p.bits p.two.now p.one.now p.cur.now (p.from + n) =
+    let here : shifted (get_or rows n 0 * 32) (signed_steps v) ≡ place_steps set bits two one cur (from + n) =
     ap (λ j. shifted (j * 32) (signed_steps v)) (contexts n (omega arith))
-    ∙ ap (λ q. shifted (size_of p.set.now (beside p.two.now p.one.now p.cur.now (p.from + n)) * 32) (signed_steps q)) (chosen n (omega arith)) in
-    ap (λ l. l ++ shifted (get_or rows n 0 * 32) (signed_steps v)) before ∙ ap (λ l. part_steps p n ++ l) here
+    ∙ ap (λ q. shifted (size_of set (beside two one cur (from + n)) * 32) (signed_steps q)) (chosen n (omega arith)) in
+    ap (λ l. l ++ shifted (get_or rows n 0 * 32) (signed_steps v)) before ∙ ap (λ l. places_steps set bits two one cur from n ++ l) here
 
 -- a residual more as a signed number
-pub numbered_next : {A : Type 0} (p : Part A) (numbers : List ℤ) (n : ℕ) (v : ℤ) → AreNumbered p numbers n → n < length numbers →
-    v ≡ chosen_beside p.set.now p.bits p.two.now p.one.now p.cur.now (p.from + n) → unsigned_abs v < 2 ^ 31 →
-    AreNumbered p (slice_set numbers n v) (n + 1)
-numbered_next p numbers n v is inside value small = record {
-  number = below_more (λ k. slice_index_or (slice_set numbers n v) k (pos 0) ≡ chosen_beside p.set.now p.bits p.two.now p.one.now p.cur.now (p.from + k)) n
+pub numbered_next : (set : Set) (bits : ℕ) (two one cur : List ℕ) (from : ℕ) (numbers : List ℤ) (n : ℕ) (v : ℤ) → HaveResiduals (λ k. chosen_beside set bits two one cur (from + k)) numbers n → n < length numbers →
+    v ≡ chosen_beside set bits two one cur (from + n) → unsigned_abs v < 2 ^ 31 →
+    HaveResiduals (λ k. chosen_beside set bits two one cur (from + k)) (slice_set numbers n v) (n + 1)
+numbered_next set bits two one cur from numbers n v is inside value small = record {
+  number = below_more (λ k. slice_index_or (slice_set numbers n v) k (pos 0) ≡ chosen_beside set bits two one cur (from + k)) n
       (λ k h. let other : k ≢ n = omega arith in get_or-set_other numbers n k v (pos 0) other ∙ is.number k h) (get_or-set_same numbers n v (pos 0) inside ∙ value);
   size = below_more (λ k. unsigned_abs (slice_index_or (slice_set numbers n v) k (pos 0)) < 2 ^ 31) n
       (λ k h. let other : k ≢ n = omega arith in rw (get_or-set_other numbers n k v (pos 0) other) (is.size k h)) (rw (get_or-set_same numbers n v (pos 0) inside) small);
+}
+
+-- and its context
+pub contexts_next : (set : Set) (two one cur : List ℕ) (from : ℕ) (contexts : List ℕ) (n size : ℕ) → HaveContexts set two one cur from contexts n → n < length contexts →
+    size ≡ size_of set (beside two one cur (from + n)) → size < contexts_of set →
+    HaveContexts set two one cur from (slice_set contexts n size) (n + 1)
+contexts_next set two one cur from contexts n size is inside context few = record {
+  context = below_more (λ k. get_or (slice_set contexts n size) k 0 ≡ size_of set (beside two one cur (from + k))) n
+      (λ k h. let other : k ≢ n = omega arith in get_or-set_other contexts n k size 0 other ∙ is.context k h) (get_or-set_same contexts n size 0 inside ∙ context);
+  few = below_more (λ k. get_or (slice_set contexts n size) k 0 < contexts_of set) n
+      (λ k h. let other : k ≢ n = omega arith in rw get_or-set_other (is.few k h)) (rw (get_or-set_same contexts n size 0 inside) few);
 }
 
 -- ---- rows of places

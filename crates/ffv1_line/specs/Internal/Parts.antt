@@ -5,7 +5,7 @@ use Rattle.std.specs.Prelude.{slice_index, ◌%◌}
 use Rattle.ffv1_range.specs.Symbols.{Step, shifted, signed_steps}
 use Rattle.ffv1_range.specs.Counts.{Counts, Counted}
 use Rattle.ffv1_range.specs.Listed.{of_nine_bits}
-use Rattle.ffv1_plane.specs.Quantisation.{HasThreeTables, contexts_of}
+use Rattle.ffv1_plane.specs.Quantisation.{Set, HasThreeTables, contexts_of}
 use Rattle.ffv1_plane.specs.Context.{size_of}
 use Rattle.ffv1_plane.specs.Lanes.{modulo_512, raised_residual}
 use Rattle.ffv1_line.specs.declared.encode.part.Part.{Part}
@@ -59,11 +59,23 @@ IsBlockOf p n b = ArePrepared p n b.contexts b.residuals
 pub record AreOfNineBits (bits n : ℕ) (residuals : List ℕ) : Type 0 where
   pub each : (k : ℕ) → k < n → IsOfNineBits bits (slice_index residuals k)
 
--- the first n of these numbers are their residuals
-pub record AreNumbered {A : Type 0} (p : Part A) (numbers : List ℤ) (n : ℕ) : Type 0 where
-  pub number : (k : ℕ) → k < n → slice_index_or numbers k (pos 0) ≡
-      chosen_beside p.set.now p.bits p.two.now p.one.now p.cur.now (p.from + k)
+-- the first n of these contexts are those of a row's places from one on
+pub record HaveContexts (set : Set) (two one cur : List ℕ) (from : ℕ) (contexts : List ℕ) (n : ℕ)
+    : Type 0 where
+  pub context : (k : ℕ) → k < n →
+      slice_index contexts k ≡ size_of set (beside two one cur (from + k))
+  pub few : (k : ℕ) → k < n → slice_index contexts k < contexts_of set
+
+-- and the first n of these numbers are the residuals of these places, given by place
+pub record HaveResiduals (residual : ℕ → ℤ) (numbers : List ℤ) (n : ℕ) : Type 0 where
+  pub number : (k : ℕ) → k < n → slice_index_or numbers k (pos 0) ≡ residual k
   pub size : (k : ℕ) → k < n → unsigned_abs (slice_index_or numbers k (pos 0)) < 2 ^ 31
+
+-- the first n of these numbers are their residuals
+abbrev pub AreNumbered : {A : Type 0} → Part A → List ℤ → ℕ → Type 0
+AreNumbered p numbers n =
+    HaveResiduals (λ k. chosen_beside p.set.now p.bits p.two.now p.one.now p.cur.now (p.from + k))
+    numbers n
 
 -- the decisions of the first n of them
 abbrev pub part_steps : {A : Type 0} → Part A → ℕ → List Step

@@ -64,6 +64,32 @@ pub(crate) fn word_right_above<W: Word>(one: &[W], x: usize, last: usize, t: u32
     W::read(one, x + 1)
 }
 
+/// The sample to the left in a row of a line of any words.
+#[inline(always)]
+pub(crate) fn word_before<W: Word>(above: &[W], row: &[W], x: usize) -> u32
+    requires above { 0 < length above.now }
+    requires row { x ≤ length row.now }
+    ensures { result ≡ before (W.samples above.now) (W.samples row.now) x }
+{
+    if x == 0 {
+        return W::read(above, 0);
+    }
+    W::read(row, x - 1)
+}
+
+/// The second sample to the left in such a row.
+#[inline(always)]
+pub(crate) fn word_two_before<W: Word>(above: &[W], row: &[W], x: usize) -> u32
+    requires above { 0 < length above.now }
+    requires row { x ≤ length row.now }
+    ensures { result ≡ two_before (W.samples above.now) (W.samples row.now) x }
+{
+    if x == 0 {
+        return 0;
+    }
+    word_before(above, row, x - 1)
+}
+
 /// The context of a sample. `three_tables` may be said of a set whose fourth and fifth tables have
 /// one level: then these are not looked up.
 #[inline(always)]

@@ -22,7 +22,8 @@ steps g c wide =
     let block = c.number_places.ensures.block in
     let long = length-take-le p.count contexts wide in
     rw long
-    (rows_are p (take p.count contexts) (take p.count numbers) p.count
+    (rows_are p.set.now p.bits p.two.now p.one.now p.cur.now p.from (take p.count contexts)
+    (take p.count numbers) p.count
     (λ k less. get_or-take p.count contexts k 0 less ∙ block.context k less)
     (λ k less. get_or-take p.count numbers k (pos 0) less ∙
     c.number_places.ensures.numbers.number k less))

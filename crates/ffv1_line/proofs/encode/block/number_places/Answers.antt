@@ -13,7 +13,8 @@ loop-k-preserved g c =
     record {
       same = c.loop-k.invariant.same;
       block = c.loop-k.invariant.block;
-      numbers = simp to_z-of_z (numbered_next c.args.part.now c.loop-k.block.numbers k
-          c.residual_from.result c.loop-k.invariant.numbers (omega arith)
+      numbers = simp to_z-of_z (numbered_next c.args.part.now.set.now c.args.part.now.bits
+          c.args.part.now.two.now c.args.part.now.one.now c.args.part.now.cur.now
+          c.args.part.now.from c.loop-k.block.numbers k c.residual_from.result c.loop-k.invariant.numbers (omega arith)
           (c.residual_from.ensures.value ∙ c.loop-k.invariant.block.residual k c.loop-k-test.true) c.residual_from.ensures.size);
     }
