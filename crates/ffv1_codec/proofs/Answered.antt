@@ -124,7 +124,7 @@ module _ {S : Type 0} (takes refuses : LineStep S) (a : Accepted) (payload : Lis
       | inr sink ↦ refused f beginning sink
     ]
 
--- few decisions are counted, where few were made
+-- few decisions are counted, if few were made
 module _ {S : Type 0} (takes refuses : LineStep S) (a : Accepted) (payload : List ℕ) (old new : S) (tally : Tally) (most : ℕ) where
   told : (t : Table) (s : State) → HasDecided t s tally → decisions_in s ≤ most → decided_by tally ≤ most
   told t s decided few = let all = decided.in_all in omega (arith, all, few)

@@ -1,4 +1,4 @@
--- In Wide few decisions are made for the coded bytes of a payload, wherever decoding stands.
+-- In Wide few decisions are made for the coded bytes of a payload, however far decoding has come.
 use Rattle.std.proofs.Common.{◌≡◌, refl, ℕ, zero, suc, ◌+◌, ◌-◌, ◌*◌, ◌/◌, ◌^◌, ◌<◌, ◌≤◌, max, true, List, ◌++◌, length, drop, ap, ◌∙◌, arith, length-append, mul_assoc}
 use Rattle.std.specs.List.{range_with_len}
 use Rattle.std.proofs.Math.Nat.{mul-le-mul_left, le-max_left, le-max_right}

@@ -1,5 +1,5 @@
--- Few decisions are made for the samples that the slices of a picture code, wherever decoding
--- stands.
+-- Few decisions are made for the samples that the slices of a picture code, however far decoding
+-- has come.
 use Rattle.std.proofs.Common.{◌≡◌, ℕ, ◌+◌, ◌*◌, ◌≤◌, true, List, ap, ◌∙◌, arith, mul_assoc}
 use Rattle.std.specs.List.{sum_by, range_with_len}
 use Rattle.ffv1_record.specs.Configuration.{is_rct}

@@ -1,4 +1,4 @@
--- Few decisions are made in a frame, wherever decoding stands.
+-- Few decisions are made in a frame, however far decoding has come.
 use Rattle.std.proofs.Common.{◌≡◌, ◌≢◌, refl, ℕ, ℤ, zero, suc, ◌+◌, ◌-◌, ◌<◌, ◌≤◌, true, Option, List, [], ◌∷◌, ◌++◌, map, length, get_or, replicate, inl, inr, ap, sym, subst, ◌∙◌, arith, length-set, get_or-set_same, get_or-set_other}
 use Rattle.std.specs.List.{flat_map, range_with_len}
 use Rattle.std.proofs.lemmas.Bool.{cases_lt, cases_eq}
@@ -46,8 +46,8 @@ lines_in_lines c r same =
     subst (Each (IsInLines c r)) (sym (row_by_groups c r))
     (each_flat (IsInLines c r) (IsGroup c r) (group_events c r) (groups_of c r) (groups_are c r same) (group_in_lines c r))
 
--- what bounds the decisions of the slice in row r and column k: what holds of it between two events,
--- and how many there are then, and where an event of it is refused
+-- what bounds the decisions of the slice in row r and column k: what holds of it between two
+-- events, and how many there are then, and when an event of it is refused
 pub record SliceLaws (a : Accepted) (coded : ℕ → List ℕ) (most : ℕ → ℕ → ℕ) (Has : ℕ → ℕ → Slice → Type 0) : Type 0 where
   pub few : (r k : ℕ) (q : Slice) → Has r k q → length q.past ≤ most r k
   pub opened : (r k : ℕ) (h : SliceHead) → r < a.configuration.rows → k < a.configuration.columns →

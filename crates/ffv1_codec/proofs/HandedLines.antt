@@ -456,7 +456,7 @@ module _ (a : Accepted) (coded : ℕ → List ℕ) (laws : PictureLaws a) where
             rows_up (from + 1) count later.0 after split.0 t (subst (λ n. RowStart a coded laws n split.0) next (row_closed a coded laws from s split.0 start split.1)) (subst (λ n. AreUp n split.0) next whole) later.2 split.2
       ]
 
-  -- wherever decoding stands
+  -- however far decoding has come
   pub handed_finish : (before after : List Event) (s : State) → events_of a.configuration ≡ before ++ after → Runs (StepsBy a coded) (at_first a.configuration) before s → All (IsFinishOf a coded (slice_of s)) s.lines
   handed_finish before after s parts f =
       each_all (IsFinishOf a coded (slice_of s)) s.lines (rows_up 0 a.configuration.rows before after (at_first a.configuration) s (first_start a coded laws) tt parts f)

@@ -22,7 +22,7 @@ pub samples_long : {A : Type 0} (lines : Lines A) → length (samples_of_lines l
 samples_long (kind.Narrow v) = refl
 samples_long (kind.Wide v) = refl
 
--- and of those kept there are as many as behind the lines of planes that are coded together
+-- as many are kept as come after the lines of planes that are coded together
 pub kept_long : {A : Type 0} (c : Configuration) (old new : Lines A) → length_of_lines new ≡ length_of_lines old → length (kept_in c (samples_of_lines new)) ≡ length_of_lines old - 3 * line_length c
 kept_long c old new same = length-drop (3 * line_length c) (samples_of_lines new) ∙ ap (λ n. n - 3 * line_length c) (samples_long new ∙ same)
 

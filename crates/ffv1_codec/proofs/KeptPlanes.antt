@@ -25,7 +25,7 @@ use Rattle.ffv1_codec.proofs.WrittenParts.{put, put_window, put_other}
 use Rattle.ffv1_codec.proofs.PlanesReads.{kept_stays}
 use Rattle.ffv1_codec.proofs.KeptSeries.{last_later}
 
--- there are two lines where there is something
+-- there are two lines if there is something
 pub kept_both : (c : Configuration) (n : ℕ) → KeepsChroma c n → 0 < n → n ≡ 2 * plane_width c 1
 kept_both c n keeps some = elim keeps [
   | inl none ↦ absurd (omega (arith, some, none.0))
@@ -135,7 +135,7 @@ length_apart c e = let one = planes_apart c.colour c.extra_plane e in ap (λ n. 
 pub length_together : (c : Configuration) → is_rct c.colour ≡ true → c.chroma_planes ≡ true → line_length c ≡ plane_count c * c.width
 length_together c e chroma = ap (λ n. n * c.width) (planes_together c.colour c.chroma_planes c.extra_plane e chroma)
 
--- what is kept stands behind them
+-- what is kept comes after them
 module _ {A : Type 0} (samples : List A → List ℕ) (lengths : (xs : List A) → length (samples xs) ≡ length xs) (drops : (n : ℕ) (xs : List A) → samples (drop n xs) ≡ drop n (samples xs))
     (joins : (xs ys : List A) → samples (xs ++ ys) ≡ samples xs ++ samples ys) where
   pub kept_behind : (c : Configuration) (xs ys : List A) → length xs ≡ 3 * line_length c → kept_in c (samples (xs ++ ys)) ≡ samples ys

@@ -71,7 +71,7 @@ parts_joined s tiles =
     parts.ranges ∙ ap (λ k. range_with_len k parts.many) tiles.first
     ∙ ap (range_with_len 0) (let many : parts.many ≡ whole_of s = omega (arith, parts.ends, tiles.first, end) in many)
 
--- a cell has its part of the side, where it has no sample of another
+-- a cell has its part of the side, if it has no sample of another
 pub own_lines : (s : Side) → Tiles s → (k : ℕ) → k < s.count → shared_of s k ≡ 0 → range_with_len (first_of s k) (coded_of s k) ≡ range_with_len (begin_of s k) (length_of s k)
 own_lines s tiles k inside none =
     let begins = tiles.begins k inside in
@@ -121,7 +121,7 @@ module _ (c : Configuration) where
       ∙ ap (λ z. z ++ map key_of made.1) (handed_keys r g.y 0 made.0 (new_planes c r g.planes g.y))
       ∙ ap (λ z. group_keys r g ++ z) (made_keys r slice gs made.1 made.3)
 
-  -- line y of some planes, where f tells the row of a plane
+  -- line y of some planes, if f tells the row of a plane
   abbrev pub keys_by : (ℕ → ℕ → ℕ) → List ℕ → ℕ → List Line
   keys_by f planes y = map (λ p. record { plane = p; y = f p y }) planes
 

@@ -1,4 +1,4 @@
--- Events in a row: runs that are joined and parted, and that there is one end at most, where each
+-- Events in a row: runs that are joined and parted, and that there is one end at most, if each
 -- event is of some kind.
 use Rattle.std.proofs.Common.{ap, ◌≡◌, ◌⊎◌, refl, ℕ, zero, suc, ◌+◌, ◌<◌, ◌≤◌, List, [], ◌∷◌, ◌++◌, map, inl, inr, sym, subst, ◌∙◌, arith}
 use Rattle.std.specs.List.{flat_map, range_with_len}

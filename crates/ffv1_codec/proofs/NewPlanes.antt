@@ -27,7 +27,7 @@ plane_new P c r planes y all = elim (new_or_none c r planes y) [
   | inr none ↦ subst (Each P) (sym none) tt
 ]
 
--- where the row above has no line of them, they are all
+-- if the row above has no line of them, they are all
 pub all_new : (c : Configuration) (r : ℕ) (planes : List ℕ) (y : ℕ) → ((p : ℕ) → shared_of (down (division_of c) p) r ≤ y) → new_planes c r planes y ≡ planes
 all_new c r [] y none = refl
 all_new c r (p ∷ ps) y none = ap (λ b. if b then [] else p ∷ ps) (le-ltb y (shared_of (down (division_of c) p) r) (none p))

@@ -1,4 +1,4 @@
--- Where slices have no sample in common, no answer is that they say different values of one.
+-- If slices have no sample in common, no answer is that they say different values of one.
 use Rattle.std.proofs.Common.{◌≡◌, ◌≢◌, refl, ℕ, ◌<◌, Bool, true, false, Err, Result, Ok, List, [], ◌∷◌, ◌++◌, map, inl, inr, ap, subst, sym, ◌∙◌, arith}
 use Rattle.std.specs.Prelude.{slice_index}
 use Rattle.std.specs.List.{flat_map, range_with_len}

@@ -42,7 +42,7 @@ use Rattle.ffv1_codec.proofs.Words.{get_or_bytes}
 use Rattle.ffv1_codec.proofs.PictureMade.{PictureLaws, alike_lines, some_wide, each_all}
 
 module _ {S E : Type 0} (step : Steps S E) (Fine : S → E → Type 0) where
-  -- wherever the events lead, the next one is fine
+  -- whatever the events lead to, the next one is fine
   abbrev pub AllFine : S → List E → Type 0
   AllFine s [] = Unit {0}
   AllFine s (e ∷ es) = Fine s e × ((m : S) → step s e m → AllFine m es)

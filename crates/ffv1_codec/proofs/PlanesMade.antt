@@ -1,4 +1,4 @@
--- Planes of lines: where a list has each line of a plane once, from the top, its samples one after
+-- Planes of lines: if a list has each line of a plane once, from the top, its samples one after
 -- the other are the plane.
 use Rattle.std.proofs.Common.{◌≡◌, refl, ℕ, zero, suc, ◌+◌, ◌-◌, ◌*◌, ◌≤◌, true, false, if◌then◌else◌, ◌==◌, List, [], ◌∷◌, ◌++◌, map, length, take, drop, inl, inr, ap, sym, subst, ◌∙◌, arith, length-append}
 use Rattle.std.specs.List.{flat_map, range_with_len}

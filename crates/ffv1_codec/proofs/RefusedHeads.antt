@@ -18,7 +18,7 @@ pub record AreFew (rules : List Rule) (most : ℕ) : Type 0 where
 pub record IsShort (r : Rule) (most : ℕ) : Type 0 where
   pub value : (before v : ℕ) → v < 2 ^ 31 → r.passes before v ≡ true → length (unsigned_steps v) ≤ most
 
--- so it is of one more rule
+-- the same holds of one more rule
 one_more : (r : Rule) (rs : List Rule) (m b : ℕ) → IsShort r m → AreFew rs b → 62 ≤ b → AreFew (r ∷ rs) (m + b)
 unfolding Stops
 one_more r rs m b here rest least = record {

@@ -1,4 +1,4 @@
--- Where the bytes code a picture, decoding runs to its end.
+-- If the bytes code a picture, decoding runs to its end.
 use Rattle.std.proofs.Common.{◌≡◌, ◌≢◌, refl, ℕ, zero, suc, ◌+◌, ◌-◌, ◌*◌, ◌<◌, ◌≤◌, if◌then◌else◌, List, [], ◌∷◌, ◌++◌, map, length, get_or, inl, inr, ap, sym, subst, ◌∙◌, arith, append-nil, append_assoc, length-set, get_or-set_same, get_or-set_other}
 use Rattle.std.specs.List.{flat_map, range_with_len}
 use Rattle.std.proofs.Math.Nat.{mul-le-mul_left}

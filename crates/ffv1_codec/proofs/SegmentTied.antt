@@ -43,7 +43,7 @@ plane_now planes p xs h = plane_is (slice_set planes p xs) p ∙ get_or-set_same
 pub plane_other : (planes : Planes) (p q : ℕ) (xs : List ℕ) → q ≢ p → plane (slice_set planes p xs) q ≡ plane planes q
 plane_other planes p q xs other = plane_is (slice_set planes p xs) q ∙ get_or-set_other planes p q xs [] other ∙ sym (plane_is planes q)
 
--- samples below a bound, and a row of such samples after them
+-- samples below a bound, and after them a row of samples below it
 pub small_both : (bound : ℕ) (xs ys : List ℕ) → 0 < bound → ((i : ℕ) → slice_index xs i < bound) → ((i : ℕ) → i < length ys → slice_index ys i < bound) → (i : ℕ) → slice_index (xs ++ ys) i < bound
 small_both bound xs ys some first second i = elim (cases_lt i (length xs)) [
   | inl less ↦ subst (λ z. z < bound) (sym (get_or_append_left xs ys 0 i less)) (first i)

@@ -62,7 +62,7 @@ none_shared c (suc zero) k tiles inside none = none
 none_shared c (suc (suc zero)) k tiles inside none = none
 none_shared c (suc (suc (suc p))) k tiles inside none = tiles.flat refl k inside
 
--- a row that was read where some line had another one
+-- a row that was read when some line had another one
 module _ (c : Configuration) (r k p offset y : ℕ) (two one old cur row : List ℕ) (s : State) (are : AreParts (across (division_of c) p)) (inside : k < c.columns)
     (line : TiedLine c p offset k y (rolling_lines two one old) s) (row_is : part_of c p offset k cur ≡ row) where
   row_at : (x : ℕ) → x < width_in c p k → slice_index row x ≡ get_or cur (offset + left_of c p k + x) 0
@@ -99,7 +99,7 @@ module _ (c : Configuration) (r k p offset y : ℕ) (two one old cur row : List 
           row_at x small ∙ stands (some_kept above.0) x less ∙ tied above.0 k x inside small ∙ sym above.1
     ]
 
-    -- and differs where it has not
+    -- and differs if it has not
     pub differs_above : 0 < long → (x : ℕ) → x < width_in c p k → (StandsKept c p k offset kept cur x → ⊥) →
         SaidBefore c s r k p y x (above_sample c s r k p x) × (slice_index row x ≢ above_sample c s r k p x)
     differs_above some x small other =

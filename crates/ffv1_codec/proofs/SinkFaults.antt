@@ -1,4 +1,4 @@
--- A fault is the sink's exactly where it refused the line that came next.
+-- A fault is the sink's exactly if it refused the line that came next.
 use Rattle.std.proofs.Common.{◌≡◌, ◌≢◌, refl, ℕ, ◌+◌, Result, Ok, Err, List, [], ◌∷◌, get_or, inl, inr, ap, sym, subst}
 use Rattle.std.specs.Prelude.{slice_index}
 use Rattle.ffv1_wire.specs.Runs.{LineStep}

@@ -1,4 +1,4 @@
--- Where the bytes code the slices of a picture, each slice reads its lines.
+-- If the bytes code the slices of a picture, each slice reads its lines.
 use Rattle.std.proofs.Common.{◌≡◌, ◌≢◌, refl, ℕ, ℤ, suc, ◌+◌, ◌*◌, ◌<◌, if◌then◌else◌, List, [], ◌∷◌, ◌++◌, map, length, get_or, set, inl, inr, ap, sym, subst, ◌∙◌, arith, append-nil, append_assoc, length-append, length-set}
 use Rattle.std.specs.List.{range_with_len}
 use Rattle.std.proofs.lemmas.Bool.{cases_lt, cases_eq, eq-eqb, ne_eqb}

@@ -84,7 +84,7 @@ total_below size none f from (x ∷ xs) most =
     omega (arith, next, place)) in
     omega (arith, first, same, rest)
 
--- the cells of a side are all of it, where none has a sample of another
+-- the cells of a side are all of it, if none has a sample of another
 parts_total : (s : Side) → Tiles s → ((k : ℕ) → k < s.count → shared_of s k ≡ 0) → (from count : ℕ) → from + count ≤ s.count → begin_of s from + total (coded_of s) (range_with_len from count) ≡ begin_of s (from + count)
 parts_total s tiles none from zero fits =
     (let same : begin_of s from + 0 ≡ begin_of s from = omega arith in same) ∙ ap (begin_of s) (let here : from ≡ from + 0 = omega arith in here)

@@ -6,7 +6,7 @@ use Rattle.ffv1_slice.specs.Footer.{foot_length}
 use Rattle.ffv1_slice.specs.Grid.{division_of, across, down, coded_of}
 use Rattle.ffv1_codec.specs.Picture.{plane_count}
 
--- how many samples the slices of a picture code, where one that several code counts for each
+-- how many samples the slices of a picture code; one that several slices code counts once for each
 abbrev pub coded_samples : Configuration → ℕ
 coded_samples c =
     sum_by (λ p. sum_by (coded_of (across (division_of c) p)) (range_with_len 0 c.columns)
@@ -24,9 +24,9 @@ most_decisions c =
 abbrev pub coded_bytes : Configuration → List ℕ → ℕ
 coded_bytes c payload = length payload - c.columns * c.rows * foot_length c.ec
 
--- in Wide, where so many decisions in a row renormalise: at most so many for each coded byte and so
--- many a slice, or 169 where that is more, its key and a head of which a number is refused; and 63
--- for each sample of one line of its cell
+-- in Wide, if so many decisions in a row renormalise: at most so many for each coded byte and so
+-- many a slice, or 169 if that is more, its key and a head of which a number is refused; and 63 for
+-- each sample of one line of its cell
 abbrev pub most_by_bytes : ℕ → Configuration → List ℕ → ℕ
 most_by_bytes each c payload =
     each * coded_bytes c payload

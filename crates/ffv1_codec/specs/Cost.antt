@@ -14,7 +14,7 @@ abbrev pub weight_in : Table → List Slice → ℕ
 weight_in t [] = 1
 weight_in t (q ∷ qs) = weight (decisions_after t [] q.past) * weight_in t qs
 
--- each decision of these slices has a state that the table holds; and their bytes, of which a tally
+-- each decision of these slices has a state that the table holds. Their bytes, of which a tally
 -- shows the renormalisations, are little more than their weight asks for, a factor of at most
 -- (floor + 1) / floor for each 1, and little fewer, by such a factor for each 0, and one of 255 a
 -- slice
@@ -26,7 +26,7 @@ pub record Costs (t : Table) (slices : List Slice) (tally : Tally) : Type 0 wher
       ≤ 255 ^ length slices * 256 ^ tally.renormalisations * (t.floor + 1) ^ tally.zeros
       * weight_in t slices
 
--- so the decisions that a tally shows cost, where a payload was cut; else nothing was decided
+-- the decisions that a tally shows cost so much, if a payload was cut; else nothing was decided
 abbrev pub HasCost : Accepted → Tally → Type 0
 HasCost a tally =
     (tally ≡ no_tally)

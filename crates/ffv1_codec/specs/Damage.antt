@@ -30,7 +30,7 @@ pub record IsBurst (c : Configuration) (sent payload : List ℕ) (spans : ℕ �
   pub differs : bit_xor (number_of (slice_of sent spans s)) (number_of (slice_of payload spans s))
       ≡ bits * 2 ^ place
 
--- the payload is a good one, but for such damage
+-- the payload is a good one, but for damage of that kind
 pub record IsDamaged (a : Accepted) (sent payload : List ℕ) (spans : ℕ → ℕ) (s : ℕ)
     : Type 0 where
   pub bytes : AreBytes sent

@@ -49,7 +49,7 @@ decided_in steps = record {
 abbrev pub unread : Slice
 unread = decided_in []
 
--- where decoding stands
+-- how far decoding has come
 pub record State : Type 0 where
   -- what the first slice says
   pub info : Option Said
@@ -239,7 +239,7 @@ module _ (a : Accepted) (coded : ℕ → List ℕ) where
       shifted (base_of a.configuration p)
       (refused_row_steps (set_in a.configuration q.head p) (cell_with q p width row) y qs)
 
-  -- why slice n is not opened, where info was said before, and the decisions up to there
+  -- why slice n is not opened, if info was said before, and the decisions up to there
   abbrev pub RefusesOpen : Option Said → ℕ → CodecFault → List Step → Type 0
   RefusesOpen info n f steps =
       ((f ≡ fault.BadStart) × (Codes (coded n) [] → ⊥) × (steps ≡ []))

@@ -1,5 +1,5 @@
--- Where a slice ends. RFC 9043, 3.8.1.1.1: one more decision by state 129 stands at its end, and
--- where its length is known it is 0.
+-- Where a slice ends. RFC 9043, 3.8.1.1.1: one more decision by state 129 comes at its end, and if
+-- its length is known it is 0.
 use Rattle.std.specs.Prelude.{◌≡◌, ℕ, List, []}
 use Rattle.ffv1_range.specs.Interval.{interval_of}
 use Rattle.ffv1_range.specs.Ending.{IsEnded}

@@ -1,5 +1,5 @@
--- What is known of a line that was handed over, wherever decoding stands: the bytes of the slices
--- code the lines that it is made of.
+-- What is known of a line that was handed over, however far decoding has come: the bytes of the
+-- slices code the lines that it is made of.
 use Rattle.std.specs.Prelude.{◌≡◌, ◌⊎◌, ℕ, ◌+◌, ◌<◌, true, List, [], ◌∷◌, ◌++◌, map, length, Ok}
 use Rattle.std.specs.Prelude.{slice_index}
 use Rattle.std.proofs.Common.{get_or}
@@ -71,8 +71,8 @@ pub record AreFinishesOf (a : Accepted) (payload : List ℕ) (lines : List wire.
       (IsFinishOf a (coded_of payload (foot_length a.configuration.ec) (slice_index offsets)) slice)
       lines
 
--- what a sink was handed of a payload: nothing, or such lines, of which it may have refused the
--- last
+-- what a sink was handed of a payload: nothing, or lines of that kind, of which it may have refused
+-- the last
 abbrev pub HandsFinishes : {S : Type 0} → LineStep S → LineStep S → Accepted → List ℕ → S → S →
     Type 0
 HandsFinishes {S = S} takes refuses a payload old new =

@@ -1,5 +1,5 @@
 -- What sinks of a configuration's lines do with a line: it is taken into its place, or only looked
--- at, and refused exactly where it is no line of the configuration.
+-- at, and refused exactly if it is no line of the configuration.
 use Rattle.std.specs.Prelude.{◌≡◌, ℕ, ◌*◌, ◌<◌, List, ◌++◌, length, take, drop, slice_set}
 use Rattle.std.specs.Prelude.{map, replicate}
 use Rattle.std.specs.List.{range_with_len}

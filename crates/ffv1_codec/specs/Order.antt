@@ -1,6 +1,6 @@
 -- The order in which a frame is decoded: the slices of a row side by side, line by line, and each
--- line of the picture as soon as it is whole (RFC 9043, 4.4 to 4.8, has the order within a slice;
--- that across the slices of a row is this decoder's).
+-- line of the picture as soon as it is whole. RFC 9043, 4.4 to 4.8, has the order within a slice;
+-- that across the slices of a row is this decoder's.
 use Rattle.std.specs.Prelude.{◌≡◌, ℕ, ◌+◌, nat_lt, if◌then◌else◌, Bool, false, List}
 use Rattle.std.specs.Prelude.{[], ◌∷◌, ◌++◌, map}
 use Rattle.std.proofs.Common.{suc}

@@ -8,7 +8,7 @@ use Rattle.ffv1_codec.specs.declared.fault.FrameFault.{FrameFault}
 abbrev pub IsOwn : FrameFault → Type 0
 IsOwn f = f.fault ≢ fault.Sink
 
--- the sink counted a refusal exactly where the answer is its fault
+-- the sink counted a refusal exactly if the answer is its fault
 abbrev pub CountsSink : {A : Type 0} → ℕ → ℕ → Result A FrameFault → Type 0
 CountsSink old new result =
     MatchResult result (λ _. new ≡ old)

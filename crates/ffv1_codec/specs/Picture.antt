@@ -23,7 +23,7 @@ Planes = List (List ℕ)
 abbrev pub planes_of : {A : Type 0} → List (Vec ℕ A) → Planes
 planes_of planes = map (λ v. v.items) planes
 
--- one plane, and none where there is none of that number
+-- one plane, and none if there is none of that number
 abbrev pub samples_in : Option (List ℕ) → List ℕ
 samples_in None = []
 samples_in (Some samples) = samples

@@ -103,7 +103,7 @@ pub record Said : Type 0 where
   pub sar_num : ℕ
   pub sar_den : ℕ
 
--- the aspect that two numbers say in a profile, and 0 and 0, unknown, where they say none
+-- the aspect that two numbers say in a profile, and 0 and 0, unknown, if they say none
 abbrev pub aspect_or_unknown : Option (ℕ × ℕ) → ℕ × ℕ
 aspect_or_unknown None = (0, 0)
 aspect_or_unknown (Some aspect) = aspect

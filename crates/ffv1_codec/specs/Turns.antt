@@ -1,5 +1,5 @@
--- What a sink has made of a configuration's lines, where a fault is answered: it took a beginning
--- of them in their order, and it may have refused the line that came next.
+-- What a sink has made of a configuration's lines, if a fault is answered: it took a beginning of
+-- them in their order, and it may have refused the line that came next.
 use Rattle.std.specs.Prelude.{◌≡◌, ℕ, List, ◌∷◌, ◌++◌}
 use Rattle.ffv1_wire.specs.Runs.{Grows, Line, LineStep, places_in}
 use Rattle.ffv1_record.specs.Configuration.{Configuration}

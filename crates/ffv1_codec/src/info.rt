@@ -42,8 +42,9 @@ impl Model for Info {
 
 impl Info {
     /// What a picture says: its structure, 0 unknown, 1 top field first, 2 bottom field first or 3
-    /// progressive, and the width and the height of a sample, both 0 or neither. None exactly where
-    /// the structure is above 3, or one number of the aspect is 0 alone. It takes no memory.
+    /// progressive, and the width and the height of a sample, both 0 or neither. None exactly if
+    /// the structure is above 3, or if one number of the aspect is 0 and the other is not. It takes
+    /// no memory.
     pub fn new(structure: u8, sar_num: u16, sar_den: u16) -> Option<Info>
         ensures some { IfSome result (λ i. i ≡ record {
           structure = structure;
@@ -76,14 +77,14 @@ impl Info {
         self.structure
     }
 
-    /// The width of a sample in the unit of its height, or 0 where the aspect is unknown.
+    /// The width of a sample in the unit of its height, or 0 if the aspect is unknown.
     pub fn sar_num(&self) -> u16
         ensures { result ≡ self.now.sar_num }
     {
         self.sar_num
     }
 
-    /// The height of a sample, or 0 where the aspect is unknown.
+    /// The height of a sample, or 0 if the aspect is unknown.
     pub fn sar_den(&self) -> u16
         ensures { result ≡ self.now.sar_den }
     {

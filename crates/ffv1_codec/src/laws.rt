@@ -72,7 +72,7 @@ pub fn chosen_slices_suit_their_picture()
     slice_laws::parts_follow_one_another();
 }
 
-/// The payload that an encoder writes of a picture codes the picture, where no slice has more
+/// The payload that an encoder writes of a picture codes the picture, if no slice has more
 /// coded bytes than its footer can say.
 pub fn encoded_frame_codes_its_picture()
     ensures { (a : Accepted) (planes : Planes) (info : Said) →
@@ -114,7 +114,7 @@ pub fn worked_frames_have_known_bytes()
         254 ∷ 120 ∷ 223 ∷ 131 ∷ 217 ∷ 44 ∷ 0 ∷ 0 ∷ 6 ∷ [] }
 {}
 
-/// How many decisions the residuals of a slice take: 2 n + 1 for each of n binary digits, and how
+/// How many decisions the residuals of a slice take: 2 n + 1 for each of n binary digits. And how
 /// many bytes a slice has before its footer: one and its renormalisations, at most as many as its
 /// decisions and 101 more, with 6 for a third set index and 2 for each place that may be above 15.
 pub fn slice_length_follows_from_residuals()
@@ -152,8 +152,8 @@ pub fn slice_length_follows_from_residuals()
 }
 
 /// How many bytes a frame has: one and the footer's for each slice, and one for each
-/// renormalisation; at most 2 n + 1 for each residual of n binary digits, and 109 for each slice,
-/// with 6 for a third set index and 2 for each place that may be above 15.
+/// renormalisation. That is at most 2 n + 1 for each residual of n binary digits, and 109 for each
+/// slice, with 6 for a third set index and 2 for each place that may be above 15.
 pub fn frame_length_follows_from_residuals()
     ensures long { (a : Accepted) (planes : Planes) (info : Said) →
         length (frame_of a planes info) ≡ (frame_counts a planes info).renormalisations

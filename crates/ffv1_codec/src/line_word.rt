@@ -45,7 +45,7 @@ pub(crate) struct LineCoding<'a, B: Allocator> {
 /// Words that lines of samples of some numbers of bits are coded in: 8 to 16 bits in words of 16
 /// bits, and 17 in words of 32.
 pub(crate) trait LineWord: Word {
-    // Lines of samples of so many bits are coded in such words.
+    // Lines of samples of so many bits are coded in words of this type.
     ghost holds: { ℕ → Type 0 };
 
     /// Decodes a row of a cell, as `ffv1_line::decode_line` does.
@@ -99,7 +99,7 @@ pub(crate) trait LineWord: Word {
     fn clear(lines: &mut [Self])
         ensures { Self.samples lines.new ≡ replicate (length lines.old) 0 };
 
-    /// So many zeros, in the memory that a row has where they find room in it. None of it is given
+    /// So many zeros, in the memory that a row has if they find room in it. None of it is given
     /// back.
     fn renew<A: Allocator>(row: &mut Vec<Self, A>, width: usize) -> Result<(), AllocError>
         ensures zeros { OnOk result (Self.samples row.new.items ≡ replicate width 0) }

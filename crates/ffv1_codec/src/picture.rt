@@ -15,7 +15,7 @@ use std::alloc::{Allocator, Global};
 use std::marker::Model;
 
 /// A picture: for each plane its samples, row after row (RFC 9043, 3.2). In RCT the planes are red,
-/// green, blue and, where there is one, transparency, else Y, Cb, Cr and transparency. A sample of
+/// green, blue and, if there is one, transparency, else Y, Cb, Cr and transparency. A sample of
 /// 8 bits is a byte, and one of more bits two, the low byte first. It is seen as the list of its
 /// planes.
 #[derive(Drop)]
@@ -77,9 +77,9 @@ fn fit<A: Allocator>(grid: &Grid, planes: &[Vec<u8, A>]) -> bool
 }
 
 impl<A: Allocator> Picture<A> {
-    /// A picture of a configuration. None exactly where the number of planes, or the length of one,
-    /// is not the configuration's, or where a sample has more bits than its depth, which at 8 bits
-    /// none has; the planes are dropped then. It takes no memory.
+    /// A picture of a configuration. None exactly if the number of planes, or the length of one, is
+    /// not the configuration's, or if a sample has more bits than its depth, which at 8 bits none
+    /// has. The planes are then dropped. It takes no memory.
     pub fn new<B: Allocator>(checked: &Checked<B>, planes: Vec<Vec<u8, A>, A>) -> Option<Picture<A>>
         ensures some { IfSome result (λ p. p ≡ planes_of planes.items) }
         ensures fits { IfSome result (Fits checked.now.configuration) }

@@ -14,7 +14,7 @@ use ffv1_record::laws as record_laws;
 use ffv1_slice::laws as slice_laws;
 
 /// The slices of a row lie beside one another in each plane, and rows below one another. A decoder
-/// holds three lines of the planes that are coded together, and behind them a line of Cb and one of
+/// holds three lines of the planes that are coded together, and after them a line of Cb and one of
 /// Cr, if two rows of slices share a line.
 pub(crate) fn slices_lie_beside_one_another()
     ensures across { (c : Configuration) (t : Table) (p : ℕ) → IsAccepted c t →

@@ -369,7 +369,7 @@ impl<A: Allocator> Config<A> {
     /// is the greatest depth that the profile `Wide` accepts. Refuses with the first of these that
     /// stands: `Size`, `Depth`, `Subsampling`, `ExtraPlane`, `Sets`, `StateTable`, `Grid`,
     /// `ChromaEdge`; else accepts. `Depth` comes in `Strict` if the depth is not 8, and in
-    /// `Wide` where it is not 8, 9, 10, 12, 14 or 16, or is above `most`. `ChromaEdge` comes in
+    /// `Wide` if it is not 8, 9, 10, 12, 14 or 16, or is above `most`. `ChromaEdge` comes in
     /// `Strict` if an inner edge is no multiple of its chroma factor, and in `Wide` if a column
     /// or a line of chroma lies in no slice. It takes no memory.
     pub fn check_in(

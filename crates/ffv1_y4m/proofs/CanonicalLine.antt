@@ -140,7 +140,7 @@ chroma_back false zero zero false depth least most = by_depth (Back false 0 0 fa
 chroma_back false zero (suc b) extra depth least most = λ h. absurd (false≢true h)
 chroma_back false (suc a) b extra depth least most = λ h. absurd (false≢true h)
 
--- the name is read as its chroma, where its depth is read
+-- the name is read as its chroma, if its depth is read
 capped_back_by : (most : ℕ) (c : Chroma) (value : List ℕ) → chroma_named value ≡ Some c → c.depth ≤ most → chroma_of most value ≡ Some c
 capped_back_by most c value is small = rw (is, le-leb c.depth most small) refl
 

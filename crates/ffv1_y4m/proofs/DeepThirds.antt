@@ -119,7 +119,7 @@ whole_by false n = omega arith
 pub whole_samples : (depth n : ℕ) → half_of depth (bytes_for depth n) ≡ 0
 whole_samples depth n = whole_by (depth == 8) n
 
--- a block of whole samples of a line of such
+-- a block of whole samples of a line of whole samples
 end_by : (b : Bool) (all done end : ℕ) → half_by b all ≡ 0 → half_by b done ≡ 0 → (end ≡ all) ⊎ (end ≡ done + 1024) → half_by b end ≡ 0
 end_by true all done end p q is = refl
 end_by false all done end p q (inl is) = omega (arith, p, is)

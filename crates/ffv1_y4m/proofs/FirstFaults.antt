@@ -114,7 +114,7 @@ rest_of : {X : Type 0} (reading : Reading X) (text : List ℕ) (new : Option (Li
 rest_of reading text None f h = absurd h
 rest_of reading text (Some rest) f h = (rest, h)
 
--- where the bytes are known, a refusal that no read and no memory is to blame for is the reading's
+-- if the bytes are known, a refusal that comes from no read and from no memory is the reading's
 pub refused_as : {X : Type 0} (reading : Reading X) (grows : List ℕ → Type 0) (text : List ℕ) (new : Option (List ℕ)) (before after : ℕ) (f : Fault) → Refused reading grows (record { old = Some text; new = new; before = before; after = after }) f →
     (f ≡ fault.Read → ⊥) → (f ≡ fault.OutOfMemory → ⊥) → (rest : List ℕ) × (reading text ≡ Err (f, rest))
 refused_as reading grows text new before after fault.Read why a b = absurd (a refl)

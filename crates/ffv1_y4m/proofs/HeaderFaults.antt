@@ -102,7 +102,7 @@ known_by most text f rest (Err (g, left)) is e =
 pub header_known : (most : ℕ) (text : List ℕ) (f : Fault) (rest : List ℕ) → header_of most text ≡ Err (f, rest) → (n : ℕ) × HeaderFault most text f n
 header_known most text f rest e = known_by most text f rest (line_read 1025 text) refl e
 
--- such a header is refused
+-- a line that is no header is refused
 none_by : (most : ℕ) (text : List ℕ) (line rest : List ℕ) → ((l u : List ℕ) (tags : List (List ℕ)) → HasLine text l u → HasTags l tags → ⊥) → HasLine text line rest → Line most line → judge (head_of_line most line) rest ≡ Err (fault.Header, rest)
 none_by most text line rest none has (inl (tags, t)) = absurd (none line rest tags has t)
 none_by most text line rest none has (inr (is, not)) = rw is refl

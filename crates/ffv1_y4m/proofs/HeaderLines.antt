@@ -150,7 +150,7 @@ all_only most ((letter ∷ value) ∷ tags) t u plain h =
     let letters = known most t letter value b.x b.begins in
     record { are = (letters, plain.0, more.are); moved = back most t value tags b.x u letter letters b.begins more.moved }
 
--- chroma of a name, where its depth is read, and the other way round
+-- chroma of a name, if its depth is read, and the other way round
 up_by : (most : ℕ) (c d : Chroma) (b : Bool) → nat_le c.depth most ≡ b → cond b (Some c) None ≡ Some d → (c ≡ d) × (c.depth ≤ most)
 up_by most c d true test h = (ap (some_in d) h, leb-true c.depth most test)
 up_by most c d false test h = absurd (false≢true (ap is_some h))

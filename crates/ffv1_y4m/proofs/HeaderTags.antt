@@ -12,7 +12,7 @@ use Rattle.ffv1_y4m.proofs.CanonicalLine.{judged_width, judged_height, judged_ra
 abbrev pub SaysUpTo : ℕ → List ℕ → Chroma → Type 0
 SaysUpTo most value c = chroma_of most value ≡ Some c
 
--- what tags of one letter make of a value: at most one says it, where none did before
+-- what tags of one letter make of a value: at most one says it, if none did before
 abbrev pub Moves : {X : Type 0} → (List ℕ → X → Type 0) → Option X → List (List ℕ) → Option X → Type 0
 Moves says old [] new = new ≡ old
 Moves {X = X} says None (value ∷ []) new = (x : X) × says value x × (new ≡ Some x)

@@ -177,7 +177,7 @@ image_header_found most depth w h header rest s is = elim (cases_lt 8 most) [
       header_is_lined most (header ++ rest) few ∙ (rw line (lined_found most depth w h rest s.sized s.says))
 ]
 
--- such a header has a byte at least
+-- a header that is so written has a byte at least
 lined_some : (depth w h : ℕ) → 0 < length (image_header_text depth w h)
 lined_some depth w h =
     let long = ap length (sym (append-nil (image_header_text depth w h)) ∙ header_parts depth w h []) in
@@ -284,7 +284,7 @@ pub all_images_found : (text : List ℕ) (most depth w h : ℕ) (p : List (List 
     (rest : List ℕ) × (image_header most text ≡ Ok (record { head = colour_head w h; depth = depth }, rest)) × ReadsFrom most (record { head = colour_head w h; depth = depth }) rest p ps
 all_images_found text most depth w h p ps t within = all_spelled_found text most depth w h p ps (lined_images text most depth w h (p ∷ ps) t) within
 
--- where depths up to 8 are read, that is all
+-- if depths up to 8 are read, that is all
 spelled_lined : (most depth w h : ℕ) (text : List ℕ) (ps : List (List (List ℕ))) → most ≤ 8 → AreSpelled most depth w h text ps → text ≡ flat_map (image_text depth w h) ps
 spelled_lined most depth w h text [] few spelled = spelled
 spelled_lined most depth w h text (p ∷ ps) few (header, rest, is, whole, more) =

@@ -163,7 +163,7 @@ line_told most text end found =
       whole = line_parts 10 most text end found;
     }
 
--- a line that was read, whatever stands after it
+-- a line that was read, whatever comes after it
 pub record LineRead (most : ℕ) (text line rest : List ℕ) : Type 0 where
   pub single : Without 10 line
   pub short : length line < most

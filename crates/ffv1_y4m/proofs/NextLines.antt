@@ -89,7 +89,7 @@ module _ {W : Type 0} (contents : W → Option (List ℕ)) (failed : W → ℕ) 
       comes_from s.depth s.width s.height p q samples rest long s.height 0 s t lines (omega arith)
       (record { lines = at.kept; row = at.row; working = at.working; wide = refl; high = refl; deep = refl }) grows same
 
-  -- so it is refused only where a write fails
+  -- so it is refused only if a write fails
   pub refused_next : (t u : PpmSink W) (p q : ℕ) (samples : List ℕ) → IsNext t p q samples → Refuses contents failed t p q samples u →
       AppendsBeginning (contents t.out) (contents u.out) (line_text t samples) × (failed u.out ≡ one_more (failed t.out))
   refused_next t u p q samples next (inl other) = absurd (other.0 next)

@@ -71,7 +71,7 @@ second_goes most magic old mid new n m k sizes answer h i = stands_next (line_re
 pub third_stops : (most : ℕ) (magic sizes : List ℕ) (p : Passage) (f : Fault) → Stands (maximum_read most) Nowhere p (Err f) → Stands (behind_one most magic sizes) Nowhere p (Err f)
 third_stops most magic sizes p f h = stands_first (maximum_read most) (behind_two magic sizes) Nowhere Nowhere p f (two_shortens magic sizes) (λ xs k. k) h
 
--- a line of the greatest sample that was read whole, whatever stands after it
+-- a line of the greatest sample that was read whole, whatever comes after it
 depth_by : (most : ℕ) (o : Outcome (List ℕ)) (depth : Option ℕ) → (o >>= λ p. give (depth_of_line most p.0) p.1) ≡ Ok (depth, []) → (line : List ℕ) × (o ≡ Ok (line, [])) × (depth_of_line most line ≡ depth)
 depth_by most (Ok p) depth h = (p.0, ap (λ z. Ok (p.0, z)) (ap rest_in h), ap (value_in depth) h)
 depth_by most (Err f) depth h = absurd (true≢false (ap is_fault h))

@@ -28,7 +28,7 @@ consumes_kept (Some s) (Some t) (Some u) xs h k = h ∙ ap (λ z. xs ++ z) (sym 
 abbrev pub moved : Option (List ℕ) → Option (List ℕ) → ℕ → ℕ → Passage
 moved old new before after = record { old = old; new = new; before = before; after = after }
 
--- a value that is read of these bytes, whatever stands after them
+-- a value that is read of these bytes, whatever comes after them
 abbrev pub Local : {X : Type 0} → Reading X → List ℕ → X → Type 0
 Local r bytes x = (behind : List ℕ) → r (bytes ++ behind) ≡ Ok (x, behind)
 

@@ -13,7 +13,7 @@ use Rattle.ffv1_y4m.specs.VideoHead.{IsRatio, IsChroma, IsHead, IsNamed, has_dep
 use Rattle.ffv1_y4m.specs.Sequence.{◌>>=◌}
 use Rattle.ffv1_y4m.specs.Header.{first_value, first_answer, within, number_of, structure_of, tagged, judged, words_of, all_judged, no_tags, present, head_of_tags, head_from, or_else, size_of, capped_of, both_of, parted_of, ratio_of, at_depth, deep_chroma_of, chroma_named, chroma_of, chroma_planes, depth_of, no_chroma, up_to, is_text}
 
--- a value, where there is one
+-- a value, if there is one
 abbrev pub IsSome : {X : Type 0} → (X → Type 0) → Option X → Type 0
 IsSome P None = Unit {0}
 IsSome P (Some x) = P x
@@ -223,7 +223,7 @@ pub record IsDeepHead (most : ℕ) (h : DeepHead) : Type 0 where
   pub named : IsNamed h.depth h.head
   pub small : 8 ≤ most → h.depth ≤ most
 
--- the head of such tags
+-- the head of these sizes
 by_sizes : (most : ℕ) (width height : Option ℕ) (head : ℕ → ℕ → DeepHead) → ((w h : ℕ) → IsSize w → IsSize h → IsDeepHead most (head w h)) → IsSome IsSize width → IsSome IsSize height →
     IsOk (IsDeepHead most) (present width >>= λ w. present height >>= λ h. Ok (head w h))
 by_sizes most None height head sized wide high = tt

@@ -124,9 +124,9 @@ size_within (Some n) h = (h.some, h.most)
 pub size_bounds : (word : List ℕ) → IfSome (size_of word) (λ n. (1 ≤ n) × (n ≤ 8192))
 size_bounds word = size_within (size_of word) (size_is word)
 
--- ---- such a header is read
+-- ---- a header of this form is read
 
--- what stands before a header's end
+-- what comes before a header's end
 pub header_behind : (a b c d e f g : List ℕ) (last : ℕ) (rest : List ℕ) → (a ++ (b ++ (c ++ (d ++ (e ++ (f ++ (g ++ last ∷ []))))))) ++ rest ≡ a ++ (b ++ (c ++ (d ++ (e ++ (f ++ (g ++ last ∷ rest))))))
 header_behind a b c d e f g last rest = simp append_assoc
 
@@ -172,7 +172,7 @@ spaced_is_read most depth w h header rest s sized few is short small =
     (size_found s.second.more h s.third.first third s.second.blank s.second.short sized.some_high sized.high s.third.white)
     (greatest_found most depth s.third.more top s.last rest s.third.blank s.third.short (are_digits (2 ^ depth - 1) small) (short_decimal (2 ^ depth - 1) small) short is s.white))
 
--- ---- a header that was read is such a one
+-- ---- a header that was read has this form
 
 pub record MagicTold (magic : Bool) (text rest : List ℕ) : Type 0 where
   pub word : List ℕ

@@ -90,7 +90,7 @@ blank_told (suc n) true (c ∷ cs) x rest h = blank_longer n true (not (is_break
 blank_told (suc n) false (c ∷ cs) x rest h =
     blank_by (is_white c) (c == 35) n c cs x rest (blank_read n false cs) (blank_read n true cs) refl refl (blank_told n false cs x rest) (blank_told n true cs x rest) h
 
--- a word with what stands before it
+-- a word with what comes before it
 pub record SpacedTold (text word rest : List ℕ) : Type 0 where
   pub gap : List ℕ
   pub last : ℕ
@@ -163,7 +163,7 @@ spaced_by : (most : ℕ) (gap : List ℕ) (c : ℕ) (more : List ℕ) (last : �
     spaced_word most (gap ++ c ∷ (more ++ last ∷ rest)) ≡ Ok (c ∷ more, rest)
 spaced_by most gap c more last rest one two = rw one two
 
--- digits after such
+-- digits after white space and comments
 pub spaced_found : (most : ℕ) (gap word : List ℕ) (last : ℕ) (rest : List ℕ) → is_blank false gap ≡ true → length gap < blank_room → AreDigits word → 0 < length word → length word ≤ most → is_white last ≡ true → spaced_word most (gap ++ (word ++ last ∷ rest)) ≡ Ok (word, rest)
 spaced_found most gap [] last rest blank short digits some few white = absurd (omega (arith, some))
 spaced_found most gap (c ∷ more) last rest blank short digits some few white =

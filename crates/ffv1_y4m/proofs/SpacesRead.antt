@@ -12,7 +12,7 @@ use Rattle.ffv1_y4m.specs.Spaces.{blank_read, blank_room, byte_read, is_break, i
 use Rattle.ffv1_y4m.proofs.AnswerParts.{is_fault, parted_by}
 use Rattle.ffv1_y4m.proofs.Sequences.{Stays, consumes_kept, consumes_none, consumes_then, moved, shortens_then}
 
--- ---- a value stays the same whatever stands after the text
+-- ---- a value stays the same whatever comes after the text
 
 abbrev pub Extends : {X : Type 0} → Reading X → Type 0
 Extends r = (text : List ℕ) (x : _) (mid : List ℕ) → r text ≡ Ok (x, mid) → (behind : List ℕ) → r (text ++ behind) ≡ Ok (x, mid ++ behind)

@@ -24,8 +24,8 @@ name_of_chroma planes log2_h log2_v extra =
     else codes "444")
     else codes "mono"
 
--- what stands before the depth in the name of chroma planes of more than 8 bits; nothing where
--- there is no name
+-- what comes before the depth in the name of chroma planes of more than 8 bits; nothing if there is
+-- no name
 abbrev pub deep_name : ℕ → Bool → ℕ → ℕ → Bool → List ℕ
 deep_name depth planes log2_h log2_v extra =
     if is_named depth planes log2_h log2_v extra

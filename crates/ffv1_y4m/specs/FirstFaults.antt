@@ -14,7 +14,7 @@ use Rattle.ffv1_y4m.specs.declared.head.VideoHead.{VideoHead}
 use Rattle.ffv1_y4m.specs.declared.fault.Fault.{Fault}
 use Rattle.ffv1_y4m.specs.declared.fault.Fault.TheVariants as fault
 
--- this fault where there is no value
+-- this fault if there is no value
 abbrev pub unless : {X : Type 0} → Option X → Fault → Option Fault
 unless None f = Some f
 unless (Some x) f = None
@@ -27,7 +27,7 @@ abbrev pub is_there : {X : Type 0} → List X → Bool
 is_there [] = false
 is_there (x ∷ xs) = true
 
--- what is wrong with the value of a tag of this letter, W H F I A C X, where depths up to `most`
+-- what is wrong with the value of a tag of this letter, W H F I A C X, if depths up to `most`
 -- are read; X may have any
 abbrev pub value_fault : ℕ → ℕ → List ℕ → Option Fault
 value_fault most letter value =
@@ -49,7 +49,7 @@ tag_fault most before (letter ∷ value) =
     else value_fault most letter value
 
 -- the first fault of the tags that come after these, and where its tag begins, from the space on
--- that comes next; or W or H is missing where the line ends
+-- that comes next; or W or H is missing at the end of the line
 abbrev pub TagsFault : ℕ → List (List ℕ) → List (List ℕ) → Fault → ℕ → Type 0
 TagsFault most before [] f n =
     ((is_there (values_of 87 before) && is_there (values_of 72 before)) ≡ false)
@@ -75,7 +75,7 @@ pub record HasTags (line : List ℕ) (tags : List (List ℕ)) : Type 0 where
   pub spaceless : AreSpaceless tags
   pub spelled : line ≡ codes "YUV4MPEG2" ++ spaced tags
 
--- the first fault of a header of YUV4MPEG2: there is no such line; or one of its tags is not good
+-- the first fault of a header of YUV4MPEG2: there is no header line; or one of its tags is not good
 abbrev pub HeaderFault : ℕ → List ℕ → Fault → ℕ → Type 0
 HeaderFault most text f n =
     (((line rest : List ℕ) (tags : List (List ℕ)) → HasLine text line rest → HasTags line tags → ⊥)

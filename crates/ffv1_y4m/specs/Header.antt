@@ -16,7 +16,7 @@ use Rattle.ffv1_y4m.specs.declared.tags.Tags.{Tags}
 use Rattle.ffv1_y4m.specs.declared.fault.Fault.{Fault}
 use Rattle.ffv1_y4m.specs.declared.fault.Fault.TheVariants as fault
 
--- what stands before and after the first such byte, where there is one
+-- what comes before and after the first of these bytes, if there is one
 abbrev pub IsSplitOnce : ℕ → List ℕ → Option (Bor (List ℕ) × Bor (List ℕ)) → Type 0
 IsSplitOnce byte text None = position (λ c. c == byte) text ≡ None
 IsSplitOnce byte text (Some p) =
@@ -93,7 +93,7 @@ at_depth c None = None
 at_depth c (Some depth) =
     if has_depth_name c.planes depth then Some (record c { depth = depth }) else None
 
--- the chroma of a name of more than 8 bits, by what stands before the depth in it
+-- the chroma of a name of more than 8 bits, by what comes before the depth in it
 abbrev pub deep_named : List ℕ → Option ℕ → Option Chroma
 deep_named name depth =
     if is_text name (codes "420p") then at_depth (chroma_planes 1 1) depth
@@ -129,7 +129,7 @@ chroma_named value =
 abbrev pub up_to : ℕ → Chroma → Option Chroma
 up_to most c = if nat_le c.depth most then Some c else None
 
--- the chroma of a name, where depths up to this one are read
+-- the chroma of a name, if depths up to this one are read
 abbrev pub chroma_of : ℕ → List ℕ → Option Chroma
 chroma_of most value = option_and_then (up_to most) (chroma_named value)
 
@@ -154,7 +154,7 @@ no_tags = record {
   chroma = None;
 }
 
--- a value for the first time, where it is one; the second time comes first
+-- a value for the first time, if it is one; that it is the second time comes first
 abbrev pub first_value : {X Y : Type 0} → Option X → Option Y → Fault → Result Y Fault
 first_value (Some old) new refusal = Err fault.Tag
 first_value None None refusal = Err refusal
@@ -243,7 +243,7 @@ head_of_tags t = do
   Ok (head_from width height (or_else t.rate (0, 0)) (or_else t.structure 0)
       (or_else t.aspect (0, 0)) (or_else t.chroma (chroma_planes 1 1)))
 
--- the head and the depth of a header line, given without its line feed, where depths up to `most`
+-- the head and the depth of a header line, given without its line feed, if depths up to `most`
 -- are read
 unfoldable pub head_of_line : ℕ → List ℕ → Result DeepHead Fault
 head_of_line most line =
@@ -256,8 +256,7 @@ head_of_line most line =
 abbrev pub line_end : ℕ → List ℕ → Option ℕ
 line_end most text = position (λ c. c == 10) (take most text)
 
--- a line, and what stands after its line feed; where it does not end in time, those bytes are left
--- out
+-- a line, and what comes after its line feed; if it does not end in time, those bytes are left out
 abbrev pub line_to : ℕ → List ℕ → Option ℕ → Result (List ℕ × List ℕ) (Fault × List ℕ)
 line_to most text None = Err (fault.Header, drop most text)
 line_to most text (Some end) = Ok (take end text, drop (end + 1) text)

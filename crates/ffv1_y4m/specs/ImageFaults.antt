@@ -30,7 +30,7 @@ abbrev pub IsGreatestLine : ℕ → List ℕ → Type 0
 IsGreatestLine most part =
     (depth : ℕ) × IsGreatest most depth × (part ≡ decimal (2 ^ depth - 1) ++ 10 ∷ [])
 
--- `P6`, two sizes and the greatest sample, each with a byte of white space after it and, but for
+-- `P6`, two sizes and the greatest sample, each with a byte of white space after it and, except for
 -- `P6`, white space and comments before it
 abbrev pub IsMagicWord : List ℕ → Type 0
 IsMagicWord part =
@@ -53,7 +53,7 @@ abbrev pub IsGreatestWord : ℕ → List ℕ → Type 0
 IsGreatestWord most =
     IsSpacedNumber (λ n. (depth : ℕ) × IsGreatest most depth × (n ≡ 2 ^ depth - 1))
 
--- what a header of an image has, one part after the other: lines where depths up to 8 are read
+-- what a header of an image has, one part after the other: lines if depths up to 8 are read
 abbrev pub lined_parts : ℕ → List (List ℕ → Type 0)
 lined_parts most = IsMagicLine ∷ IsSizesLine ∷ IsGreatestLine most ∷ []
 

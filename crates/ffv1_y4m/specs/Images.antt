@@ -59,7 +59,7 @@ pub record IsSpacedHeader (depth width height : ℕ) (header : List ℕ) : Type 
   pub whole : header ≡ codes "P6" ++ (before_width ++ (decimal width ++ (before_height
       ++ (decimal height ++ (before_greatest ++ (decimal (2 ^ depth - 1) ++ last ∷ []))))))
 
--- the header of an image: three lines where depths up to 8 are read, else as Netpbm writes it
+-- the header of an image: three lines if depths up to 8 are read, else as Netpbm writes it
 pub record IsHeader (most depth width height : ℕ) (header : List ℕ) : Type 0 where
   pub lined : most ≤ 8 → header ≡ image_header_text depth width height
   pub spaced : 8 < most → IsSpacedHeader depth width height header
@@ -72,7 +72,7 @@ AreSpelled most depth width height text (p ∷ ps) =
     × (text ≡ header ++ (samples_text depth p ++ rest))
     × AreSpelled most depth width height rest ps
 
--- a text is these images of this depth and these sizes, as it is read where depths up to `most` are
+-- a text is these images of this depth and these sizes, as it is read if depths up to `most` are
 pub record IsImagesIn (most : ℕ) (text : List ℕ) (depth width height : ℕ)
     (images : List (List (List ℕ))) : Type 0 where
   pub sized : IsSized (colour_head width height)
@@ -87,7 +87,7 @@ ReadsImages most h text (p ∷ ps) =
     (rest : List ℕ) × (image_read most h false text ≡ Ok (Some p, rest))
     × ReadsImages most h rest ps
 
--- the same where the header of the first image was read before
+-- the same if the header of the first image was read before
 abbrev pub ReadsFrom : ℕ → DeepHead → List ℕ → List (List ℕ) → List (List (List ℕ)) → Type 0
 ReadsFrom most h text p ps =
     (rest : List ℕ) × (image_read most h true text ≡ Ok (Some p, rest))

@@ -7,7 +7,7 @@ pub use Rattle.ffv1_wire.specs.Passage.{Passage, passage}
 abbrev pub known_text : Option ℕ → Option (List ℕ) → Option (List ℕ)
 known_text first rest = prepend_known (option_to_list first) rest
 
--- what is known before and after a call, where the first byte may have been read before the call
+-- what is known before and after a call, if the first byte may have been read before the call
 abbrev pub passage_from : {R : Type 0} → Option ℕ → (R → Option (List ℕ)) → (R → ℕ) → R → R →
     Passage
 passage_from first remaining failures old new = record {

@@ -1,4 +1,4 @@
--- Binary PPM (Netpbm's P6, ppm(5)) of 8 to 16 bits: images, each a header and its samples. Where
+-- Binary PPM (Netpbm's P6, ppm(5)) of 8 to 16 bits: images, each a header and its samples. If
 -- depths up to 8 are read, the header is three lines; else it is as Netpbm writes it.
 use Rattle.std.specs.Prelude.{◌≡◌, ℕ, zero, suc, ◌+◌, ◌-◌, ◌*◌, ◌%◌, ◌^◌, ◌==◌, ◌&&◌, Bool, true}
 use Rattle.std.specs.Prelude.{false, if◌then◌else◌, nat_le, nat_lt, List, [], ◌∷◌, ◌++◌, take, drop}
@@ -39,12 +39,12 @@ maximum_depth text =
     else if is_text text (codes "65535") then Some 16
     else None
 
--- how many bytes the line of the greatest sample may have, its line feed included, where depths up
+-- how many bytes the line of the greatest sample may have, its line feed included, if depths up
 -- to `most` are read
 abbrev pub maximum_room : ℕ → ℕ
 maximum_room most = if nat_le most 8 then 4 else 6
 
--- the line of the greatest sample: its depth, where it has one that is read
+-- the line of the greatest sample: its depth, if it has one that is read
 unfoldable pub depth_of_line : ℕ → List ℕ → Option ℕ
 depth_of_line most line = option_and_then (within 8 most) (maximum_depth line)
 
@@ -150,7 +150,7 @@ abbrev pub all_in_depth : ℕ → List (List ℕ) → Bool
 all_in_depth depth [] = true
 all_in_depth depth (p ∷ ps) = are_in_depth depth p && all_in_depth depth ps
 
--- planes, with what stands after them; each sample is below 2 ^ depth
+-- planes, with what comes after them; each sample is below 2 ^ depth
 abbrev pub judged_planes : ℕ → List (List ℕ) → Reading (List (List ℕ))
 judged_planes depth planes rest =
     if all_in_depth depth planes then Ok (planes, rest) else Err (fault.SampleTooLarge, rest)

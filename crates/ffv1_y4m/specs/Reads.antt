@@ -8,14 +8,14 @@ use Rattle.ffv1_wire.specs.Failures.{one_more}
 use Rattle.ffv1_y4m.specs.declared.fault.Fault.{Fault}
 use Rattle.ffv1_y4m.specs.declared.fault.Fault.TheVariants as fault
 
--- where the bytes are known, they read as this, with those left; else some bytes do
+-- if the bytes are known, they read as this, with those left; else some bytes do
 abbrev pub ReadsAs : {X : Type 0} → Reading X → Option (List ℕ) → Option (List ℕ) → Result X Fault →
     Type 0
 ReadsAs reading None new r = (text : List ℕ) × (rest : List ℕ) × (reading text ≡ judge r rest)
 ReadsAs reading (Some text) None r = ⊥
 ReadsAs reading (Some text) (Some rest) r = reading text ≡ judge r rest
 
--- the bytes that were taken are such
+-- the bytes that were taken have this property
 abbrev pub Took : (List ℕ → Type 0) → Passage → Type 0
 Took are p = (bytes : List ℕ) × Consumes p.old p.new bytes × are bytes
 
@@ -25,8 +25,8 @@ abbrev pub Wants : {X : Type 0} → Reading X → List ℕ → Type 0
 Wants reading bytes =
     (next : ℕ) (behind : List ℕ) → length (left (reading (bytes ++ next ∷ behind))) ≤ length behind
 
--- why a call was refused: a read failed, which was counted, where one more byte was to be read; or
--- memory was refused, where it grows; or what was read has this fault; never a write
+-- why a call was refused: a read failed, and was counted, when one more byte was to be read; or
+-- memory was refused, if it grows; or what was read has this fault. It is never a write
 abbrev pub Refused : {X : Type 0} → Reading X → (List ℕ → Type 0) → Passage → Fault → Type 0
 Refused reading grows p fault.Read = (p.after ≡ one_more p.before) × Took (Wants reading) p
 Refused reading grows p fault.OutOfMemory = (p.after ≡ p.before) × Took grows p
@@ -48,7 +48,7 @@ Nowhere bytes = ⊥
 abbrev pub IsNone : List ℕ → Type 0
 IsNone bytes = bytes ≡ []
 
--- the bytes that were taken read so whatever stands after them, or the input has ended there and
+-- the bytes that were taken read so whatever comes after them, or the input has ended there and
 -- they read so
 abbrev pub Decides : {X : Type 0} → Reading X → List ℕ → Option (List ℕ) → Result X Fault → Type 0
 Decides reading bytes new r =

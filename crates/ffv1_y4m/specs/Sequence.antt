@@ -37,7 +37,7 @@ infixr 8 ◌then◌
 abbrev pub ◌then◌ : {X Y : Type 0} → Reading X → (X → Reading Y) → Reading Y
 (first then next) text = first text >>= λ p. next p.0 p.1
 
--- a reading where something begins, and else none
+-- a reading if something begins, and else none
 abbrev pub where_begun : {X : Type 0} → Reading X → Bool → Reading (Option X)
 where_begun reading false = give None
 where_begun reading true = reading then λ x. give (Some x)

@@ -18,7 +18,7 @@ pub record PpmSink (W : Type 0) : Type 0 where
   pub failed : Bool
   pub failures : ℕ
 
--- the lines that are kept, of a red and a green one, where so many came
+-- the lines that are kept, of a red and a green one, if so many came
 abbrev pub kept_of : ℕ → List ℕ → List ℕ → List (List ℕ)
 kept_of plane red green =
     if plane == 0 then [] else if plane == 1 then red ∷ [] else red ∷ green ∷ []

@@ -13,17 +13,17 @@ is_white c = c == 32 || (c == 9 || (c == 10 || c == 13))
 abbrev pub is_break : ℕ → Bool
 is_break c = c == 10 || c == 13
 
--- white space and comments, each from `#` to the end of its line; true where a comment has begun
+-- white space and comments, each from `#` to the end of its line; true if a comment has begun
 unfoldable pub is_blank : Bool → List ℕ → Bool
 is_blank inside [] = not inside
 is_blank true (c ∷ cs) = is_blank (not (is_break c)) cs
 is_blank false (c ∷ cs) = if is_white c then is_blank false cs else (c == 35 && is_blank true cs)
 
--- how many bytes such may have, with the first byte after them
+-- how many bytes white space and comments may have, with the first byte after them
 unfoldable pub blank_room : ℕ
 blank_room = 65536
 
--- what stands before a number of a header: a byte of white space, then white space and comments
+-- what comes before a number of a header: a byte of white space, then white space and comments
 pub record IsGap (text : List ℕ) : Type 0 where
   pub first : ℕ
   pub more : List ℕ

@@ -51,7 +51,7 @@ abbrev pub NextAnswers : {X Y : Type 0} → Option Fault → (Y → X) → Readi
 NextAnswers (Some f) view reading grows p r = (r ≡ Err f) × (p.new ≡ p.old) × (p.after ≡ p.before)
 NextAnswers None view reading grows p r = Answers view reading grows p r
 
--- planes that were lent: where no picture was read for the input's end or an earlier fault, they
+-- planes that were lent: if no picture was read for the input's end or an earlier fault, they
 -- are as they were
 abbrev pub Lent : {A : Type 0} → Option Fault → A → A → Result Bool Fault → Type 0
 Lent (Some f) old new r = new ≡ old

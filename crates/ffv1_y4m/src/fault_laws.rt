@@ -17,7 +17,7 @@ ghost use Rattle.ffv1_y4m.specs.Text.{IsText};
 ghost use Rattle.ffv1_y4m.specs.Reads.{Nowhere, Refused};
 
 /// A header that is refused has a first fault, which is the answer, and one with a first fault is
-/// refused so. That is the answer of `Y4mReader::open` where the bytes are known and no read
+/// refused with it. That is the answer of `Y4mReader::open` if the bytes are known and no read
 /// failed.
 pub fn refused_header_has_one_fault()
     ensures answered { (most : ℕ) (text : List ℕ) (new : Option (List ℕ)) (before after : ℕ)
@@ -35,7 +35,7 @@ pub fn refused_header_has_one_fault()
         HeaderFault most text f m → HeaderFault most text g n → (f ≡ g) × (m ≡ n) }
 {}
 
-/// The same of the picture that a text begins with, and of `Y4mReader::next` where no memory was
+/// The same of the picture that a text begins with, and of `Y4mReader::next` if no memory was
 /// refused.
 pub fn refused_picture_has_one_fault()
     ensures answered { (depth : ℕ) (h : VideoHead) (text : List ℕ) (new : Option (List ℕ))
@@ -85,8 +85,8 @@ pub fn text_is_whole_or_faulty()
 {}
 
 /// A header of an image that is refused has a first fault, which is the answer, and one with a
-/// first fault is refused so. That is the answer of `PpmReader::open` where the bytes are known and
-/// no read failed. There is one, in one place.
+/// first fault is refused with it. That is the answer of `PpmReader::open` if the bytes are known
+/// and no read failed. There is one, in one place.
 pub fn refused_image_header_has_one_fault()
     ensures answered { (most : ℕ) (text : List ℕ) (new : Option (List ℕ)) (before after : ℕ)
         (f : Fault) → Refused (image_header most) Nowhere (record {
@@ -104,7 +104,7 @@ pub fn refused_image_header_has_one_fault()
         ImageHeaderFault most text f m → ImageHeaderFault most text g n → (f ≡ g) × (m ≡ n) }
 {}
 
-/// The same of an image, by `PpmReader::next` where no memory was refused: of the first one, whose
+/// The same of an image, by `PpmReader::next` if no memory was refused. Of the first one, whose
 /// header was read before, the fault is that of its samples.
 pub fn refused_image_has_one_fault()
     ensures first { (most : ℕ) (said : DeepHead) (text : List ℕ) (new : Option (List ℕ))
@@ -136,8 +136,8 @@ pub fn refused_image_has_one_fault()
         SamplesFault depth size text f → SamplesFault depth size text g → f ≡ g }
 {}
 
-/// A text of images is whole, as it is read where depths up to that one are, or has a first fault;
-/// and it has one, in one place.
+/// A text of images is whole, as it is read if depths up to that one are, or has a first fault; and
+/// it has one, in one place.
 pub fn images_are_whole_or_faulty()
     ensures some { (most : ℕ) (text : List ℕ) →
         ((depth width height : ℕ) × (image : List (List ℕ)) × (images : List (List (List ℕ)))

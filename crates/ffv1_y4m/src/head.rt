@@ -7,13 +7,13 @@ pub struct VideoHead {
     pub width: u32,
     /// In samples, from 1 to 8192.
     pub height: u32,
-    /// With `scale`, frames a second as `rate / scale`; both 0 where they are unknown.
+    /// With `scale`, frames a second as `rate / scale`; both 0 if they are unknown.
     pub rate: u32,
     /// See `rate`.
     pub scale: u32,
     /// 0 unknown, 1 top field first, 2 bottom field first, 3 progressive.
     pub structure: u8,
-    /// With `sar_den`, the aspect of a sample, width by height; both 0 where it is unknown.
+    /// With `sar_den`, the aspect of a sample, width by height; both 0 if it is unknown.
     pub sar_num: u16,
     /// See `sar_num`.
     pub sar_den: u16,

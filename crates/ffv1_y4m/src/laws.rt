@@ -24,8 +24,8 @@ ghost use Rattle.ffv1_y4m.specs.Ppm.{bytes_for, image_header, image_header_text}
 use ffv1_wire::ByteOut;
 use std::alloc::Allocator;
 
-/// A line is read as the depth and the head that it says, where depths up to that one are read, and
-/// what is read so says that depth and that head.
+/// A line is read as the depth and the head that it says, if depths up to that one are read; and
+/// what is so read says that depth and that head.
 pub fn header_line_is_read_exactly()
     ensures found { (line : List ℕ) (most depth : ℕ) (h : VideoHead) → IsHeaderLine line depth h →
         depth ≤ most → head_of_line most line ≡ Ok (record { head = h; depth = depth }) }
@@ -45,9 +45,9 @@ pub fn said_chroma_has_a_name()
         IsNamed depth h }
 {}
 
-/// A text is read as its depth, its head and its pictures, where depths up to that one are read,
-/// and what is read so is such a text; the canonical text of a head and of pictures that fit it is
-/// one, so it reads back as them, and it is what a writer writes of them, picture by picture.
+/// A text is read as its depth, its head and its pictures, if depths up to that one are read; and
+/// what is so read is a text of pictures. The canonical text of a head and of pictures that fit it
+/// is one, so it reads back as them. It is what a writer writes of them, picture by picture.
 pub fn text_is_read_as_its_pictures()
     ensures found { (text : List ℕ) (most depth : ℕ) (h : VideoHead)
         (pictures : List (List (List ℕ))) → IsText text depth h pictures → depth ≤ most →
@@ -71,9 +71,10 @@ pub fn text_is_read_as_its_pictures()
         ≡ canonical_text depth h (picture ∷ pictures) }
 {}
 
-/// A text of images is read as the head of its sizes, its depth and its images, where depths up to
-/// that one are read, and what is read so is such a text: up to 8 bits with each header of three
-/// lines, above as Netpbm writes it. A header of three lines is one that Netpbm writes.
+/// A text of images is read as the head of its sizes, its depth and its images, if depths up to
+/// that one are read; and what is so read is a text of images. Up to 8 bits each header has three
+/// lines, above 8 bits it is as Netpbm writes it. A header of three lines is one that Netpbm
+/// writes.
 pub fn text_is_read_as_its_images()
     ensures found { (text : List ℕ) (most depth width height : ℕ) (image : List (List ℕ))
         (images : List (List (List ℕ))) → IsImages text depth width height (image ∷ images) →
@@ -144,8 +145,8 @@ pub fn sink_writes_the_lines_it_took<W: ByteOut>()
 {}
 
 /// A sink that has taken whole images and then a beginning of the lines of one more, each in its
-/// place, takes the line that comes next there, or its write fails: a beginning of the row's text
-/// is written then, and the writer counts one failure more.
+/// place, takes the line that comes next there, or its write fails. A beginning of the row's text
+/// is then written, and the writer counts one failure more.
 pub fn sink_takes_the_next_line<W: ByteOut>()
     ensures next { (s t : PpmSink W) (lines : List Line) (p y : ℕ) (samples : List ℕ)
         (rest : List (ℕ × ℕ)) → AtImage s → Grows (Takes W.contents W.failures) s lines t →

@@ -3,14 +3,14 @@
 //!
 //! `Y4mReader::open` and `PpmReader::open` read a header, which `head` then tells as a `VideoHead`;
 //! each `next` reads one picture into planes, whose memory is taken once, and answers false at the
-//! end of the text. A reader holds no input, each call is lent the same one. `Y4mWriter` writes
+//! end of the text. A reader holds no input: each call is lent the same one. `Y4mWriter` writes
 //! pictures as the canonical text; `PpmWriter` is a sink of lines, and owns its writer.
 //! `Y4mReader::open_deep`, `PpmReader::open_deep`, `Y4mWriter::at_depth` and `PpmWriter::sized_at`
 //! take samples of up to 16 bits, which are two bytes each above 8 bits, the low byte first in
 //! planes, lines and YUV4MPEG2, the high byte first in PPM. `Fault` says why a text could not be
-//! read or written; which fault a text has first, and where, is said by `specs/FirstFaults` and
-//! `specs/ImageFaults`, and `fault_laws` that readers answer it. The test `example` of `ffv1_tests`
-//! runs these lines:
+//! read or written; `specs/FirstFaults` and `specs/ImageFaults` say which fault a text has first,
+//! and where; `fault_laws` says that readers answer it. The test `example` of `ffv1_tests` runs
+//! these lines:
 //!
 //! ```text
 //! let mut reader = Y4mReader::open(rt.alloc(), None, &mut input)?;

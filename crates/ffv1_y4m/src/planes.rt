@@ -81,9 +81,9 @@ pub(crate) fn has_depth_name(planes: bool, depth: u32) -> bool
     }
 }
 
-/// Whether YUV4MPEG2 has a name for the chroma at this depth: at 8 bits as `has_chroma_name`; at
-/// 9, 10, 12, 14 and 16 bits for 4:2:0, 4:2:2 and 4:4:4 without transparency, and for none but at
-/// 14; at no other depth.
+/// Whether YUV4MPEG2 has a name for the chroma at this depth: at 8 bits as `has_chroma_name`; at 9,
+/// 10, 12, 14 and 16 bits for 4:2:0, 4:2:2 and 4:4:4 without transparency, and, except at 14 bits,
+/// without chroma planes; at no other depth.
 pub fn has_chroma_name_at(head: &VideoHead, depth: u32) -> bool
     ensures named { result ≡ is_named depth head.now.chroma_planes head.now.log2_h head.now.log2_v
         head.now.extra_plane }
@@ -159,7 +159,7 @@ fn read_planes<R: ByteIn, A: Allocator>(
     Ok(())
 }
 
-/// Reads the next picture, in place of what the planes were; false where the input has ended.
+/// Reads the next picture, in place of what the planes were; false if the input has ended.
 pub(crate) fn read_picture<R: ByteIn, A: Allocator + Copy>(
     alloc: A,
     head: &VideoHead,

@@ -54,7 +54,7 @@ impl<A: Allocator + Copy> PpmReader<A> {
     /// byte, if it has one: the lines `P6`, `{width} {height}` and `255`, sizes of 1 to 8192
     /// without leading zeros.
     ///
-    /// `Header` where the text begins otherwise or ends inside, `Read` where a read failed.
+    /// `Header` if the text begins otherwise or ends inside, `Read` if a read failed.
     pub fn open<R: ByteIn>(
         alloc: A,
         first: Option<u8>,
@@ -100,9 +100,8 @@ impl<A: Allocator + Copy> PpmReader<A> {
         &self.head
     }
 
-    /// The bits of a sample: 8, 9, 10, 12, 14 or 16, and 8 where `open` made the reader. Samples of
-    /// 8 bits are one byte each, others two: in the text the high byte first, in planes the low
-    /// one.
+    /// The bits of a sample: 8, 9, 10, 12, 14 or 16, and 8 if `open` made the reader. Samples of 8
+    /// bits are one byte each, others two: in the text the high byte first, in planes the low one.
     pub fn depth(&self) -> u32
         ensures value { result ≡ self.now.depth }
         ensures named { IsNamed result self.now.head }
@@ -111,14 +110,14 @@ impl<A: Allocator + Copy> PpmReader<A> {
     }
 
     /// Reads the next image in place of what the planes were: red, green, blue, each row by row.
-    /// False where the input has ended: the planes are then as they were. After a fault nothing is
+    /// False if the input has ended: the planes are then as they were. After a fault nothing is
     /// said of them, unless it came before.
     ///
-    /// Memory is taken only where a vector has room for fewer samples. The first fault is answered:
-    /// of a later image `Header`, then `FormatChanged` where its sizes or its depth are not the
-    /// first one's; then `FrameTruncated` where the input ends inside samples, `SampleTooLarge`
-    /// after the bytes of an image of which a sample is 2 ^ depth or more; `Read` where a read
-    /// failed; `OutOfMemory`. After a fault each call answers that fault again and reads nothing.
+    /// Memory is taken only if a vector has room for fewer samples. The first fault is answered. Of
+    /// a later image that is `Header`, then `FormatChanged` if its sizes or its depth are not the
+    /// first one's. Then `FrameTruncated` if the input ends inside samples, `SampleTooLarge` after
+    /// the bytes of an image of which a sample is 2 ^ depth or more. `Read` if a read failed,
+    /// `OutOfMemory`. After a fault each call answers that fault again and reads nothing.
     pub fn next<R: ByteIn>(
         &mut self,
         input: &mut R,

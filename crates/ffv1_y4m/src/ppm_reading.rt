@@ -67,7 +67,7 @@ fn maximum_depth(text: &[u8]) -> Option<u32>
     None
 }
 
-/// The depth of the line of the greatest sample, where depths up to `most` are read.
+/// The depth of the line of the greatest sample, if depths up to `most` are read.
 #[tactic(auto, unfolding(crate::specs::Ppm::depth_of_line))]
 pub(crate) fn depth_of_line(most: u32, line: &[u8]) -> Option<u32>
     ensures value { result ≡ depth_of_line most line.now }
@@ -120,7 +120,7 @@ fn image_head(magic: &[u8], line: &[u8], depth: Option<u32>) -> Option<DeepHead>
     Some(sized_head(width, height, depth))
 }
 
-/// Reads the line of the greatest sample: its depth, where it has one of at most `most`.
+/// Reads the line of the greatest sample: its depth, if it has one of at most `most`.
 fn read_maximum<R: ByteIn>(most: u32, input: &mut R) -> Result<Option<u32>, Fault>
     ensures answer { Stands (maximum_read most) Nowhere
         (passage R.remaining R.failures input.old input.new) result }
@@ -192,8 +192,8 @@ fn same_format(said: &DeepHead, next: &DeepHead) -> bool
         && (said.head.height == next.head.height && said.depth == next.depth)
 }
 
-/// Reads the header of a later image: true, the input then standing after it; or false where the
-/// input has ended.
+/// Reads the header of a later image: true, with the input then after it; or false if the input has
+/// ended.
 fn read_later_header<R: ByteIn>(most: u32, said: &DeepHead, input: &mut R) -> Result<bool, Fault>
     ensures answer { Stands (image_begun most said.now) Nowhere
         (passage R.remaining R.failures input.old input.new) result }
@@ -416,7 +416,7 @@ fn read_image_planes<R: ByteIn, A: Allocator + Copy>(
 }
 
 /// Reads the next image, of which the header may have been read before, in place of what the planes
-/// were; false where the input has ended. Depths up to `most` are read in headers.
+/// were; false if the input has ended. Depths up to `most` are read in headers.
 pub(crate) fn read_image<R: ByteIn, A: Allocator + Copy>(
     alloc: A,
     most: u32,

@@ -69,8 +69,8 @@ fn pass_blank<R: ByteIn>(room: usize, input: &mut R) -> Result<u8, Fault>
     Err(Fault::Header)
 }
 
-/// Reads a word up to the next byte of white space, of which the first byte stands in `word`, and
-/// answers how long it is. `Header` where no white space is among as many bytes as `word` has room
+/// Reads a word up to the next byte of white space, of which the first byte is already in `word`,
+/// and answers how long it is. `Header` if no white space is among as many bytes as `word` has room
 /// for after its first one; after these nothing is read.
 fn read_word<R: ByteIn>(input: &mut R, word: &mut [u8]) -> Result<usize, Fault>
     requires { 1 ≤ length word.old }
@@ -120,7 +120,7 @@ fn read_magic<R: ByteIn>(first: Option<u8>, input: &mut R) -> Result<bool, Fault
     Ok(is_text(&word[..end], b"P6"))
 }
 
-/// Reads a size, where the next word is one.
+/// Reads a size, if the next word is one.
 fn read_size<R: ByteIn>(input: &mut R) -> Result<Option<u32>, Fault>
     ensures answer { Stands size_read Nowhere
         (passage R.remaining R.failures input.old input.new) result }
@@ -132,7 +132,7 @@ fn read_size<R: ByteIn>(input: &mut R) -> Result<Option<u32>, Fault>
     Ok(size(&word[..end]))
 }
 
-/// Reads the greatest sample: its depth, where it has one of at most `most`.
+/// Reads the greatest sample: its depth, if it has one of at most `most`.
 fn read_greatest<R: ByteIn>(most: u32, input: &mut R) -> Result<Option<u32>, Fault>
     ensures answer { Stands (greatest_read most) Nowhere
         (passage R.remaining R.failures input.old input.new) result }

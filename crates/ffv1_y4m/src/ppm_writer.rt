@@ -141,7 +141,7 @@ impl<W: ByteOut, A: Allocator + Copy> PpmWriter<W, A> {
     /// yet: the third line of their headers is 2 ^ depth - 1. It takes its memory here: two lines,
     /// and the text of a row. `OutOfMemory` hands the writer back as it came.
     ///
-    /// What it writes is read back at 8, 9, 10, 12, 14 and 16 bits, where each sample of the lines
+    /// What it writes is read back at 8, 9, 10, 12, 14 and 16 bits, if each sample of the lines
     /// is below 2 ^ depth.
     pub fn sized_at(
         alloc: A,

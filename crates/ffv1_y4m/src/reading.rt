@@ -62,7 +62,7 @@ pub(crate) fn next_byte<R: ByteIn>(
 }
 
 /// Reads a line, without its line feed, into the front of `line`, and answers how long it is.
-/// `Header` where no line feed is among as many bytes as `line` has room for; after these nothing
+/// `Header` if no line feed is among as many bytes as `line` has room for; after these nothing
 /// is read.
 pub(crate) fn read_line<R: ByteIn>(
     first: Option<u8>,
@@ -109,11 +109,11 @@ pub(crate) fn read_header<R: ByteIn>(
 /// The line that begins a picture.
 const FRAME: [u8; 6] = *b"FRAME\n";
 
-/// Reads the line that begins a picture: true, the input then standing after it; or false where
-/// the input has ended.
+/// Reads the line that begins a picture: true, with the input then after it; or false if the input
+/// has ended.
 ///
-/// `FrameLine` where a byte differs, after which nothing is read; `FrameTruncated` where the input
-/// ends inside the line; `Read` where a read failed.
+/// `FrameLine` if a byte differs, after which nothing is read; `FrameTruncated` if the input
+/// ends inside the line; `Read` if a read failed.
 pub(crate) fn read_frame_line<R: ByteIn>(input: &mut R) -> Result<bool, Fault>
     ensures answer { Stands frame_begun Nowhere
         (passage R.remaining R.failures input.old input.new) result }
@@ -131,11 +131,10 @@ pub(crate) fn read_frame_line<R: ByteIn>(input: &mut R) -> Result<bool, Fault>
 }
 
 /// Reads the samples of a plane, `size` bytes of them, in place of what the vector had. It takes
-/// memory only where the vector has room for fewer, before it reads.
+/// memory only if the vector has room for fewer, before it reads.
 ///
-/// `FrameTruncated` where the input ends before, else `SampleTooLarge` where a sample is
-/// 2 ^ depth or more; `Read` where a read failed, `OutOfMemory`. After a fault nothing is said of
-/// the vector.
+/// `FrameTruncated` if the input ends before that, else `SampleTooLarge` if a sample is 2 ^ depth
+/// or more; `Read` if a read failed, `OutOfMemory`. After a fault nothing is said of the vector.
 pub(crate) fn read_plane<R: ByteIn, A: Allocator>(
     depth: u32,
     input: &mut R,

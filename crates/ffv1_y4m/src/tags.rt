@@ -72,7 +72,7 @@ fn at_depth(chroma: Chroma, depth: Option<u32>) -> Option<Chroma>
     Some(Chroma { depth, ..chroma })
 }
 
-/// The chroma of a name of more than 8 bits, by what stands before the depth in it.
+/// The chroma of a name of more than 8 bits, by what comes before the depth in it.
 fn deep_named(name: &[u8], depth: Option<u32>) -> Option<Chroma>
     ensures { result ≡ deep_named name.now depth }
 {
@@ -155,7 +155,7 @@ fn other_chroma(value: &[u8]) -> Option<Chroma>
     deep_chroma(value)
 }
 
-/// The chroma of a name, where depths up to this one are read.
+/// The chroma of a name, if depths up to this one are read.
 fn chroma_up_to(most: u32, value: &[u8]) -> Option<Chroma>
     ensures { result ≡ chroma_of most value.now }
 {
@@ -168,7 +168,7 @@ fn chroma_up_to(most: u32, value: &[u8]) -> Option<Chroma>
     None
 }
 
-/// A value for the first time, where it is one.
+/// A value for the first time, if it is one.
 fn first<T: Drop>(old: Option<T>, new: Option<T>, refusal: Fault) -> Result<T, Fault>
     ensures { result ≡ first_value old new refusal }
 {
@@ -202,7 +202,7 @@ fn tagged(most: u32, tags: Tags, letter: u8, value: &[u8]) -> Result<Tags, Fault
     Ok(tags)
 }
 
-/// The structure, where no tag before named it.
+/// The structure, if no tag before named it.
 fn first_structure(old: Option<u8>, value: &[u8]) -> Result<u8, Fault>
     ensures { result ≡ first_answer old (structure_of value.now) }
 {

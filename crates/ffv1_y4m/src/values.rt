@@ -9,7 +9,7 @@ use crate::fault::Fault;
 use itoa::Buffer;
 use std::str;
 
-/// Where the byte stands first.
+/// Where the byte comes first.
 fn place(text: &[u8], byte: u8) -> Option<usize>
     ensures value { result ≡ position (λ c. c == byte) text.now }
     ensures bound { IfSome result (λ i. i < length text.now) }
@@ -17,7 +17,7 @@ fn place(text: &[u8], byte: u8) -> Option<usize>
     text.iter().position(|c| *c == byte)
 }
 
-/// What stands before and after the first such byte.
+/// What comes before and after the first of these bytes.
 pub(crate) fn split_once(text: &[u8], byte: u8) -> Option<(&[u8], &[u8])>
     ensures { IsSplitOnce byte text.now result }
 {

@@ -50,7 +50,7 @@ fn structure_name(structure: u8) -> &'static [u8]
     }
 }
 
-/// What stands before the depth in the name of the chroma, at more than 8 bits.
+/// What comes before the depth in the name of the chroma, at more than 8 bits.
 fn deep_name(head: &VideoHead, depth: u32) -> &'static [u8]
     ensures { result.now ≡ deep_name depth head.now.chroma_planes head.now.log2_h head.now.log2_v
         head.now.extra_plane }

@@ -43,12 +43,12 @@ impl<A: Allocator> Model for Y4mReader<A> {
 impl<A: Allocator + Copy> Y4mReader<A> {
     /// Reads the header from an input of which the caller has read the first byte, if it has one.
     ///
-    /// The input then stands after the line feed, after a fault too. The first fault from the
-    /// left is answered: `Header` where the line does not begin with `YUV4MPEG2` and a space or the
-    /// line feed, has no line feed, or is longer than 1024 bytes, of which 1025 are read and none
-    /// after them; `Tag` where a tag is empty, has an unknown letter, is there for the second time
-    /// (but for X) or has no value of its kind, or W or H is missing; `Unsupported` where C names
-    /// no chroma that is read here, or I is mixed; `Read` where a read failed.
+    /// The input is then after the line feed, after a fault too. The first fault from the left is
+    /// answered. `Header` if the line does not begin with `YUV4MPEG2` and a space or the line feed,
+    /// has no line feed, or is longer than 1024 bytes: 1025 bytes are then read, and none after
+    /// them. `Tag` if a tag is empty, has an unknown letter, is there for the second time (except
+    /// X) or has no value of its kind, or W or H is missing. `Unsupported` if C names no chroma
+    /// that is read here, or I is mixed. `Read` if a read failed.
     pub fn open<R: ByteIn>(
         alloc: A,
         first: Option<u8>,
@@ -89,7 +89,7 @@ impl<A: Allocator + Copy> Y4mReader<A> {
         &self.head
     }
 
-    /// The bits of a sample: 8, 9, 10, 12, 14 or 16, and 8 where `open` made the reader. Samples of
+    /// The bits of a sample: 8, 9, 10, 12, 14 or 16, and 8 if `open` made the reader. Samples of
     /// 8 bits are one byte each, others two, the low byte first.
     pub fn depth(&self) -> u32
         ensures value { result ≡ self.now.depth }
@@ -99,13 +99,13 @@ impl<A: Allocator + Copy> Y4mReader<A> {
     }
 
     /// Reads the next picture in place of what the planes were: Y, Cb, Cr, transparency, as many of
-    /// them as there are, each row by row. False where the input has ended: the planes are then as
+    /// them as there are, each row by row. False if the input has ended: the planes are then as
     /// they were. After a fault nothing is said of them, unless it came before.
     ///
-    /// Memory is taken only where a vector has room for fewer samples. The first fault from the
-    /// left is answered: `FrameLine` where a byte differs from the line `FRAME` and its line feed,
-    /// `FrameTruncated` where the input ends inside it or inside samples, `SampleTooLarge` after
-    /// the bytes of a plane of which a sample is 2 ^ depth or more, `Read` where a read failed,
+    /// Memory is taken only if a vector has room for fewer samples. The first fault from the left
+    /// is answered. `FrameLine` if a byte differs from the line `FRAME` and its line feed,
+    /// `FrameTruncated` if the input ends inside it or inside samples, `SampleTooLarge` after the
+    /// bytes of a plane of which a sample is 2 ^ depth or more, `Read` if a read failed,
     /// `OutOfMemory`. After a fault each call answers that fault again and reads nothing.
     pub fn next<R: ByteIn>(
         &mut self,

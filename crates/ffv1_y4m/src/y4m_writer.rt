@@ -41,7 +41,7 @@ impl Model for Y4mWriter {
 impl Y4mWriter {
     /// A writer of pictures with this head, of which nothing is written yet.
     ///
-    /// What it writes is read back where the head is as a reader gives it: sizes of 1 to 8192, a
+    /// What it writes is read back if the head is as a reader gives it: sizes of 1 to 8192, a
     /// rate and an aspect of which both numbers are 0 or neither, a structure of at most 3, and
     /// chroma planes that have a name.
     pub fn new(head: VideoHead) -> Y4mWriter
@@ -53,9 +53,9 @@ impl Y4mWriter {
     /// A writer of pictures with this head and samples of so many bits, of which nothing is written
     /// yet. Samples of 8 bits are one byte each, others two, the low byte first.
     ///
-    /// What it writes is read back where the head is as a reader gives it, `has_chroma_name_at` has
-    /// a name for its chroma at this depth, and each sample is below 2 ^ depth. Where there is no
-    /// such name above 8 bits, C names no chroma, and each reader refuses the header.
+    /// What it writes is read back if the head is as a reader gives it, `has_chroma_name_at` has
+    /// a name for its chroma at this depth, and each sample is below 2 ^ depth. If there is no name
+    /// above 8 bits, C names no chroma, and each reader refuses the header.
     pub fn at_depth(head: VideoHead, depth: u32) -> Y4mWriter
         ensures { result ≡ record { head = head; depth = depth; begun = false; failed = false } }
     {
@@ -74,7 +74,7 @@ impl Y4mWriter {
     /// Planes of another number or size are written as they are, and what stands then is no text of
     /// the head.
     ///
-    /// `Write` where a write failed: a beginning of the text of this call is then written, and not
+    /// `Write` if a write failed: a beginning of the text of this call is then written, and not
     /// all of it. Each call after it answers `Write` again and writes nothing.
     pub fn picture<W: ByteOut, A: Allocator>(
         &mut self,

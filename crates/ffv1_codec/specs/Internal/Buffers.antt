@@ -20,7 +20,7 @@ abbrev pub capacity_of_lines : {A : Type 0} → Lines A → ℕ
 capacity_of_lines (kind.Narrow v) = vec_capacity v
 capacity_of_lines (kind.Wide v) = vec_capacity v
 
--- samples of so many bits are coded in lines of such words
+-- samples of so many bits are coded in lines of words of this width
 abbrev pub HoldBits : {A : Type 0} → Lines A → ℕ → Type 0
 HoldBits (kind.Narrow v) bits = (8 ≤ bits) × (bits ≤ 16)
 HoldBits (kind.Wide v) bits = bits ≡ 17

@@ -12,7 +12,7 @@ use Rattle.ffv1_codec.specs.declared.encode.cell_rows.PlaneRows.{PlaneRows}
 use Rattle.ffv1_codec.specs.Picture.{Planes, sample_at, cell_in}
 use Rattle.ffv1_codec.specs.SliceList.{Line}
 
--- the line of transparency in RCT, where there is one
+-- the line of transparency in RCT, if there is one
 abbrev pub fourth_line : Bool → ℕ → List Line
 fourth_line false y = []
 fourth_line true y = record { plane = 3; y = y } ∷ []

@@ -29,7 +29,7 @@ pub record Colouring : Type 0 where
   pub blue : ℕ
   pub extra : Bool
 
--- of samples of 8 bits; of more, where green and blue may change places
+-- of samples of 8 bits; of more bits, whose green and blue may change places
 abbrev pub bytes_colouring : ℕ → Bool → Colouring
 bytes_colouring width extra =
     record { depth = 8; width = width; green = 1; blue = 2; extra = extra }
@@ -53,7 +53,7 @@ colouring_of c = record {
   extra = c.extra_plane;
 }
 
--- red, green and blue of coded lines, and transparency, where there is one
+-- red, green and blue of coded lines, and transparency, if there is one
 pub record AreMade (k : Colouring) (read made : List ℕ) : Type 0 where
   pub colours : AreOnlyColoursIn k.depth k.width (line_at k.width 0 read) (line_at k.width 1 read)
       (line_at k.width 2 read) (line_at k.width 0 made) (line_at k.width k.green made)

@@ -1,4 +1,4 @@
--- What is kept of a line from the row of slices above, and where a segment of the line differs.
+-- What is kept of a line from the row of slices above, and at which segment the line differs.
 use Rattle.std.specs.Prelude.{◌≡◌, ◌⊎◌, ℕ, ◌+◌, ◌-◌, ◌*◌, ◌<◌, ◌≤◌, false, List, length}
 use Rattle.std.specs.Prelude.{slice_index, drop}
 use Rattle.ffv1_record.specs.Configuration.{Configuration, is_rct}
@@ -25,18 +25,18 @@ pub record IsFirstOther (c : Configuration) (p k offset : ℕ) (kept cur : List 
 abbrev pub ShareNoLine : Configuration → ℕ → Type 0
 ShareNoLine c p = (r : ℕ) → r < c.rows → shared_of (down (division_of c) p) r ≡ 0
 
--- so many samples of plane p are kept: a line, or, where no two rows share one, none
+-- so many samples of plane p are kept: a line, or, if no two rows share one, none
 abbrev pub KeepsLine : Configuration → ℕ → ℕ → Type 0
 KeepsLine c p long = ((long ≡ 0) × ShareNoLine c p) ⊎ (long ≡ plane_width c p)
 
--- so many samples are kept: a line of Cb and one of Cr, or, where no two rows share one, none
+-- so many samples are kept: a line of Cb and one of Cr, or, if no two rows share one, none
 abbrev pub KeepsChroma : Configuration → ℕ → Type 0
 KeepsChroma c long =
     ((long ≡ 0) × ((p : ℕ) → ShareNoLine c p))
     ⊎ ((long ≡ 2 * plane_width c 1) × (is_rct c.colour ≡ false) × (3 ≤ plane_count c)
     × ShareNoLine c 0 × ShareNoLine c 3)
 
--- what is kept stands behind the lines of planes that are coded together
+-- what is kept comes after the lines of planes that are coded together
 abbrev pub kept_in : Configuration → List ℕ → List ℕ
 kept_in c lines = drop (3 * line_length c) lines
 
@@ -59,7 +59,7 @@ pub record IsLast (c : Configuration) (r p : ℕ) (kept : List ℕ) (s : State) 
       lines_down c p r * width_in c p k ≤ length (plane (slice_at s k).cells p)
   pub last : TiedLast c r p kept s
 
--- so it is of each plane before `next`
+-- the same holds of each plane before `next`
 abbrev pub AreLast : Configuration → ℕ → ℕ → List ℕ → State → Type 0
 AreLast c r next kept s =
     0 < length kept → (p : ℕ) → IsChroma p → p < next → IsLast c r p (kept_line c p kept) s

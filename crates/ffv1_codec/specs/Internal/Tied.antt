@@ -109,7 +109,7 @@ pub record TiedColumns (a : Accepted) (coded : ℕ → List ℕ) (r next : ℕ) 
 abbrev pub part_of : Configuration → ℕ → ℕ → ℕ → List ℕ → List ℕ
 part_of c p offset k line = window (offset + left_of c p k) (width_in c p k) line
 
--- a line is as before but in the part of such a width from offset on
+-- a line is as before, except in the part of this width from offset on
 abbrev pub KeepsBeside : ℕ → ℕ → List ℕ → List ℕ → Type 0
 KeepsBeside offset width old new =
     (b n : ℕ) → b + n ≤ length old → (b + n ≤ offset) ⊎ (offset + width ≤ b) →

@@ -99,7 +99,7 @@ fn transparent_colours(width: usize, samples: &[u16], out: &mut [u8]) -> Result<
     }
 }
 
-/// Both, where there is transparency.
+/// Both, if there is transparency.
 pub(crate) fn byte_colours(
     extra: bool,
     width: usize,
@@ -132,7 +132,7 @@ pub struct Words {
     pub extra: bool,
 }
 
-/// Red, green and blue of a line of samples of more than 8 bits, where they stand in this order.
+/// Red, green and blue of a line of samples of more than 8 bits, if they come in this order.
 fn straight(words: &Words, samples: &[u16], out: &mut [u8]) -> Result<(), usize>
     requires deep { 8 < words.now.depth }
     requires shallow { words.now.depth ≤ 15 }
@@ -156,7 +156,7 @@ fn straight(words: &Words, samples: &[u16], out: &mut [u8]) -> Result<(), usize>
     }
 }
 
-/// The same where green and blue change places.
+/// The same if green and blue change places.
 fn swapped(words: &Words, samples: &[u16], out: &mut [u8]) -> Result<(), usize>
     requires deep { 8 < words.now.depth }
     requires shallow { words.now.depth ≤ 15 }
@@ -221,7 +221,7 @@ fn transparent_words(words: &Words, samples: &[u16], out: &mut [u8]) -> Result<(
     }
 }
 
-/// The colours of a line of samples of more than 8 bits, and transparency where there is one.
+/// The colours of a line of samples of more than 8 bits, and transparency if there is one.
 pub(crate) fn word_colours(words: &Words, samples: &[u16], out: &mut [u8]) -> Result<(), usize>
     requires deep { 8 < words.now.depth }
     requires shallow { words.now.depth ≤ 15 }

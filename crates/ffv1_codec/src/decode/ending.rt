@@ -57,7 +57,7 @@ fn goes_on<A: Allocator>(frame: &Frame<'_, A>, column: &Column) -> bool
 }
 
 /// Whether a segment is of the last line that its slice codes, and the slice, which was read up to
-/// there, does not end there, where the profile asks for that.
+/// there, does not end there, if the profile asks for that.
 pub(crate) fn lacks_ending<A: Allocator>(
     frame: &Frame<'_, A>,
     segment: &Segment,

@@ -101,7 +101,7 @@ fn fresh_columns<A: Allocator>(alloc: A, count: usize) -> Result<Vec<Column, A>,
     Ok(columns)
 }
 
-/// Lines of so many samples, for pictures of a configuration: in words of 32 bits where a coded
+/// Lines of so many samples, for pictures of a configuration: in words of 32 bits if a coded
 /// sample has 17, else of 16.
 fn fresh_lines<A: Allocator, B: Allocator>(
     alloc: A,
@@ -266,22 +266,22 @@ impl<A: Allocator> FrameDecoder<A> {
 
     /// Decodes a frame (RFC 9043, 4.4 to 4.9), and answers what its slices say of the picture.
     ///
-    /// The payload is cut into slices first; then the rows of slices are decoded from the top: each
-    /// slice of a row is opened, from the left, and then line after line is read, in each slice
-    /// from the left, made what it codes, and handed to the sink as soon as it is whole: `plane`
-    /// from 0, `y` from the top of the plane, its samples as bytes: one each at 8 bits, and two at
-    /// more, the low byte first. In RCT a line is handed over as red, green, blue and transparency,
-    /// else the planes come one after the other in each row of slices. What earlier calls left
-    /// plays no part. It takes no memory and gives none back, whatever it answers: length and
-    /// capacity of each of the five vectors stay.
+    /// The payload is cut into slices first. Then the rows of slices are decoded from the top. Each
+    /// slice of a row is opened, from the left. Then line after line is read, in each slice from
+    /// the left, made what it codes, and handed to the sink as soon as it is whole: `plane` from 0,
+    /// `y` from the top of the plane, its samples as bytes. These are one each at 8 bits, and two
+    /// at more, the low byte first. In RCT a line is handed over as red, green, blue and
+    /// transparency, else the planes come one after the other in each row of slices. What earlier
+    /// calls left plays no part. It takes no memory and gives none back, whatever it answers:
+    /// length and capacity of each of the five vectors stay.
     ///
     /// It is Ok exactly if the payload codes a picture and the sink takes its lines. The fault is
     /// the first in that order, with its place: `Footer`, `Leftover`, `SliceParity` or
-    /// `SliceStatus` before any line, `BadStart`, `NotKey`, a fault of the head or `InfoDiffers`
-    /// when a slice is opened, `SymbolTooLong` in a sample, `Overread` at `Wide` after a head and
-    /// after each line of a cell, `Overlap` at `Wide` after a line of a cell, `Ending` at `Wide`
-    /// after the last line of a slice, `Colour` in a line that was read, and `Sink` exactly if the
-    /// sink refused the line that came next. The sink then has exactly the lines before it and
+    /// `SliceStatus` before any line; `BadStart`, `NotKey`, a fault of the head or `InfoDiffers`
+    /// when a slice is opened; `SymbolTooLong` in a sample; `Overread` at `Wide` after a head and
+    /// after each line of a cell; `Overlap` at `Wide` after a line of a cell; `Ending` at `Wide`
+    /// after the last line of a slice; `Colour` in a line that was read; and `Sink` exactly if the
+    /// sink refused the line that came next. The sink then has exactly the lines before it, and
     /// nothing is decided after it; the decoder is ready for the next frame.
     ///
     /// Heads are read in the profile of the configuration: at `Wide` an aspect of which just one
@@ -306,20 +306,22 @@ impl<A: Allocator> FrameDecoder<A> {
     /// At `Wide` a slice ends where its coder does (RFC 9043, 3.8.1.1.1): one more decision by
     /// state 129 would be 0, and the decoder would then have renormalised exactly once less than
     /// the slice has coded bytes. Else it is `Ending`, at its last plane, the last line of its cell
-    /// there, and x 0. So a slice that lost coded bytes at its end, or has bytes too many there, is
-    /// refused. That decision is looked at, and counted nowhere.
+    /// there, and x 0. So a slice that lost coded bytes at its end, or has too many bytes there, is
+    /// refused. That decision is looked at, but counted nowhere.
     ///
     /// With parity, a payload that differs from a good one within 32 neighbouring bits of one
-    /// slice, its slice_size aside, is `SliceParity` in that slice, before any line. Wherever such
-    /// bits lie in the payload, in a slice_size and across slices too, it is refused as it is cut,
-    /// by `Footer`, `Leftover`, `SliceParity` or `SliceStatus`, before any line.
+    /// slice, apart from its slice_size, is `SliceParity` in that slice, before any line. Wherever
+    /// these bits lie in the payload, in a slice_size and across slices too, it is refused when it
+    /// is cut into slices, by `Footer`, `Leftover`, `SliceParity` or `SliceStatus`, before any
+    /// line.
     ///
     /// Also before a fault, the sink is handed nothing but lines that are made of what the bytes of
     /// the slices code.
     ///
-    /// What `tally` shows afterwards is what the decisions cost: with `floor` the least state of
+    /// What `tally` shows afterwards is what the decisions cost. With `floor` the least state of
     /// the table, the slices renormalised little more often than the weight of their decisions asks
-    /// for, by a factor of at most `(floor + 1) / floor` for each 1, and little less.
+    /// for: by a factor of at most `(floor + 1) / floor` for each 1. They renormalised little less
+    /// often, too.
     pub fn decode<S: LineSink>(&mut self, payload: &[u8], sink: &mut S) -> Result<Info, FrameFault>
         ensures headline { Headline S.takes S.refuses self.old.accepted sink.old sink.new result
             payload.now self.new.tally self.new.held }

@@ -21,7 +21,7 @@ fn renormalisations(column: &Column) -> u64
     }
 }
 
-/// Whether the slice of a column was read more than two bytes past its end, where the profile asks
+/// Whether the slice of a column was read more than two bytes past its end, if the profile asks
 /// for that: its decoder renormalised more often than it has coded bytes.
 pub(crate) fn is_overread<A: Allocator>(frame: &Frame<'_, A>, column: &Column) -> bool
     requires rises { column.now.first ≤ column.now.last }

@@ -224,8 +224,8 @@ fn decode_series<W: FinishedWord, A: Allocator, S: LineSink>(
     Ok(())
 }
 
-/// Decodes the planes of a row, one after the other, or for RCT together. Behind the three lines
-/// that are needed for that stand the kept ones of Cb and Cr, if there are any.
+/// Decodes the planes of a row, one after the other, or for RCT together. The kept lines of Cb and
+/// Cr, if there are any, come after the three lines that are needed for that.
 fn decode_planes<W: FinishedWord, A: Allocator, S: LineSink>(
     frame: &Frame<'_, A>,
     row: u32,

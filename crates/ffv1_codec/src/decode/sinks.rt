@@ -128,7 +128,7 @@ fn fill<A: Allocator>(grid: &Grid, planes: &mut [Vec<u8, A>])
 }
 
 impl<A: Allocator + Copy> KeepLines<A> {
-    /// A sink of a configuration's lines. Refuses where memory is refused.
+    /// A sink of a configuration's lines. Refuses if memory is refused.
     pub fn new<B: Allocator>(alloc: A, checked: &Checked<B>) -> Result<KeepLines<A>, CodecFault>
         ensures ok { IfOk result (λ s. s ≡ record {
           grid = division_of checked.now.configuration;
@@ -148,7 +148,7 @@ impl<A: Allocator + Copy> KeepLines<A> {
 }
 
 impl<A: Allocator> KeepLines<A> {
-    /// The planes, each accepted line in its place, and 0 where none was.
+    /// The planes: each accepted line in its place, and 0 where there was none.
     pub fn planes(&mut self) -> &[Vec<u8, A>]
         ensures value { self.old.planes ≡ planes_of result.now }
         ensures sizes { AreOf self.old.grid self.old.planes }

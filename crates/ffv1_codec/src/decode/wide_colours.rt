@@ -64,7 +64,7 @@ fn transparent(width: usize, samples: &[u32], out: &mut [u8]) -> Result<(), usiz
     }
 }
 
-/// The colours of a line, and transparency where there is one.
+/// The colours of a line, and transparency if there is one.
 pub(crate) fn wide_colours(
     extra: bool,
     width: usize,

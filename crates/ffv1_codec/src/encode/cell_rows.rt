@@ -89,7 +89,7 @@ pub(crate) fn restart<W: LineWord, A: Allocator>(
     Ok(())
 }
 
-/// The same of transparency, where there is such a plane.
+/// The same of transparency, if there is such a plane.
 fn restart_transparency<W: LineWord, R: Allocator, A: Allocator, B: Allocator>(
     rows: &mut RollingRows<Vec<W, R>>,
     slice: &Slice<'_, A, B>,
@@ -326,7 +326,7 @@ fn load<W: LineWord, R: Allocator, A: Allocator, B: Allocator>(
     fill(slice.checked.depth(), slice.line(plane, y), &mut rows.cur);
 }
 
-/// Row y of transparency in RCT, where there is such a plane.
+/// Row y of transparency in RCT, if there is such a plane.
 fn load_transparency<W: LineWord, R: Allocator, A: Allocator, B: Allocator>(
     rows: &mut RollingRows<Vec<W, R>>,
     slice: &Slice<'_, A, B>,
@@ -456,7 +456,7 @@ impl ColourWord for u32 {
     }
 }
 
-/// Row y of Y, Cb and Cr in RCT, and of transparency where there is such a plane.
+/// Row y of Y, Cb and Cr in RCT, and of transparency if there is such a plane.
 pub(crate) fn load_all<W: ColourWord, R: Allocator, A: Allocator, B: Allocator>(
     rows: &mut PlaneRows<W, R>,
     slice: &Slice<'_, A, B>,

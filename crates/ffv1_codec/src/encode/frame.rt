@@ -184,15 +184,15 @@ impl<A: Allocator + Copy> FrameEncoder<A> {
     /// class k set k, or the last one.
     ///
     /// It has at most `2 n + 1` bytes for each residual of n binary digits, and 109 for each slice,
-    /// with 6 more where there is a plane of transparency, 2 where there are more than 16 columns
-    /// and 2 where there are more than 16 rows. Each slice has one coded byte more than
-    /// renormalisations, that of the sentinel among them.
+    /// with 6 more if there is a plane of transparency, 2 if there are more than 16 columns and 2
+    /// if there are more than 16 rows. Each slice has one coded byte more than renormalisations,
+    /// that of the sentinel among them.
     ///
-    /// Answers `SliceTooLong` only where a slice has more than 16777215 coded bytes, and there
-    /// never `Ok`; else `OutOfMemory`, where memory was refused: each frame takes some. Either
-    /// leaves the counts. Whatever was answered, the next frame is as a new encoder's, and what was
-    /// taken for states, and for rows of words of 16 bits and of 32, is kept for it: of none of the
-    /// three there is less than before.
+    /// Answers `SliceTooLong` only if a slice has more than 16777215 coded bytes, and then never
+    /// `Ok`; else `OutOfMemory`, if memory was refused: each frame takes some. Either leaves the
+    /// counts. Whatever was answered, the next frame is as a new encoder's, and what was taken for
+    /// states, and for rows of words of 16 bits and of 32, is kept for it: of none of the three
+    /// there is less than before.
     pub fn encode<B: Allocator>(
         &mut self,
         picture: &Picture<B>,

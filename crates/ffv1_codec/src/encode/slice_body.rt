@@ -217,7 +217,7 @@ fn put_planes<R: Allocator, A: Allocator, B: Allocator>(
     Ok(())
 }
 
-/// Codes a row of the plane of transparency, where there is one.
+/// Codes a row of the plane of transparency, if there is one.
 fn put_transparency<W: LineWord, R: Allocator, A: Allocator, B: Allocator>(
     encoder: &mut RangeEncoder<R>,
     states: &mut [u8],

@@ -63,8 +63,8 @@ fn states_in<A: Allocator>(checked: &Checked<A>) -> usize
     32 * (config.sets.most_contexts() as usize * classes)
 }
 
-/// So many fresh states (RFC 9043, 3.8.1.3), in the memory that there is where they find room in
-/// it. None of it is given back.
+/// So many fresh states (RFC 9043, 3.8.1.3), in the memory that there is if they find room in it.
+/// None of it is given back.
 fn renew<A: Allocator>(states: &mut Vec<u8, A>, count: usize) -> Result<(), AllocError>
     ensures fresh { OnOk result (states.new.items ≡ replicate count 128) }
     ensures room { vec_capacity states.old ≤ vec_capacity states.new }

@@ -69,8 +69,8 @@ pub fn payload_codes_one_picture()
     laws::answer::each_line_stands_once();
 }
 
-/// Where the answer is Ok, the payload codes a picture, whose lines the sink took; and a payload
-/// that codes a picture is answered Ok, or the sink refused the line that came next.
+/// If the answer is Ok, the payload codes a picture, whose lines the sink took. A payload that
+/// codes a picture is answered Ok, or the sink refused the line that came next.
 pub fn answer_is_ok_for_coded_pictures<S: LineSink>()
     ensures found { (a : Accepted) (payload : List ℕ) (old new : S) (tally : Tally) (info : Said) →
         IsAccepted a.configuration a.table →
@@ -139,8 +139,8 @@ pub fn coded_bytes_bound_the_decisions<S: LineSink>()
     laws::planes_are_divided_part_by_part();
 }
 
-/// Each decision of a slice has a state that the table holds; and what the decisions of a frame
-/// cost, by its tally, however decoding ends: its renormalisations are little more than the weight
+/// Each decision of a slice has a state that the table holds. What the decisions of a frame cost is
+/// told by its tally, however decoding ends: its renormalisations are little more than the weight
 /// of the decisions asks for, and little fewer.
 pub fn frame_cost_is_near_its_weight<S: LineSink>()
     ensures held { (a : Accepted) (past : List Step) → IsAccepted a.configuration a.table →
@@ -157,8 +157,8 @@ pub fn frame_cost_is_near_its_weight<S: LineSink>()
     laws::answer::decoding_makes_few_decisions::<S>();
 }
 
-/// However a payload is answered, the sink was handed finishes of lines that the bytes of its
-/// slices code, and no other line, also before a fault and where the sink refused one.
+/// Whatever the answer, the sink was handed finishes of lines that the bytes of its slices code,
+/// and no other line. This holds before a fault too, and if the sink refused one.
 pub fn sink_is_handed_only_coded_lines<S: LineSink>()
     ensures { (a : Accepted) (payload : List ℕ) (old new : S) (tally : Tally)
         (result : Result Said FrameFault) → IsAccepted a.configuration a.table →
@@ -169,9 +169,10 @@ pub fn sink_is_handed_only_coded_lines<S: LineSink>()
 }
 
 /// What decoding makes of a payload, whatever the sink: an answer Ok comes with the payload's
-/// count, and one of a fault, the sink's aside, with that first fault and what was decided before
-/// it. A payload has one count or one first fault, and no two of them. Where a fault is answered,
-/// the sink took the lines before the payload's first fault, or it refused a line that came next.
+/// count. A fault, if it is not the sink's, comes with what was decided before it, and is the
+/// payload's first fault. A payload has one count or one first fault, and no two of them. If a
+/// fault is answered, the sink took the lines before the payload's first fault, or it refused a
+/// line that came next.
 pub fn payload_has_one_outcome<S: LineSink>()
     ensures count { (a : Accepted) (payload : List ℕ) (old new : S) (tally : Tally)
         (info : Said) → Answers S.takes S.refuses a payload old new tally (Ok info) →
@@ -217,7 +218,8 @@ pub fn strict_slices_do_not_differ<S: LineSink>()
 }
 
 /// With parity, a payload that differs from a good one within 32 neighbouring bits of one slice,
-/// its slice_size aside, is answered by the parity of that slice, before any line and any decision.
+/// apart from its slice_size, is answered by the parity of that slice, before any line and any
+/// decision.
 pub fn damage_is_found_by_parity<S: LineSink>()
     ensures { (a : Accepted) (sent payload : List ℕ) (spans : ℕ → ℕ) (s : ℕ) (old new : S)
         (tally : Tally) (result : Result Said FrameFault) → AreBytes sent → AreBytes payload →
@@ -230,8 +232,8 @@ pub fn damage_is_found_by_parity<S: LineSink>()
 }
 
 /// With parity, a payload that differs from a good one within 32 neighbouring bits, wherever these
-/// lie, also in sizes and across the borders of slices, is refused as it is cut, before any line
-/// and any decision.
+/// lie, also in sizes and across the borders of slices, is refused when it is cut into slices,
+/// before any line and any decision.
 pub fn damage_anywhere_is_refused<S: LineSink>()
     ensures { (a : Accepted) (sent payload : List ℕ) (old new : S) (tally : Tally)
         (result : Result Said FrameFault) → AreBytes payload → HasBurst a sent payload →

@@ -78,7 +78,7 @@ pub fn decoded_payload_codes_a_picture()
 }
 
 /// A payload that codes a picture is decoded to its end: its lines are handed over, and its slices
-/// say what the picture's do; wherever it is cut as it has to be.
+/// say what the picture's do, if it is cut as it has to be.
 pub fn coded_picture_is_decoded()
     ensures { (a : Accepted) (payload : List ℕ) (planes : Planes) (info : Said)
         (codes : CodesPicture a payload planes info) (spans : ℕ → ℕ) →
@@ -98,10 +98,10 @@ pub fn coded_picture_is_decoded()
     laws::planes_are_divided_part_by_part();
 }
 
-/// Wherever decoding stands, each slice is unread, or its bytes code its key, its head and the
-/// samples of its first lines; a fault is that of one event, after such a state; and at the end
-/// the bytes of each slice code all its lines, and what was decided is the sum of what was decided
-/// in each slice.
+/// However far decoding has come, each slice is unread, or its bytes code its key, its head and the
+/// samples of its first lines. A fault is that of one event, after such a state. At the end the
+/// bytes of each slice code all its lines, and what was decided is the sum of what was decided in
+/// each slice.
 pub fn bytes_code_what_was_decoded()
     ensures begun { (a : Accepted) (coded : ℕ → List ℕ) (before after : List Event) (s : State)
         (n : ℕ) → IsAccepted a.configuration a.table →
@@ -191,9 +191,9 @@ pub fn slices_end_near_the_sentinel_ending()
     range_laws::ended_bytes_are_near_the_sentinel_ending();
 }
 
-/// Wherever decoding stands, at its end, before its first fault or at a line that is handed over
-/// next, each line that was handed over, and that next one, is the finish of a line that the bytes
-/// of its slices code: it is made of that line of each slice of its row, and the bytes of the slice
+/// However far decoding has come (to its end, to its first fault, or to a line that is handed over
+/// next), each line that was handed over, and that next one, is the finish of a line that the bytes
+/// of its slices code. It is made of that line of each slice of its row, and the bytes of the slice
 /// code it.
 pub fn handed_lines_finish_coded_lines()
     ensures reached { (a : Accepted) (coded : ℕ → List ℕ) (before after : List Event) (s : State) →

@@ -67,11 +67,11 @@ pub fn kept_lines_make_up_the_picture()
     laws::planes_are_divided_part_by_part();
 }
 
-/// Where the lines stand that are handed over, and in which order, is the configuration's alone:
-/// the planes and rows of the lines of any picture. Whatever the bytes say, the lines so far are a
-/// beginning of that order, and the line that is handed over next is the next of it; at the end
-/// they are all. For RCT without transparency the order is red, green and blue of each row, the
-/// rows from the top.
+/// Where the lines stand that are handed over, and in which order, depends on the configuration
+/// alone: the planes and rows of the lines of any picture. Whatever the bytes say, the lines so far
+/// are a beginning of that order, and the line that is handed over next is the next of it. At the
+/// end they are all of it. For RCT without transparency the order is red, green and blue of each
+/// row, the rows from the top.
 pub fn lines_are_handed_in_turn()
     ensures lines { (a : Accepted) (planes : Planes) →
         lines_of a.configuration planes
@@ -112,10 +112,10 @@ pub fn rct_planes_have_the_picture_size()
     laws::planes_are_divided_part_by_part();
 }
 
-/// Whatever the payload, a fault that is answered is the sink's exactly where the sink refused a
-/// line: after a beginning of the lines it refused the one that came next, a line of the
-/// configuration, and the fault names its plane and its row. After any other fault it took a
-/// beginning of the lines, and refused none.
+/// Whatever the payload, a fault that is answered is the sink's exactly if the sink refused a line.
+/// After a beginning of the lines it refused the one that came next, a line of the configuration,
+/// and the fault names its plane and its row. After any other fault it took a beginning of the
+/// lines, and refused none.
 pub fn sink_fault_is_a_refused_line<S: LineSink>()
     ensures sink { (a : Accepted) (payload : List ℕ) (old new : S) (tally : Tally)
         (f : FrameFault) → IsAccepted a.configuration a.table →

@@ -1,4 +1,4 @@
--- The payload that an encoder writes of a picture codes the picture, where no slice has more coded
+-- The payload that an encoder writes of a picture codes the picture, if no slice has more coded
 -- bytes than its footer can say.
 use Rattle.std.proofs.Common.{◌≡◌, ℕ, zero, suc, ◌+◌, ◌*◌, ◌<◌, ◌≤◌, List, [], length, map}
 use Rattle.std.proofs.Common.{slice_get, Some, arith, subst, sym, ap, ◌∙◌, inl, inr}

@@ -1,6 +1,6 @@
 -- How many bytes a frame has: one and the footer's for each slice, and one for each
--- renormalisation; at most 2 n + 1 for each residual of n binary digits, and 109 for each slice,
--- with 6 for a third set index and 2 for each place that may be above 15.
+-- renormalisation. That is at most 2 n + 1 for each residual of n binary digits, and 109 for each
+-- slice, with 6 for a third set index and 2 for each place that may be above 15.
 use Rattle.std.proofs.Common.{ℕ, ◌+◌, ◌*◌, ◌∙◌, ap, arith}
 use Rattle.std.specs.List.{range_with_len}
 use Rattle.std.proofs.lemmas.List.FromFn.{length-range_with_len}

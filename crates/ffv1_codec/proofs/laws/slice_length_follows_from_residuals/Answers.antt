@@ -1,4 +1,4 @@
--- How many decisions the residuals of a slice take: 2 n + 1 for each of n binary digits, and how
+-- How many decisions the residuals of a slice take: 2 n + 1 for each of n binary digits. And how
 -- many bytes a slice has before its footer: one and its renormalisations, at most as many as its
 -- decisions and 101 more, with 6 for a third set index and 2 for each place that may be above 15.
 use Rattle.std.proofs.Common.{ℕ, [], ◌++◌, ◌*◌, ◌<◌, ◌≤◌, length, arith, length-append}

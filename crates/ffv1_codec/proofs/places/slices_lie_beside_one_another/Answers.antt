@@ -73,7 +73,7 @@ plane_multiples size count log2 (suc zero) are = are
 plane_multiples size count log2 (suc (suc zero)) are = are
 plane_multiples size count log2 (suc (suc (suc p))) are = flat_multiples size count 0 refl
 
--- what is kept of a configuration whose rows are such, and whose chroma is
+-- what is kept of a configuration whose rows are so, and whose chroma is too
 kept_by : (c : Configuration) (b : Bool) → (b ≡ true → (p : ℕ) → ShareNoLine c p) → (b ≡ false →
     (is_rct c.colour ≡ false) × (3 ≤ plane_count c) × ShareNoLine c 0 × ShareNoLine c 3) →
     KeepsChroma c (if b then 0 else 2 * reduced c.log2_h c.width)
@@ -92,7 +92,7 @@ by_chroma true true some = omega arith
 by_chroma true false some = omega arith
 by_chroma false extra some = absurd (some refl)
 
--- what is held behind the lines of planes that are coded together
+-- what is held after the lines of planes that are coded together
 behind : (planes width kept : ℕ) → 3 * planes * width + kept - 3 * (planes * width) ≡ kept
 behind planes width kept = omega arith
 

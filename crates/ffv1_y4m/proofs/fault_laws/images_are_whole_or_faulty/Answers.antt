@@ -1,5 +1,5 @@
--- A text of images is whole, as it is read where depths up to that one are, or has a first fault;
--- and it has one, in one place.
+-- A text of images is whole, as it is read if depths up to that one are, or has a first fault; and
+-- it has one, in one place.
 use Rattle.ffv1_y4m.proofs.FaultPlaces.{images_inside}
 use Rattle.ffv1_y4m.proofs.ImageStreams.{images_only_fault, images_or_fault}
 use Rattle.ffv1_y4m.proofs.fault_laws.images_are_whole_or_faulty.Goals as goal

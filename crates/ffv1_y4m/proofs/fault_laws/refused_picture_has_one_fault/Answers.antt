@@ -1,5 +1,5 @@
 -- `refused_picture_has_one_fault`: the same of the picture that a text begins with, and of
--- `Y4mReader::next` where no memory was refused.
+-- `Y4mReader::next` if no memory was refused.
 use Rattle.ffv1_y4m.proofs.FirstFaults.{picture_answered}
 use Rattle.ffv1_y4m.proofs.PictureFaults.{picture_known, picture_only, picture_refused}
 use Rattle.ffv1_y4m.proofs.fault_laws.refused_picture_has_one_fault.Goals as goal

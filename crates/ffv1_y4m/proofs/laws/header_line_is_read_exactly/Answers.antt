@@ -1,5 +1,5 @@
--- A line is read as the depth and the head that it says, where depths up to that one are read, and
--- what is read so says that depth and that head.
+-- A line is read as the depth and the head that it says, if depths up to that one are read; and
+-- what is so read says that depth and that head.
 use Rattle.ffv1_y4m.proofs.HeaderLines.{line_found, line_only}
 use Rattle.ffv1_y4m.proofs.laws.header_line_is_read_exactly.Goals as goal
 

@@ -1,6 +1,6 @@
 -- A sink that has taken whole images and then a beginning of the lines of one more, each in its
--- place, takes the line that comes next there, or its write fails: a beginning of the row's text is
--- written then, and the writer counts one failure more.
+-- place, takes the line that comes next there, or its write fails. A beginning of the row's text is
+-- then written, and the writer counts one failure more.
 use Rattle.ffv1_y4m.proofs.NextLines.{comes_next, refused_next, writes_kept}
 use Rattle.ffv1_y4m.proofs.laws.sink_takes_the_next_line.Goals as goal
 

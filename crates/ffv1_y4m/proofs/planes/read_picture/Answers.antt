@@ -1,4 +1,4 @@
--- Reads the next picture, in place of what the planes were; false where the input has ended.
+-- Reads the next picture, in place of what the planes were; false if the input has ended.
 use Rattle.std.proofs.lemmas.Result.{err_from_is_err_and}
 use Rattle.ffv1_y4m.specs.State.{samples_of}
 use Rattle.ffv1_y4m.proofs.ImagesBegun.{picture_broken, picture_full, picture_stops, picture_whole}

@@ -1,5 +1,5 @@
 -- Reads the next image, of which the header may have been read before, in place of what the planes
--- were; false where the input has ended.
+-- were; false if the input has ended.
 use Rattle.std.proofs.lemmas.Result.{err_from_is_err_and}
 use Rattle.ffv1_y4m.specs.State.{samples_of}
 use Rattle.ffv1_y4m.proofs.ImagesBegun.{image_broken, image_stops, image_whole, stands_some}

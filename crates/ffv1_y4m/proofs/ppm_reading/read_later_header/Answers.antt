@@ -1,5 +1,5 @@
--- Reads the header of a later image: true, the input then standing after it; or false where the
--- input has ended.
+-- Reads the header of a later image: true, with the input then after it; or false if the input has
+-- ended.
 use Rattle.std.proofs.Common.{sym}
 use Rattle.std.proofs.lemmas.Result.{err_from_is_err_and}
 use Rattle.ffv1_y4m.proofs.PpmSteps.{begun_failed, later_changed, later_refused, later_same}

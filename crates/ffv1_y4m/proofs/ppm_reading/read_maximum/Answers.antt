@@ -1,4 +1,4 @@
--- Reads the line of the greatest sample: its depth, where it has one of at most `most`.
+-- Reads the line of the greatest sample: its depth, if it has one of at most `most`.
 use Rattle.std.proofs.Common.{◌≡◌, ◌≤◌, length, arith}
 use Rattle.std.proofs.lemmas.Result.{err_from_is_err_and}
 use Rattle.std.proofs.lemmas.Grind.{common_steps}

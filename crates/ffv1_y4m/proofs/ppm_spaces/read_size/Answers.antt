@@ -1,4 +1,4 @@
--- Reads a size, where the next word is one.
+-- Reads a size, if the next word is one.
 use Rattle.std.proofs.Common.{◌≤◌, ℕ, Option, subst, sym}
 use Rattle.std.specs.Prelude.{IfSome}
 use Rattle.ffv1_y4m.proofs.SpacedHeaders.{size_bounds}

@@ -1,5 +1,5 @@
--- Reads the line that begins a picture: true, the input then standing after it; or false where the
--- input has ended.
+-- Reads the line that begins a picture: true, with the input then after it; or false if the input
+-- has ended.
 use Rattle.std.proofs.Common.{◌≡◌, ◌==◌, ◌<◌, false, get_or, ◌∙◌, ap, arith}
 use Rattle.std.proofs.lemmas.Result.{err_from_is_err_and}
 use Rattle.std.proofs.lemmas.Grind.{common_steps}

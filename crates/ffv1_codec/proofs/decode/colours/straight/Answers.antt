@@ -1,4 +1,4 @@
--- Red, green and blue of a line of samples of more than 8 bits, where they stand in this order.
+-- Red, green and blue of a line of samples of more than 8 bits, if they come in this order.
 use Rattle.std.proofs.Common.{◌≡◌, ◌++◌, ◌*◌, ◌∙◌, sym, subst, length, arith}
 use Rattle.ffv1_samples.specs.Samples.{samples_of}
 use Rattle.ffv1_codec.specs.Internal.Finished.{AreMade}

@@ -1,4 +1,4 @@
--- `swapped`: the same where green and blue change places.
+-- `swapped`: the same if green and blue change places.
 use Rattle.std.proofs.Common.{◌≡◌, ◌++◌, ◌*◌, ◌∙◌, sym, subst, length, arith}
 use Rattle.ffv1_samples.specs.Samples.{samples_of}
 use Rattle.ffv1_codec.specs.Internal.Finished.{AreMade}

@@ -33,7 +33,7 @@ closed : (g : Over) (c : After-close g) → take c.loop-row.buffers.slices.colum
 closed g c = with_items_is c.loop-row.buffers.slices.columns c.close.new.columns
     (c.close.auto.columns ∙ c.deref_mut.ensures.len)
 
--- what is held behind the lines of planes that are coded together
+-- what is held after the lines of planes that are coded together
 abbrev kept_lines : {A : Type 0} → Configuration → Lines A → List ℕ
 kept_lines c lines = kept_in c (samples_of_lines lines)
 

@@ -38,7 +38,7 @@ no_rct : (g : Over) (c : In-YCbCr g) → is_rct c.args.frame.now.checked.now.con
 no_rct g c = ap (λ (z : Configuration). is_rct z.colour) c.config-2.ensures.value ∙
     ap is_rct c.in-YCbCr.is
 
--- what is kept of the row above stands behind them
+-- what is kept of the row above comes after them
 kept_old : (g : Over) (c : After-split_at_mut-rolling g) (s : State) → AreAbove
     c.args.frame.now.checked.now.configuration c.args.row
     (kept_in c.args.frame.now.checked.now.configuration (g.W.Word.samples c.args.lines.now)) s →

@@ -96,7 +96,7 @@ module _ (g : Over) (c : After-read_column g) where
       c.read_column.new.cur) (put_other cur (g.W.Word.samples c.read_column.new.cur) left width
       cur_fits row_long b n within apart)
 
--- the states of a column end where a number can say
+-- the states of a column end at a place that a number can say
 end_small : (g : Over) (c : After-extent-left g) →
     c.args.segment.now.column * c.args.frame.now.slots
     + c.args.frame.now.slots ≤ 100663296

@@ -1,4 +1,4 @@
--- Row y of Y, Cb and Cr in RCT, and of transparency where there is such a plane.
+-- Row y of Y, Cb and Cr in RCT, and of transparency if there is such a plane.
 use Rattle.ffv1_codec.proofs.encode.cell_rows.load_all.Goals as goal
 
 pub load_colours-requires-clause-rolled : goal.load_colours-requires-clause-rolled

@@ -1,4 +1,4 @@
--- Row y of transparency in RCT, where there is such a plane.
+-- Row y of transparency in RCT, if there is such a plane.
 use Rattle.std.proofs.Common.{◌≡◌, ◌∙◌, ap, Bool, true, false}
 use Rattle.ffv1_record.specs.Configuration.{Configuration}
 use Rattle.ffv1_codec.proofs.encode.cell_rows.load_transparency.Goals as goal

@@ -1,4 +1,4 @@
--- `restart_transparency`: the same of transparency, where there is such a plane.
+-- `restart_transparency`: the same of transparency, if there is such a plane.
 use Rattle.std.proofs.Common.{◌≡◌, ◌∙◌, ap, Bool, true, false}
 use Rattle.ffv1_record.specs.Configuration.{Configuration}
 use Rattle.ffv1_codec.specs.Picture.{cell_in}

@@ -1,4 +1,4 @@
--- Codes a row of the plane of transparency, where there is one.
+-- Codes a row of the plane of transparency, if there is one.
 use Rattle.std.proofs.Common.{◌≡◌, ◌∙◌, ap, true, subst, sym}
 use Rattle.ffv1_record.specs.Configuration.{Configuration}
 use Rattle.ffv1_codec.specs.Picture.{cell_in}

@@ -1,5 +1,5 @@
--- Where the answer is Ok, the payload codes a picture, whose lines the sink took; and a payload
--- that codes a picture is answered Ok, or the sink refused the line that came next.
+-- If the answer is Ok, the payload codes a picture, whose lines the sink took. A payload that codes
+-- a picture is answered Ok, or the sink refused the line that came next.
 use Rattle.std.proofs.Common.{ℕ, List, Result, Ok, subst}
 use Rattle.std.specs.Prelude.{slice_index}
 use Rattle.ffv1_slice.specs.Footer.{foot_length}

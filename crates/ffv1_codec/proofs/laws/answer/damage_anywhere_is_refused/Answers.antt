@@ -1,5 +1,5 @@
 -- With parity, a payload that differs from a good one within 32 neighbouring bits, wherever these
--- lie, is refused as it is cut, before any line and any decision.
+-- lie, is refused when it is cut into slices, before any line and any decision.
 use Rattle.std.proofs.Common.{◌≡◌, ℕ, List, Result, Ok, Err, true, sym, ◌∙◌}
 use Rattle.ffv1_range.specs.Codes.{AreBytes}
 use Rattle.ffv1_record.specs.Accepted.{Accepted}

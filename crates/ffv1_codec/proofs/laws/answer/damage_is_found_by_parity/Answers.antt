@@ -1,5 +1,6 @@
--- With parity, a payload that differs from a good one within 32 neighbouring bits of one slice, its
--- slice_size aside, is answered by the parity of that slice, before any line and any decision.
+-- With parity, a payload that differs from a good one within 32 neighbouring bits of one slice,
+-- apart from its slice_size, is answered by the parity of that slice, before any line and any
+-- decision.
 use Rattle.std.proofs.Common.{ℕ, List, Result, Err, subst}
 use Rattle.ffv1_slice.specs.declared.cutting.CutFault.{CutFault}
 use Rattle.ffv1_slice.specs.declared.fault.SliceFault.TheVariants as fault

@@ -1,6 +1,6 @@
--- Each decision of a slice has a state that the table holds; and what the decisions of a frame
--- cost, by its tally, however decoding ends: its renormalisations are little more than the weight
--- of the decisions asks for, and little fewer.
+-- Each decision of a slice has a state that the table holds. What the decisions of a frame cost is
+-- told by its tally, however decoding ends: its renormalisations are little more than the weight of
+-- the decisions asks for, and little fewer.
 use Rattle.std.proofs.Common.{◌≤◌, [], arith}
 use Rattle.ffv1_range.specs.declared.tally.Tally.{Tally}
 use Rattle.ffv1_record.specs.Accepted.{Accepted, IsAccepted}

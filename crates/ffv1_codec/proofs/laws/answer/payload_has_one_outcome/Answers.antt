@@ -1,5 +1,6 @@
--- What decoding makes of a payload, whatever the sink: an answer Ok comes with the payload's count,
--- and one of a fault, the sink's aside, with that first fault and what was decided before it.
+-- What decoding makes of a payload, whatever the sink: an answer Ok comes with the payload's count.
+-- A fault, if it is not the sink's, comes with what was decided before it, and is the payload's
+-- first fault.
 use Rattle.std.proofs.Common.{ℕ, List, slice_index}
 use Rattle.ffv1_range.specs.Codes.{AreBytes}
 use Rattle.ffv1_record.specs.Accepted.{Accepted, IsAccepted}

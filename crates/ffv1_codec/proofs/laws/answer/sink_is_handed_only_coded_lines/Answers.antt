@@ -1,5 +1,5 @@
--- However a payload is answered, the sink was handed finishes of lines that the bytes of its slices
--- code, and no other line, also before a fault and where the sink refused one.
+-- Whatever the answer, the sink was handed finishes of lines that the bytes of its slices code, and
+-- no other line. This holds before a fault too, and if the sink refused one.
 use Rattle.ffv1_codec.proofs.HandedAnswers.{coded, hands_by_cut}
 use Rattle.ffv1_codec.proofs.laws.answer.sink_is_handed_only_coded_lines.Goals as goal
 

@@ -1,5 +1,5 @@
--- Wherever decoding stands, each slice is unread, or its bytes code its key, its head and the
--- samples of its first lines; a fault is that of one event, after such a state; and at the end the
+-- However far decoding has come, each slice is unread, or its bytes code its key, its head and the
+-- samples of its first lines. A fault is that of one event, after such a state. At the end the
 -- bytes of each slice code all its lines, and what was decided is the sum of what was decided in
 -- each slice.
 use Rattle.ffv1_codec.specs.Order.{events_of}

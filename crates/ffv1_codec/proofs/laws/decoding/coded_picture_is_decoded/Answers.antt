@@ -1,5 +1,5 @@
 -- A payload that codes a picture is decoded to its end: its lines are handed over, and its slices
--- say what the picture's do; wherever it is cut as it has to be.
+-- say what the picture's do, if it is cut as it has to be.
 use Rattle.std.proofs.Common.{ℕ, ◌*◌, ◌<◌, List, [], ◌++◌, subst}
 use Rattle.ffv1_range.specs.Codes.{Codes, AreBytes}
 use Rattle.ffv1_range.specs.History.{decisions_after}

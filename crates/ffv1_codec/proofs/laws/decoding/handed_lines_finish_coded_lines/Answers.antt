@@ -1,6 +1,6 @@
--- Wherever decoding stands, at its end, before its first fault or at a line that is handed over
--- next, each line that was handed over, and that next one, is the finish of a line that the bytes
--- of its slices code: it is made of that line of each slice of its row, and the bytes of the slice
+-- However far decoding has come (to its end, to its first fault, or to a line that is handed over
+-- next), each line that was handed over, and that next one, is the finish of a line that the bytes
+-- of its slices code. It is made of that line of each slice of its row, and the bytes of the slice
 -- code it.
 use Rattle.ffv1_record.specs.Accepted.{Accepted, IsAccepted}
 use Rattle.ffv1_codec.proofs.PictureMade.{PictureLaws}

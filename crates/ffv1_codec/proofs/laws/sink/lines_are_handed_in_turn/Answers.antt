@@ -1,5 +1,5 @@
--- Where the lines stand that are handed over, and in which order, is the configuration's alone: the
--- planes and rows of the lines of any picture.
+-- Where the lines stand that are handed over, and in which order, depends on the configuration
+-- alone: the planes and rows of the lines of any picture.
 use Rattle.ffv1_codec.specs.Order.Event.{Hand}
 use Rattle.std.proofs.Common.{◌∷◌}
 use Rattle.ffv1_codec.proofs.LinePlaces.{colour_places, picture_places, picture_there, places_at}

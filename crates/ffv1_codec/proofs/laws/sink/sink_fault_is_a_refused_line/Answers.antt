@@ -1,6 +1,6 @@
--- Whatever the payload, a fault that is answered is the sink's exactly where the sink refused a
--- line: after a beginning of the lines it refused the one that came next, a line of the
--- configuration, and the fault names its plane and its row.
+-- Whatever the payload, a fault that is answered is the sink's exactly if the sink refused a line.
+-- After a beginning of the lines it refused the one that came next, a line of the configuration,
+-- and the fault names its plane and its row.
 use Rattle.ffv1_codec.proofs.SinkFaults.{other_faults, sink_faults}
 use Rattle.ffv1_codec.proofs.laws.sink.sink_fault_is_a_refused_line.Goals as goal
 

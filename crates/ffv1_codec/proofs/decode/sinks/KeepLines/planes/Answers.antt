@@ -1,4 +1,4 @@
--- The planes, each accepted line in its place, and 0 where none was.
+-- The planes: each accepted line in its place, and 0 where there was none.
 use Rattle.std.proofs.Common.{◌≡◌, ◌∙◌, ap, sym, subst, refl, ℕ, List, length, arith}
 use Rattle.std.specs.Vec.{with_items}
 use Rattle.std.specs.declared.vec.Vec.{Vec}
