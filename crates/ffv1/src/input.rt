@@ -4,6 +4,7 @@ ghost use Rattle.std.specs.Prelude.{◌≡◌, IfErr, option_to_list};
 ghost use Rattle.std.specs.Io.KnownBytes.{prepend_known};
 ghost use Rattle.ffv1_engine.specs.declared.fault.Fault.TheVariants as fault;
 
+use crate::met::{Met, Noted};
 use crate::progress::Watched;
 use either::{Either, Left, Right};
 use ffv1_engine::Fault;
@@ -16,34 +17,40 @@ use std::rt::Files;
 use std::time::Clock;
 
 /// A reader of a file, or of standard input.
-pub type Source<H> = FromRead<Either<<H as Files>::File, <H as Input>::Reader>>;
+pub type Source<'a, H> = FromRead<Noted<'a, Either<<H as Files>::File, <H as Input>::Reader>>>;
 
 /// Opens IN, and tells what it is if that is known: of `-`, standard input is opened. `Read`
 /// if it cannot be opened.
-pub fn open_input<H: Files + Input>(
+pub fn open_input<'a, H: Files + Input>(
     rt: &H,
     path: &str,
-) -> Result<(Source<H>, Option<Metadata>), Fault>
+    met: &'a Met,
+) -> Result<(Source<'a, H>, Option<Metadata>), Fault>
     ensures { IfErr result (λ f. f ≡ fault.Read) }
 {
     if is_hyphen(path) {
-        let source = FromRead::new(Right(rt.reader()));
+        let source = FromRead::new(Noted::new(met, Right(rt.reader())));
         return Ok((source, fs::metadata(rt, "/dev/stdin").ok()));
     }
-    let Ok(file) = fs::open(rt, path) else {
-        return Err(Fault::Read);
-    };
-    let metadata = file.metadata().ok();
-    Ok((FromRead::new(Left(file)), metadata))
+    match fs::open(rt, path) {
+        Ok(file) => {
+            let metadata = file.metadata().ok();
+            Ok((FromRead::new(Noted::new(met, Left(file))), metadata))
+        }
+        Err(error) => {
+            met.refused(&error);
+            Err(Fault::Read)
+        }
+    }
 }
 
 /// Wraps a reader of IN so that it tells how much was read, if that is asked for.
 pub fn watched<'a, H: Files + Input + Eprint + Clock>(
     rt: &'a H,
-    source: Source<H>,
+    source: Source<'a, H>,
     metadata: &Option<Metadata>,
     progress: bool,
-) -> Watched<'a, Source<H>, H> {
+) -> Watched<'a, Source<'a, H>, H> {
     let size = match metadata {
         Some(metadata) if metadata.is_file() => Some(metadata.len()),
         _ => None,

@@ -16,12 +16,17 @@ ghost use Rattle.ffv1_engine.specs.declared.profile.Profile.TheVariants as profi
 ghost use Rattle.ffv1_engine.specs.declared.fault.Fault.{Fault};
 ghost use Rattle.ffv1_engine.specs.declared.fault.Fault.TheVariants as fault;
 
+mod advice;
+mod arguments;
 mod input;
+mod met;
 mod output;
 mod progress;
 mod refusal;
 mod several;
+mod told;
 
+use arguments::{looks, other_words};
 use clap::Error;
 use either::{Left, Right};
 use ffv1_engine::{
@@ -29,8 +34,9 @@ use ffv1_engine::{
     show, trial, unpack,
 };
 use ffv1_wire::{ByteIn, ToFile, ToWrite, read_byte};
-use ffv1_words::{Choice, ContainerChoice, Order, is_hyphen, words};
+use ffv1_words::{Choice, ContainerChoice, Order, help_topic, is_hyphen, words};
 use input::{Again, open_input, watched};
+use met::{Met, Noted};
 use output::{Target, open_output};
 use refusal::Refusal;
 use several::Looks;
@@ -40,9 +46,15 @@ use std::process::ExitCode;
 use std::rt::Files;
 use std::time::Clock;
 use std::{env, io};
+use told::{Paths, advise, help};
 
 /// Prints a count: on standard output, or on standard error if the output itself goes there.
-fn print_count(rt: &(impl Print + Eprint), output: &str, count: &str) -> Result<(), Refusal>
+fn print_count(
+    rt: &(impl Print + Eprint),
+    output: &str,
+    count: &str,
+    met: &Met,
+) -> Result<(), Refusal>
     ensures { IfErr result (λ r. r ≡ refusal.Fault fault.Write) }
 {
     let printed = if is_hyphen(output) {
@@ -50,10 +62,7 @@ fn print_count(rt: &(impl Print + Eprint), output: &str, count: &str) -> Result<
     } else {
         println!(rt; "{count}")
     };
-    if printed.is_err() {
-        return Err(Refusal::Fault(Fault::Write));
-    }
-    Ok(())
+    met.printed(printed)
 }
 
 /// What a command that makes a file is given.
@@ -66,6 +75,14 @@ struct Making<'a> {
 }
 
 impl<'a> Making<'a> {
+    /// Its paths.
+    fn paths(&self) -> Paths<'a> {
+        Paths {
+            input: self.input,
+            output: self.output,
+        }
+    }
+
     /// Puts together what an order says of its files.
     fn new(input: &'a str, output: &'a str, no_clobber: bool, progress: bool) -> Making<'a>
         ensures input { result.input ≡ input.entry }
@@ -91,7 +108,7 @@ fn pack_target<R: ByteIn, H: Files + Print>(
     choice: &Choice,
 ) -> Result<PackedMatroska, Fault> {
     match target {
-        Left(file) if file.is_regular() => {
+        Left(file) if file.inner().is_regular() => {
             pack_matroska(alloc, Profile::Wide, reader, &mut ToFile::new(file), choice)
         }
         Left(file) => pack_matroska(
@@ -119,11 +136,12 @@ fn run_pack(
     files: &Making<'_>,
     container: ContainerChoice,
     choice: &Choice,
+    met: &Met,
 ) -> Result<(), Refusal>
     ensures { IfErr result (IsMakingRefusal files.now.no_clobber) }
 {
-    let (source, metadata) = open_input(rt, files.input)?;
-    let target = open_output(rt, files.output, &metadata, files.no_clobber)?;
+    let (source, metadata) = open_input(rt, files.input, met)?;
+    let target = open_output(rt, files.output, &metadata, files.no_clobber, met)?;
     let mut reader = watched(rt, source, &metadata, files.progress);
     let (frames, bytes) = if container.is_matroska(files.output) {
         let packed = pack_target(alloc, &mut reader, target, choice)?;
@@ -139,7 +157,7 @@ fn run_pack(
         (packed.frames, packed.bytes)
     };
     let count = format!(in alloc; "frames {frames} bytes {bytes}")?;
-    print_count(rt, files.output, &count)
+    print_count(rt, files.output, &count, met)
 }
 
 /// Unpacks a file into a text of its pictures, and prints how many there are. The input is opened
@@ -148,16 +166,17 @@ fn run_unpack(
     rt: &(impl Files + Input + Print + Eprint + Clock),
     alloc: Global,
     files: &Making<'_>,
+    met: &Met,
 ) -> Result<(), Refusal>
     ensures { IfErr result (IsMakingRefusal files.now.no_clobber) }
 {
-    let (source, metadata) = open_input(rt, files.input)?;
-    let target = open_output(rt, files.output, &metadata, files.no_clobber)?;
+    let (source, metadata) = open_input(rt, files.input, met)?;
+    let target = open_output(rt, files.output, &metadata, files.no_clobber, met)?;
     let mut reader = watched(rt, source, &metadata, files.progress);
     let (_written, answer) = unpack(alloc, Profile::Wide, &mut reader, ToWrite::new(target));
     let frames = answer?;
     let count = format!(in alloc; "frames {frames}")?;
-    print_count(rt, files.output, &count)
+    print_count(rt, files.output, &count, met)
 }
 
 /// What becomes of an order whose frames were all judged: the first fault of one that is refused is
@@ -187,14 +206,15 @@ fn run_check(
     alloc: Global,
     input: &str,
     checking: Checking,
+    met: &Met,
 ) -> Result<(), Refusal>
     ensures fault { IfErr result IsAnyFault }
     ensures own { checking.all ≡ false →
         IfErr result (IsFault (IsCheckFault profile.Wide)) }
 {
-    let (source, metadata) = open_input(rt, input)?;
+    let (source, metadata) = open_input(rt, input, met)?;
     let mut reader = watched(rt, source, &metadata, checking.progress);
-    let mut writer = ToWrite::new(io::writer(rt));
+    let mut writer = ToWrite::new(Noted::new(met, io::writer(rt)));
     let place = checking.place;
     if checking.all {
         let first = check_all(alloc, Profile::Wide, &mut reader, &mut writer, place)?;
@@ -210,12 +230,13 @@ fn run_show(
     alloc: Global,
     input: &str,
     cost: bool,
+    met: &Met,
 ) -> Result<(), Refusal>
     ensures fault { IfErr result IsAnyFault }
     ensures own { IfErr result (IsFault (IsShowFault profile.Wide cost)) }
 {
-    let (mut reader, _) = open_input(rt, input)?;
-    let mut writer = ToWrite::new(io::writer(rt));
+    let (mut reader, _) = open_input(rt, input, met)?;
+    let mut writer = ToWrite::new(Noted::new(met, io::writer(rt)));
     show(alloc, Profile::Wide, &mut reader, &mut writer, cost)?;
     Ok(())
 }
@@ -225,15 +246,16 @@ fn run_framemd5(
     rt: &(impl Files + Input + Print),
     alloc: Global,
     input: &str,
+    met: &Met,
 ) -> Result<(), Refusal>
     ensures { IfErr result IsAnyFault }
 {
-    let (mut source, _) = open_input(rt, input)?;
+    let (mut source, _) = open_input(rt, input, met)?;
     let Ok(first) = read_byte(&mut source) else {
         return Err(Refusal::Fault(Fault::Read));
     };
     let mut reader = Again::new(first, source);
-    let mut writer = ToWrite::new(io::writer(rt));
+    let mut writer = ToWrite::new(Noted::new(met, io::writer(rt)));
     if first == Some(b'P') || first == Some(b'Y') {
         framemd5_text(alloc, Profile::Wide, &mut reader, &mut writer)?;
     } else {
@@ -243,11 +265,16 @@ fn run_framemd5(
 }
 
 /// Codes and decodes the mono picture of a file, and prints what it found.
-fn run_trial(rt: &(impl Files + Input + Print), alloc: Global, input: &str) -> Result<(), Refusal>
+fn run_trial(
+    rt: &(impl Files + Input + Print),
+    alloc: Global,
+    input: &str,
+    met: &Met,
+) -> Result<(), Refusal>
     ensures { IfErr result IsAnyFault }
 {
-    let (mut reader, _) = open_input(rt, input)?;
-    let mut writer = ToWrite::new(io::writer(rt));
+    let (mut reader, _) = open_input(rt, input, met)?;
+    let mut writer = ToWrite::new(Noted::new(met, io::writer(rt)));
     trial(alloc, &mut reader, &mut writer)?;
     Ok(())
 }
@@ -267,12 +294,14 @@ fn status_of(done: Result<(), Refusal>) -> u8
     }
 }
 
-/// Says on standard error why an order is not done, in one line. Answers its exit status.
-fn tell(rt: &impl Eprint, done: Result<(), Refusal>) -> io::Result<u8>
+/// Says on standard error why an order is not done: in one line, and of a fault in two more which
+/// file it is of and what to do. Answers its exit status.
+fn tell(rt: &impl Eprint, met: &Met, paths: Paths<'_>, done: Result<(), Refusal>) -> io::Result<u8>
     ensures { IfOk result (λ status. status ≡ status_of done) }
 {
     if let Err(refusal) = done {
         eprintln!(rt; "ffv1: {refusal}")?;
+        advise(rt, met, paths, refusal)?;
     }
     Ok(status_of(done))
 }
@@ -283,6 +312,7 @@ enum Looking {
     Check(Checking),
     Show { cost: bool },
     FrameMd5,
+    Trial,
 }
 
 /// Looks at one file.
@@ -291,13 +321,16 @@ fn look(
     alloc: Global,
     path: &str,
     looking: Looking,
+    met: &Met,
 ) -> Result<(), Refusal>
     ensures { IfErr result IsAnyFault }
 {
+    met.clear();
     match looking {
-        Looking::Check(checking) => run_check(rt, alloc, path, checking),
-        Looking::Show { cost } => run_show(rt, alloc, path, cost),
-        Looking::FrameMd5 => run_framemd5(rt, alloc, path),
+        Looking::Check(checking) => run_check(rt, alloc, path, checking, met),
+        Looking::Show { cost } => run_show(rt, alloc, path, cost, met),
+        Looking::FrameMd5 => run_framemd5(rt, alloc, path, met),
+        Looking::Trial => run_trial(rt, alloc, path, met),
     }
 }
 
@@ -307,6 +340,7 @@ struct Looker<'a, R> {
     rt: &'a R,
     alloc: Global,
     looking: Looking,
+    met: &'a Met,
 }
 
 impl<R: Files + Input + Print + Eprint + Clock> Looks for Looker<'_, R> {
@@ -315,11 +349,11 @@ impl<R: Files + Input + Print + Eprint + Clock> Looks for Looker<'_, R> {
     ghost looks = { λ s _ outcome t. (t ≡ s) × IfErr outcome IsAnyFault };
 
     fn name(&mut self, path: &str) -> bool {
-        println!(self.rt; "file {path}").is_ok()
+        self.met.printed(println!(self.rt; "file {path}")).is_ok()
     }
 
     fn look(&mut self, path: &str) -> Result<(), Refusal> {
-        look(self.rt, self.alloc, path, self.looking)
+        look(self.rt, self.alloc, path, self.looking, self.met)
     }
 }
 
@@ -332,8 +366,14 @@ fn look_all(
 ) -> io::Result<u8>
     ensures { IfOk result (λ status. status ≤ 1) }
 {
-    let mut looker = Looker { rt, alloc, looking };
-    several::look_all(rt, &mut looker, paths)
+    let met = &Met::new();
+    let mut looker = Looker {
+        rt,
+        alloc,
+        looking,
+        met,
+    };
+    several::look_all(rt, met, &mut looker, paths)
 }
 
 /// Does what an order asks for. Answers the exit status.
@@ -344,6 +384,7 @@ fn run(
 ) -> io::Result<u8>
     ensures { IfOk result (IsStatus (makes_file order.entry)) }
 {
+    let met = &Met::new();
     match order {
         Order::Pack {
             input,
@@ -354,7 +395,8 @@ fn run(
             progress,
         } => {
             let files = Making::new(input, output, no_clobber, progress);
-            tell(rt, run_pack(rt, alloc, &files, container, &choice))
+            let done = run_pack(rt, alloc, &files, container, &choice, met);
+            tell(rt, met, files.paths(), done)
         }
         Order::Unpack {
             input,
@@ -363,7 +405,7 @@ fn run(
             progress,
         } => {
             let files = Making::new(input, output, no_clobber, progress);
-            tell(rt, run_unpack(rt, alloc, &files))
+            tell(rt, met, files.paths(), run_unpack(rt, alloc, &files, met))
         }
         Order::Check {
             inputs,
@@ -380,7 +422,7 @@ fn run(
         }
         Order::Show { inputs, cost } => look_all(rt, alloc, inputs, Looking::Show { cost }),
         Order::FrameMd5 { inputs } => look_all(rt, alloc, inputs, Looking::FrameMd5),
-        Order::Trial { input } => tell(rt, run_trial(rt, alloc, input)),
+        Order::Trial { input } => look_all(rt, alloc, &[input], Looking::Trial),
     }
 }
 
@@ -395,11 +437,15 @@ fn line_status(error: &Error) -> u8
 }
 
 /// Does what the words of the command line ask for: status 0 for success, 1 for a fault, which is
-/// one line on standard error, of each file that has one, and 2 for a line or for files that are
-/// refused. All of clap's text goes to standard error, that of help too, which ends with status 0.
+/// told on standard error, of each file that has one, and 2 for a line or for files that are
+/// refused. All of clap's text goes to standard error, that of help too, which ends with status 0,
+/// as what is known of a fault does.
 fn command(rt: &HostRuntime, alloc: Global, texts: &[&str]) -> io::Result<ExitCode>
     ensures { IfOk result (λ code. exit_status code ≤ 2) }
 {
+    if let Some(topic) = help_topic(texts) {
+        return Ok(ExitCode::from(help(rt, topic)?));
+    }
     match words(alloc, texts) {
         Err(error) => {
             eprint!(rt; "{error}")?;
@@ -412,16 +458,30 @@ fn command(rt: &HostRuntime, alloc: Global, texts: &[&str]) -> io::Result<ExitCo
     }
 }
 
-/// Reads the command line and does what it asks for. A word that is not UTF-8 is refused with
-/// status 2 and one line.
+/// Refuses the words of the command line that are not UTF-8, and looks at the other files if the
+/// line names some. The status is 2.
+fn rest_of_line(rt: &HostRuntime, alloc: Global) -> io::Result<ExitCode>
+    ensures { IfOk result (λ code. exit_status code ≤ 2) }
+{
+    if let Some(arguments) = other_words(rt, alloc)? {
+        let texts: Vec<&str> = arguments.iter().map(|a| a.as_str()).collect(alloc)?;
+        if let Ok(order) = words(alloc, texts.as_slice()) {
+            if looks(order) {
+                run(rt, alloc, order)?;
+            }
+        }
+    }
+    Ok(ExitCode::from(2))
+}
+
+/// Reads the command line and does what it asks for.
 fn line(rt: &HostRuntime, alloc: Global) -> io::Result<ExitCode>
     ensures { IfOk result (λ code. exit_status code ≤ 2) }
 {
     let arguments: Vec<String> = match env::args(rt) {
         Ok(arguments) => arguments.collect(alloc)?,
         Err(error) if error.kind() == io::ErrorKind::InvalidData => {
-            eprintln!(rt; "ffv1: an argument is not UTF-8")?;
-            return Ok(ExitCode::from(2));
+            return rest_of_line(rt, alloc);
         }
         Err(error) => return Err(error),
     };

@@ -5,6 +5,7 @@ ghost use Rattle.std.specs.Prelude.{◌≡◌, ◌⊎◌, [], IfErr, Ok, OnErr, 
 ghost use Rattle.ffv1.specs.declared.refusal.Refusal.TheVariants as refusal;
 ghost use Rattle.ffv1_engine.specs.declared.fault.Fault.TheVariants as fault;
 
+use crate::met::{Met, Noted};
 use crate::refusal::Refusal;
 use either::{Either, Left, Right};
 use ffv1_engine::Fault;
@@ -67,7 +68,7 @@ impl<F: Seek + OpenFile + Drop> Seek for Anew<F> {
 }
 
 /// A file, or standard output.
-pub type Target<'a, H> = Either<Anew<<H as Files>::File>, Printer<'a, H>>;
+pub type Target<'a, H> = Either<Noted<'a, Anew<<H as Files>::File>>, Noted<'a, Printer<'a, H>>>;
 
 /// Whether these are one file, by its device and number. Streams and terminals, of which nothing
 /// is lost, are none.
@@ -86,6 +87,7 @@ pub fn open_output<'a, H: Files + Print>(
     path: &str,
     input: &Option<Metadata>,
     no_clobber: bool,
+    met: &'a Met,
 ) -> Result<Target<'a, H>, Refusal>
     ensures { IfErr result (λ r. (r ≡ refusal.OneFile)
         ⊎ (((r ≡ refusal.Exists) × (no_clobber ≡ true)) ⊎ (r ≡ refusal.Fault fault.Write))) }
@@ -98,7 +100,7 @@ pub fn open_output<'a, H: Files + Print>(
         }
     }
     if is_hyphen(path) {
-        return Ok(Right(io::writer(rt)));
+        return Ok(Right(Noted::new(met, io::writer(rt))));
     }
     let mut options = OpenOptions::new();
     options.write(true).create(true).create_new(no_clobber);
@@ -108,15 +110,19 @@ pub fn open_output<'a, H: Files + Print>(
                 Ok(metadata) => (metadata.is_file(), metadata.is_file() && metadata.len() > 0),
                 Err(_) => (false, false),
             };
-            Ok(Left(Anew {
+            let target = Anew {
                 file,
                 is_old,
                 is_regular,
-            }))
+            };
+            Ok(Left(Noted::new(met, target)))
         }
         Err(error) if no_clobber && error.kind() == ErrorKind::AlreadyExists => {
             Err(Refusal::Exists)
         }
-        Err(_) => Err(Refusal::Fault(Fault::Write)),
+        Err(error) => {
+            met.refused(&error);
+            Err(Refusal::Fault(Fault::Write))
+        }
     }
 }

@@ -9,8 +9,10 @@ ghost use Rattle.ffv1.specs.declared.refusal.Refusal.{Refusal};
 ghost use Rattle.ffv1.specs.declared.refusal.Refusal.TheVariants as refusal;
 ghost use Rattle.ffv1_engine.specs.declared.fault.Fault.TheVariants as fault;
 
+use crate::met::Met;
 use crate::refusal::Refusal;
 use crate::tell;
+use crate::told::{Paths, advise};
 use ffv1_engine::Fault;
 use std::io;
 
@@ -63,21 +65,27 @@ fn is_unprinted(done: Result<(), Refusal>) -> bool
     done == Err(Refusal::Fault(Fault::Write))
 }
 
-/// Says on standard error why a file is refused, in one line with its path.
-fn tell_named(rt: &impl Eprint, path: &str, done: Result<(), Refusal>) -> io::Result<()>
+/// Says on standard error why a file is refused, in a line with its path, and what to do.
+fn tell_named(rt: &impl Eprint, met: &Met, path: &str, done: Result<(), Refusal>) -> io::Result<()>
     ensures { OnErr result ((r : Refusal) × (done ≡ Err r)) }
 {
     if let Err(refusal) = done {
         eprintln!(rt; "ffv1: {path}: {refusal}")?;
+        advise(rt, met, Paths::looked(path), refusal)?;
     }
     Ok(())
 }
 
 /// Looks at each of several files, in order and after a line of its path, until a line cannot be
-/// printed; a refusal is one line on standard error, with the path. Answers the exit status: 1
+/// printed; a refusal is told on standard error, with the path. Answers the exit status: 1
 /// if any was refused, and else 0. If standard error cannot be written, no further file is
 /// looked at.
-fn look_each<L: Looks>(rt: &impl Eprint, looker: &mut L, paths: &[&str]) -> io::Result<u8>
+fn look_each<L: Looks>(
+    rt: &impl Eprint,
+    met: &Met,
+    looker: &mut L,
+    paths: &[&str],
+) -> io::Result<u8>
     ensures small { IfOk result (λ status. status ≤ 1) }
     ensures ok { IfOk result (λ status. (outcomes : List Outcome)
         × LooksAtEach (LooksNamed L.names L.looks) looker.old (paths_of paths.entry.now) outcomes
@@ -89,7 +97,7 @@ fn look_each<L: Looks>(rt: &impl Eprint, looker: &mut L, paths: &[&str]) -> io::
     let mut status = 0;
     for path in paths {
         let done = look_named(looker, path);
-        tell_named(rt, path, done)?;
+        tell_named(rt, met, path, done)?;
         status = status_after(status, done);
         if is_unprinted(done) {
             break;
@@ -99,7 +107,12 @@ fn look_each<L: Looks>(rt: &impl Eprint, looker: &mut L, paths: &[&str]) -> io::
 }
 
 /// Looks at one file, with no line of its path, or at each of several. Answers the exit status.
-pub fn look_all<L: Looks>(rt: &impl Eprint, looker: &mut L, paths: &[&str]) -> io::Result<u8>
+pub fn look_all<L: Looks>(
+    rt: &impl Eprint,
+    met: &Met,
+    looker: &mut L,
+    paths: &[&str],
+) -> io::Result<u8>
     ensures small { IfOk result (λ status. status ≤ 1) }
     ensures one { (path : List ℕ) → paths_of paths.entry.now ≡ path ∷ [] →
         (outcome : Outcome) × L.looks looker.old path outcome looker.new
@@ -112,7 +125,8 @@ pub fn look_all<L: Looks>(rt: &impl Eprint, looker: &mut L, paths: &[&str]) -> i
         looker.new) }
 {
     if paths.len() == 1 {
-        return tell(rt, looker.look(paths[0]));
+        let done = looker.look(paths[0]);
+        return tell(rt, met, Paths::looked(paths[0]), done);
     }
-    look_each(rt, looker, paths)
+    look_each(rt, met, looker, paths)
 }

@@ -23,7 +23,7 @@ use Rattle.ffv1_avi.specs.declared.place.Names.{Names}
 abbrev last : {file : List ℕ} {head : Head} {frames : List (List ℕ)} → RiffFile file head frames → Place
 last is = in_riff (most_input - length (riffs_text is.riffs)) (names_in is) 0 (total is.extended - length (frames_to is is.riffs))
 
--- where what is after the last RIFF is refused, all frames are given before
+-- if what is after the last RIFF is refused, all frames are given before
 refused_after : (file : List ℕ) (head : Head) (frames : List (List ℕ)) (is : RiffFile file head frames) (rest : List ℕ) (why : Stop) → riff_begun (last is) rest ≡ Err why → GivesThen (file ++ rest) head frames why
 refused_after file head frames is rest why h =
     let whole : first_riff is ++ (riffs_text is.riffs ++ rest) ≡ file ++ rest = sym (append_assoc (first_riff is) (riffs_text is.riffs) rest) ∙ ap (λ z. z ++ rest) (sym (file_parts is)) in

@@ -23,10 +23,9 @@ use Rattle.ffv1_avi.specs.Offsets.{chunk_taken, frame_taken, movi_left, movi_tak
 use Rattle.ffv1_avi.specs.Internal.Offsets.{FrameBegins}
 use Rattle.ffv1_avi.specs.Padding.{content, padded}
 use Rattle.ffv1_avi.specs.Places.{frame_at}
-use Rattle.ffv1_reads.specs.Head.{limit}
 use Rattle.ffv1_avi.specs.Walk.{entry_in, entry_judged, is_name}
 use Rattle.ffv1_avi.specs.declared.place.Names.{Names}
-use Rattle.ffv1_avi.specs.Names.{bars, is_barred}
+use Rattle.ffv1_avi.specs.Names.{bars, is_barred, most_bytes}
 use Rattle.ffv1_avi.specs.Names.{is_frame}
 
 -- a header
@@ -75,8 +74,8 @@ visit_takes : (names : Names) (e : Entry) → Takes (Same e) (padded e.size) (vi
 unfolding visit_movi
 visit_takes names e =
     takes_if (is_barred names e.name) (refused fault.NotAvi) _ (λ _. takes_refused fault.NotAvi)
-    (λ _. takes_if (is_frame names e.name) (frame_judged e.size e.left) _
-    (λ _. takes_if (nat_lt limit e.size) (refused fault.ChunkTooLong) _ (λ _. takes_refused fault.ChunkTooLong)
+    (λ _. takes_if (is_frame names e.name) (frame_judged (most_bytes names) e.size e.left) _
+    (λ _. takes_if (nat_lt (most_bytes names) e.size) (refused fault.ChunkTooLong) _ (λ _. takes_refused fault.ChunkTooLong)
     (λ _. takes_if (e.size == 0) (refused fault.EmptyFrame) _ (λ _. takes_refused fault.EmptyFrame) (λ _. takes_given _ refl refl)))
     (λ _. skipped_takes e))
 

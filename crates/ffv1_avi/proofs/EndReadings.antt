@@ -30,7 +30,7 @@ pub halts_then : {X Y : Type 0} (extent : Extent) (r : Reading (Option Y)) (k : 
 halts_then FirstMovi r k old new stays stops = absurd stops
 halts_then EveryRiff r k old new stays stops = record { bytes = stops.bytes; consumed = stops.consumed; is = ap (λ z. read_on z k) stops.is ∙ stays [] }
 
--- a refusal, where there is more
+-- a refusal, if there is more
 pub refused_none : {X : Type 0} (extent : Extent) (reading : Reading (Option X)) (old new : Option (List ℕ)) (before after : ℕ) (f : FileFault) → Refused reading old new before after f → RefusedOrNone extent reading old new before after f
 refused_none extent reading old new before after fault.Read why = (why.0, inl why.1)
 refused_none extent reading old new before after f why = why

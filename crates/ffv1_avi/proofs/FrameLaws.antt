@@ -12,7 +12,6 @@ use Rattle.ffv1_avi.specs.Files.{found_or_on, found_read, frame_found, frame_rea
 use Rattle.ffv1_avi.specs.Places.{extent_of, first_place, frame_at}
 use Rattle.ffv1_reads.specs.Reads.{Kept, Reading, Stop, given, passed, read_on, ◌>>=◌}
 use Rattle.ffv1_avi.specs.Padding.{content, padded}
-use Rattle.ffv1_reads.specs.Head.{limit}
 use Rattle.ffv1_avi.specs.Walk.{entry_in, is_name, resumed, visited, walk_in}
 use Rattle.ffv1_avi.proofs.ListWalks.{Complete, Ended, IsPassed, Run, Sound, Stands, Taking, entry_complete_in, walk_complete_in, walk_sound_in}
 use Rattle.ffv1_avi.proofs.Fields.{skipped_passed}
@@ -23,7 +22,8 @@ use Rattle.ffv1_avi.proofs.Moves.{frame_step, moved_first, movi_empty}
 use Rattle.ffv1_reads.proofs.Results.{ok_is, some_is}
 use Rattle.ffv1_avi.proofs.ChunkByChunk.{walk_step_in}
 use Rattle.ffv1_avi.specs.declared.place.Names.{Names}
-use Rattle.ffv1_avi.specs.Names.{bars, is_barred}
+use Rattle.ffv1_reads.specs.Head.{limit}
+use Rattle.ffv1_avi.specs.Names.{bars, is_barred, most_bytes}
 use Rattle.ffv1_avi.specs.Names.{is_frame}
 use Rattle.ffv1_avi.specs.Chunks.{barred_in}
 use Rattle.ffv1_avi.specs.Chunks.{frame_in}
@@ -41,9 +41,9 @@ no_some x e = absurd (cc)
 
 movi_sound : (names : Names) → Sound (visit_movi names) (TakesMovi names)
 unfolding visit_movi
-movi_sound names s e text t rest listed h = on_names (is_barred names e.name) (is_frame names e.name) (nat_lt limit e.size) (e.size == 0) refl refl refl refl h
+movi_sound names s e text t rest listed h = on_names (is_barred names e.name) (is_frame names e.name) (nat_lt (most_bytes names) e.size) (e.size == 0) refl refl refl refl h
   where
-    on_names : (a b c d : Bool) → is_barred names e.name ≡ a → is_frame names e.name ≡ b → nat_lt limit e.size ≡ c → (e.size == 0) ≡ d → visit_movi names s e text ≡ Ok ((t, None), rest) → IsPassed (TakesMovi names) s e t text rest
+    on_names : (a b c d : Bool) → is_barred names e.name ≡ a → is_frame names e.name ≡ b → nat_lt (most_bytes names) e.size ≡ c → (e.size == 0) ≡ d → visit_movi names s e text ≡ Ok ((t, None), rest) → IsPassed (TakesMovi names) s e t text rest
     on_names true b c d p q r z h = absurd (cc (rw p at h))
     on_names false true true d p q r z h = absurd (cc (rw (p, q, r) at h))
     on_names false true false true p q r z h = absurd (cc (rw (p, q, r, z) at h))
@@ -68,11 +68,11 @@ stands_in (Closed stream streams) name h = on_list (is_name name (codes "LIST"))
 pub movi_stands : (names : Names) → Stands (bars names) (TakesMovi names)
 movi_stands names s name bytes t takes = stands_in names name takes.0
 
--- where the walk of movi stops there is a frame
+-- if the walk of movi stops there is a frame
 pub record IsFrame (names : Names) (e : Entry) (text : List ℕ) (y : ℕ × ℕ) (rest : List ℕ) : Type 0 where
   pub none_barred : is_barred names e.name ≡ false
   pub named : is_frame names e.name ≡ true
-  pub short : e.size ≤ limit
+  pub short : e.size ≤ most_bytes names
   pub some : 0 < e.size
   pub size : y.0 ≡ e.size
   pub left : y.1 ≡ e.left
@@ -80,9 +80,9 @@ pub record IsFrame (names : Names) (e : Entry) (text : List ℕ) (y : ℕ × ℕ
 
 movi_stop : (names : Names) (s : Unit {0}) (e : Entry) (text : List ℕ) (t : Unit {0}) (y : ℕ × ℕ) (rest : List ℕ) → visit_movi names s e text ≡ Ok ((t, Some y), rest) → IsFrame names e text y rest
 unfolding visit_movi
-movi_stop names s e text t y rest h = on_names (is_barred names e.name) (is_frame names e.name) (nat_lt limit e.size) (e.size == 0) refl refl refl refl h
+movi_stop names s e text t y rest h = on_names (is_barred names e.name) (is_frame names e.name) (nat_lt (most_bytes names) e.size) (e.size == 0) refl refl refl refl h
   where
-    on_names : (a b c d : Bool) → is_barred names e.name ≡ a → is_frame names e.name ≡ b → nat_lt limit e.size ≡ c → (e.size == 0) ≡ d → visit_movi names s e text ≡ Ok ((t, Some y), rest) → IsFrame names e text y rest
+    on_names : (a b c d : Bool) → is_barred names e.name ≡ a → is_frame names e.name ≡ b → nat_lt (most_bytes names) e.size ≡ c → (e.size == 0) ≡ d → visit_movi names s e text ≡ Ok ((t, Some y), rest) → IsFrame names e text y rest
     on_names true b c d p q r z h = absurd (cc (rw p at h))
     on_names false true true d p q r z h = absurd (cc (rw (p, q, r) at h))
     on_names false true false true p q r z h = absurd (cc (rw (p, q, r, z) at h))
@@ -116,7 +116,7 @@ pub record IsNext (names : Names) (left : ℕ) (text bytes : List ℕ) (after : 
   pub run : Run (TakesMovi names) tt chunks tt
   pub none_barred : barred_in names frame ≡ false
   pub named : frame_in names frame ≡ true
-  pub short : length bytes ≤ limit
+  pub short : length bytes ≤ most_bytes names
   pub some : 0 < length bytes
 
 abbrev pub movi_frame : Option (ℕ × ℕ) → Reading (Option (List ℕ × ℕ))
@@ -191,7 +191,7 @@ none_framed names cs each run =
     let none = no_frames names cs run in
     record { each = each; none_barred = none.0; those_of = ap (map (λ (c : Chunk). c.bytes)) none.1; sized = tt }
 
-frames_more : (names : Names) (before behind : List Chunk) (c : Chunk) (frames : List (List ℕ)) → AreChunks before → Run (TakesMovi names) tt before tt → IsChunk c → barred_in names c ≡ false → frame_in names c ≡ true → length c.bytes ≤ limit → 0 < length c.bytes →
+frames_more : (names : Names) (before behind : List Chunk) (c : Chunk) (frames : List (List ℕ)) → AreChunks before → Run (TakesMovi names) tt before tt → IsChunk c → barred_in names c ≡ false → frame_in names c ≡ true → length c.bytes ≤ most_bytes names → 0 < length c.bytes →
     AreFrames names behind frames → AreFrames names (before ++ c ∷ behind) (c.bytes ∷ frames)
 frames_more names before behind c frames each run is list named short some more =
     let none = no_frames names before run in
@@ -208,11 +208,11 @@ frames_on (Some p) = frames_read p
 abbrev pub frames_after : Place → Reading (List (List ℕ))
 frames_after place = moved place >>= frames_on
 
--- a position where movi has so many bytes left, and so many frames are owed
+-- a position at which movi has so many bytes left, and so many frames are owed
 abbrev pub placed : Place → ℕ → ℕ → Place
 placed place movi owed = record { input = place.input; riff = place.riff; movi = movi; names = place.names; owed = owed }
 
--- what is after a movi does not hang on its bytes
+-- what is after a movi does not depend on its bytes
 begun_same : (place : Place) (movi : ℕ) (text : List ℕ) → riff_begun place text ≡ riff_begun (placed place movi place.owed) text
 unfolding riff_begun
 begun_same place movi text = on_name (name_or_end place.owed text)
@@ -295,7 +295,7 @@ part_more place text bytes left more frames rest next part =
     let apart : chunks_text chunks ≡ chunks_text next.chunks ++ (chunk_text c ++ chunks_text part.chunks) = flat_map-append chunk_text next.chunks (c ∷ part.chunks) in
     let whole : text ≡ chunks_text chunks ++ part.more = next.text_is ∙ ap (λ z. chunks_text next.chunks ++ (chunk_text c ++ z)) part.text_is ∙ regrouped (chunks_text next.chunks) (chunk_text c) (chunks_text part.chunks) part.more ∙ ap (λ z. z ++ part.more) (sym apart) in
     let long : length (chunks_text chunks) ≡ place.movi = ap length apart ∙ length-append (chunks_text next.chunks) (chunk_text c ++ chunks_text part.chunks) ∙ (omega (arith, next.long, part.long, length-append (chunk_text c) (chunks_text part.chunks))) in
-    let short : length c.bytes ≤ limit = rw next.bytes_are next.short in
+    let short : length c.bytes ≤ most_bytes place.names = rw next.bytes_are next.short in
     let some : 0 < length c.bytes = rw next.bytes_are next.some in
     let framed = frames_more place.names next.chunks part.chunks c part.here next.each next.run next.is next.none_barred next.named short some part.framed in
     let Q : List ℕ → Type 0 = λ b. AreFrames place.names chunks (b ∷ part.here) in
@@ -363,7 +363,7 @@ movi_passed names c more rest is list named =
     ap (λ z. read_on z (λ p. given p.1)) alone
 
 -- a frame is read
-pub movi_there : (names : Names) (c : Chunk) (more : ℕ) (rest : List ℕ) → IsChunk c → barred_in names c ≡ false → frame_in names c ≡ true → length c.bytes ≤ limit → 0 < length c.bytes → movi_read names (length (chunk_text c) + more) (chunk_text c ++ rest) ≡ Ok (Some (c.bytes, more), rest)
+pub movi_there : (names : Names) (c : Chunk) (more : ℕ) (rest : List ℕ) → IsChunk c → barred_in names c ≡ false → frame_in names c ≡ true → length c.bytes ≤ most_bytes names → 0 < length c.bytes → movi_read names (length (chunk_text c) + more) (chunk_text c ++ rest) ≡ Ok (Some (c.bytes, more), rest)
 unfolding movi_found visit_movi
 movi_there names c more rest is list named short some =
     let left = length (chunk_text c) + more in
@@ -375,7 +375,7 @@ movi_there names c more rest is list named short some =
     let whole : chunk_text c ++ rest ≡ (c.name ++ c.size) ++ ((c.bytes ++ c.padding) ++ rest) = regrouped c.name c.size c.bytes c.padding rest in
     let entry : entry_in (bars names) left (chunk_text c ++ rest) ≡ Ok (Some e, (c.bytes ++ c.padding) ++ rest) =
     ap (entry_in (bars names) left) whole ∙ entry_complete_in (bars names) left c.name c.size ((c.bytes ++ c.padding) ++ rest) (stands_in names c.name list) is.named is.sized (rw (← counted) (omega (arith, total))) (λ l. rw is.counted (is.listed l)) in
-    let fits : nat_lt limit size ≡ false = le-ltb _ _ (rw is.counted short) in
+    let fits : nat_lt (most_bytes names) size ≡ false = le-ltb _ _ (rw is.counted short) in
     let not_none : (size == 0) ≡ false = ne_eqb _ _ (λ z. omega (arith, some, is.counted, z)) in
     let stop : visit_movi names tt e ((c.bytes ++ c.padding) ++ rest) ≡ Ok ((tt, Some (size, e.left)), (c.bytes ++ c.padding) ++ rest) = rw (list, named, fits, not_none) refl in
     let read : content Kept size ((c.bytes ++ c.padding) ++ rest) ≡ Ok (c.bytes, rest) = content_complete Kept size c.bytes c.padding rest counted (rw is.counted is.padded) in
@@ -388,7 +388,7 @@ movi_there names c more rest is list named short some =
     regrouped : (a b c d e : List ℕ) → (((a ++ b) ++ c) ++ d) ++ e ≡ (a ++ b) ++ ((c ++ d) ++ e)
     regrouped a b c d e = simp append_assoc
 
--- at a position whose movi begins with such a chunk
+-- at a position whose movi begins with a chunk that is no frame
 pub frames_passed : (place : Place) (c : Chunk) (more : ℕ) (rest : List ℕ) → IsChunk c → barred_in place.names c ≡ false → frame_in place.names c ≡ false →
     frame_found (placed place (length (chunk_text c) + more) place.owed) (chunk_text c ++ rest) ≡ frame_found (placed place more place.owed) rest
 frames_passed place c more rest is list named =
@@ -402,7 +402,7 @@ abbrev pub bytes_of : List Chunk → List (List ℕ)
 bytes_of cs = map (λ (c : Chunk). c.bytes) cs
 
 -- the frames of chunks are read, and then those after them
-pub movi_frames : (place : Place) (cs : List Chunk) (owed : ℕ) (rest : List ℕ) → AreChunks cs → those (barred_in place.names) cs ≡ [] → AreSized (bytes_of (those (frame_in place.names) cs)) →
+pub movi_frames : (place : Place) (cs : List Chunk) (owed : ℕ) (rest : List ℕ) → AreChunks cs → those (barred_in place.names) cs ≡ [] → AreSized (most_bytes place.names) (bytes_of (those (frame_in place.names) cs)) →
     frames_read (placed place (length (chunks_text cs)) owed) (chunks_text cs ++ rest)
     ≡ read_on (frames_after (placed place 0 (owed - length (bytes_of (those (frame_in place.names) cs)))) rest) (λ frames. given (bytes_of (those (frame_in place.names) cs) ++ frames))
 movi_frames place [] owed rest each none_barred sized =
@@ -429,7 +429,7 @@ movi_frames place (c ∷ cs) owed rest each none_barred sized =
     Later o xs = read_on (frames_after (placed place 0 (o - length (these xs))) rest) (λ frames. given (these xs ++ frames))
 
     Again : Type 0
-    Again = (o : ℕ) → those (barred_in place.names) cs ≡ [] → AreSized (these cs) → frames_read (placed place more o) behind ≡ Later o cs
+    Again = (o : ℕ) → those (barred_in place.names) cs ≡ [] → AreSized (most_bytes place.names) (these cs) → frames_read (placed place more o) behind ≡ Later o cs
 
     whole : frames_read (placed place (length (chunks_text (c ∷ cs))) owed) (chunks_text (c ∷ cs) ++ rest) ≡ frames_read (placed place (length (chunk_text c) + more) owed) (chunk_text c ++ behind)
     whole = ap (λ n. frames_read (placed place n owed) (chunks_text (c ∷ cs) ++ rest)) (length-append (chunk_text c) (chunks_text cs)) ∙ ap (frames_read (placed place (length (chunk_text c) + more) owed)) (append_assoc (chunk_text c) (chunks_text cs) rest)
@@ -462,7 +462,7 @@ movi_frames place (c ∷ cs) owed rest each none_barred sized =
         ∙ one_more (frames_after (placed place 0 (owed - 1 - length (these cs))) rest)
         ∙ ap (λ n. read_on (frames_after (placed place 0 n) rest) (λ frames. given (c.bytes ∷ (these cs ++ frames)))) owes)
 
--- where the first movi alone is read
+-- if the first movi alone is read
 abbrev pub in_movi : ℕ → Place
 in_movi left = first_place FirstMovi 0 left Any 0
 
@@ -484,7 +484,7 @@ frames_sound left text w h =
 
 pub frames_complete : (chunks : List Chunk) (frames : List (List ℕ)) (rest : List ℕ) → AreFrames Any chunks frames → frames_read (in_movi (length (chunks_text chunks))) (chunks_text chunks ++ rest) ≡ Ok (frames, rest)
 frames_complete chunks frames rest are =
-    let P : List (List ℕ) → Type 0 = λ z. AreSized z in
+    let P : List (List ℕ) → Type 0 = λ z. AreSized limit z in
     let here = bytes_of (those (frame_in Any) chunks) in
     let end : (frames_after (placed (in_movi 0) 0 (0 - length here))) rest ≡ Ok ([], rest) = ap (λ z. read_on z frames_on) (moved_first (placed (in_movi 0) 0 (0 - length here)) refl rest) in
     movi_frames (in_movi 0) chunks 0 rest are.each are.none_barred (subst P (sym are.those_of) are.sized)

@@ -28,7 +28,8 @@ read_less place text p rest h =
         let made : List ℕ × Place = (second.0.0, y.1) in
         let same : made ≡ p = some_is made p (ap (λ (z : Option (List ℕ × Place) × List ℕ). z.0) (ok_is (Some made, second.0.1) (Some p, rest) second.2)) in
         let P : List ℕ × Place → Type 0 = λ z. (amount z.1 < amount place) × (extent_of z.1 ≡ extent_of place) in
-        subst P same (frame_less_at place y.1 y.0 text more is)
+        let less = frame_less_at place y.1 y.0 text more is in
+        subst P same (less.0, less.1)
 
 frames_none : (most : ℕ) (place : Place) (text : List ℕ) → amount place ≡ 0 → frames_up_to most place text ≡ Ok ([], text)
 unfolding frames_up_to

@@ -1,6 +1,7 @@
 -- The frames of a file of every RIFF are given one by one, before what is after its last RIFF is refused.
 use Rattle.std.proofs.Common.{◌≡◌, ℕ, ◌+◌, ◌-◌, ◌<◌, Bool, true, false, Err, List, [], ◌∷◌, ◌++◌, length, codes, ap, ◌∙◌, sym, subst, arith, refl, append_assoc, append-nil, length-append}
 use Rattle.byteorder.specs.Endian.{little_number}
+use Rattle.ffv1_avi.specs.Names.{most_bytes}
 use Rattle.ffv1_avi.specs.declared.place.Extent.TheVariants.{EveryRiff}
 use Rattle.ffv1_avi.specs.declared.place.Place.{Place}
 use Rattle.ffv1_avi.specs.Chunks.{AreSized, Chunk, IsChunk, chunk_text, chunks_text, is_list}
@@ -24,7 +25,7 @@ use Rattle.ffv1_avi.specs.declared.place.Names.{Names}
 use Rattle.ffv1_avi.specs.Chunks.{barred_in}
 use Rattle.ffv1_avi.specs.Chunks.{frame_in}
 
--- the frames are those of another place where the next one is
+-- the frames are those of another place if the next one is
 pub then_same : (p q : Place) (text more : List ℕ) (frames : List (List ℕ)) (why : Stop) → frame_read p text ≡ frame_read q more → FramesThen q more frames why → FramesThen p text frames why
 then_same p q text more [] why same h = same ∙ h
 then_same p q text more (f ∷ fs) why same h = (h.0, h.1, same ∙ h.2, h.3)
@@ -79,7 +80,7 @@ movi_then input names riff owed (c ∷ cs) rest frames why framed h =
         subst Q (sym none) (counted (fs ++ frames) (then_same here (placed place more owed) (chunk_text c ++ behind) behind (fs ++ frames) why (ap (λ z. read_on z found_read) (frames_passed here c more behind framed.each.0 p q)) later))
     on_names false true p q k again =
         let one : frames_in names (c ∷ cs) ≡ c.bytes ∷ fs = rw q refl in
-        let sizes : AreSized (c.bytes ∷ []) = rw q at apart.0.sized in
+        let sizes : AreSized (most_bytes names) (c.bytes ∷ []) = rw q at apart.0.sized in
         let P : List (List ℕ) → Type 0 = λ z. FramesThen (in_riff input names riff (owed - length z)) rest frames why in
         let owes : owed - length (c.bytes ∷ fs) ≡ owed - 1 - length fs = omega arith in
         let R : ℕ → Type 0 = λ n. FramesThen (in_riff input names riff n) rest frames why in

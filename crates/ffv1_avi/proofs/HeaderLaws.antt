@@ -333,7 +333,7 @@ run_streams extent (c ∷ cs) s t head none some run =
     on_list true false true p q r m takes run again = passing m (on_extended extent m (rw (p, q, r) at takes)) (rw (p, q) refl) run again
     on_list true false false p q r m takes run again = passing m (same m (rw (p, q, r) at takes)) (rw (p, q) refl) run again
 
--- where the first movi alone is read, chunks without a stream make nothing known
+-- if the first movi alone is read, chunks without a stream make nothing known
 pub run_none : (cs : List Chunk) (s : Headers) → those (is_list (codes "strl")) cs ≡ [] → Run (TakesHeader FirstMovi) s cs s
 run_none [] s none = refl
 run_none (c ∷ cs) s none = on_list (is_name c.name (codes "LIST")) (is_name (take 4 c.bytes) (codes "strl")) (is_name (take 4 c.bytes) (codes "odml")) refl refl refl (λ h. run_none cs s h)
@@ -344,7 +344,7 @@ run_none (c ∷ cs) s none = on_list (is_name c.name (codes "LIST")) (is_name (t
     on_list true false false p q r go = (s, rw (p, q, r) refl, go (rw (p, q) at none))
     on_list true true d p q r go = let gone : c ∷ those (is_list (codes "strl")) cs ≡ [] = rw (p, q) at none in absurd (cc)
 
--- where the first movi alone is read streams are not counted
+-- if the first movi alone is read, streams are not counted
 first_came : (s : Headers) → s ≡ stream_came FirstMovi s
 first_came s = refl
 

@@ -1,4 +1,4 @@
--- What is known after chunks of hdrl, where every RIFF is read.
+-- What is known after chunks of hdrl, if every RIFF is read.
 use Rattle.std.proofs.Common.{◌≡◌, ◌⊎◌, inl, inr, ℕ, ◌+◌, ◌<◌, nat_lt, Bool, true, false, Option, Some, None, List, [], ◌∷◌, ◌++◌, length, take, codes, ap, ◌∙◌, sym, subst, arith, refl}
 use Rattle.std.proofs.lemmas.Bool.{lt-ltb}
 use Rattle.ffv1_avi.specs.declared.place.Extent.TheVariants.{EveryRiff}

@@ -2,6 +2,7 @@
 use Rattle.std.proofs.Common.{◌≡◌, ℕ, suc, zero, ◌+◌, ◌-◌, ◌≤◌, ◌<◌, nat_le, nat_lt, true, false, Option, Some, None, Result, Ok, Err, List, [], ◌∷◌, ◌++◌, length, drop, codes, map, ap, ◌∙◌, sym, subst, arith, refl, append_assoc, append-nil, length-append}
 use Rattle.std.proofs.lemmas.Bool.{le-leb, lt-ltb}
 use Rattle.byteorder.specs.Endian.{little_number}
+use Rattle.ffv1_avi.specs.Names.{most_bytes}
 use Rattle.ffv1_avi.specs.declared.chunk.Entry.{Entry}
 use Rattle.ffv1_avi.specs.declared.place.Place.{Place}
 use Rattle.ffv1_avi.specs.Chunks.{AreChunks, AreFrames, AreSized, Chunk, IsChunk, chunk_text, chunks_text, is_list, those}
@@ -53,9 +54,9 @@ chunks_apart : (xs ys : List Chunk) → AreChunks (xs ++ ys) → AreChunks xs ×
 chunks_apart [] ys h = (tt, h)
 chunks_apart (x ∷ xs) ys h = let more = chunks_apart xs ys h.1 in ((h.0, more.0), more.1)
 
-sized_apart : (fs gs : List (List ℕ)) → AreSized (fs ++ gs) → AreSized fs × AreSized gs
-sized_apart [] gs h = (tt, h)
-sized_apart (f ∷ fs) gs h = let more = sized_apart fs gs h.2 in ((h.0, h.1, more.0), more.1)
+sized_apart : (most : ℕ) (fs gs : List (List ℕ)) → AreSized most (fs ++ gs) → AreSized most fs × AreSized most gs
+sized_apart most [] gs h = (tt, h)
+sized_apart most (f ∷ fs) gs h = let more = sized_apart most fs gs h.2 in ((h.0, h.1, more.0), more.1)
 
 none_apart : (xs ys : List Chunk) → xs ++ ys ≡ [] → (xs ≡ []) × (ys ≡ [])
 none_apart [] ys h = (refl, h)
@@ -68,7 +69,7 @@ pub framed_apart : (names : Names) (xs ys : List Chunk) → Framed names (xs ++ 
 framed_apart names xs ys h =
     let each = chunks_apart xs ys h.each in
     let lists = none_apart (those (barred_in names) xs) (those (barred_in names) ys) (sym (those_both (barred_in names) xs ys) ∙ h.none_barred) in
-    let sized = sized_apart (frames_in names xs) (frames_in names ys) (subst AreSized (frames_both names xs ys) h.sized) in
+    let sized = sized_apart (most_bytes names) (frames_in names xs) (frames_in names ys) (subst (AreSized (most_bytes names)) (frames_both names xs ys) h.sized) in
     (record { each = each.0; none_barred = lists.0; those_of = refl; sized = sized.0 }, record { each = each.1; none_barred = lists.1; those_of = refl; sized = sized.1 })
 
 -- a chunk of RIFF that is no movi and no frame is passed
@@ -95,7 +96,7 @@ sought_movi names left size rest sized named fits =
     ∙ ap (λ z. read_on (read_on z (visited (visit_riff names) (walk (visit_riff names)) tt)) (λ p. given p.1)) entry
     ∙ ap (λ z. read_on (read_on (read_on z (riff_list e.left e.size)) (λ p. resumed (walk (visit_riff names) e.left) p.0 p.1)) (λ p. given p.1)) own
 
--- what is after RIFF does not hang on its bytes
+-- what is after RIFF does not depend on its bytes
 begun_same : (input : ℕ) (names : Names) (riff other owed : ℕ) (text : List ℕ) → riff_begun (in_riff input names riff owed) text ≡ riff_begun (in_riff input names other owed) text
 unfolding riff_begun
 begun_same input names riff other owed text = on_name (name_or_end owed text)
@@ -207,7 +208,7 @@ sections_read input names more owed (s ∷ ss) rest some are framed = on_section
 abbrev pub frames_behind : Place → Reading (List (List ℕ))
 frames_behind place = riff_begun place >>= frames_on
 
--- where RIFF has no bytes left
+-- if RIFF has no bytes left
 pub after_end : (input : ℕ) (names : Names) (owed : ℕ) (text : List ℕ) → (input ≡ 0 → ⊥) → frames_after (in_riff input names 0 owed) text ≡ frames_behind (in_riff input names 0 owed) text
 unfolding movi_sought walk_up_to
 after_end input names owed text some = after_is input names 0 owed text some
@@ -300,7 +301,7 @@ riffs_read (r ∷ rs) input names owed rest are fits framed =
     ∙ ap (λ n. preceded (fs ++ gs) (frames_behind (in_riff n names 0 (owed - length (fs ++ gs))) rest)) left
     ∙ ap (λ z. preceded z (frames_behind (in_riff (input - length (riffs_text (r ∷ rs))) names 0 (owed - length z)) rest)) both
 
--- the input may end where no frame is owed
+-- the input may end if no frame is owed
 pub behind_end : (input : ℕ) (names : Names) (owed : ℕ) → owed ≡ 0 → frames_behind (in_riff input names 0 owed) [] ≡ Ok ([], [])
 unfolding riff_begun name_or_end
 behind_end input names owed none = ap (λ n. frames_behind (in_riff input names 0 n) []) none

@@ -97,7 +97,7 @@ listed_named stream streams name few long h = on_frame (is_stream_frame stream n
     on_frame false true p q = on_four (four (is_name name (palette_name stream)) (is_of_other stream streams name) (is_index name) (is_name name (codes "JUNK")) q)
     on_frame false false p q = absurd (cc (rw (p, q) at h))
 
--- a chunk whose name movi bars is refused behind its header, whatever size it says
+-- a chunk whose name movi bars is refused after its header, whatever size it says
 pub unsized_refused : (place : Place) (name size rest : List ℕ) → length name ≡ 4 → length size ≡ 4 → 8 ≤ place.movi → bars place.names name ≡ true →
     frame_read place ((name ++ size) ++ rest) ≡ Err (Met fault.NotAvi rest)
 unfolding movi_found
@@ -109,7 +109,7 @@ unsized_refused place name size rest named sized enough bar =
     ∙ ap (λ z. read_on (read_on (read_on z (λ p. given p.1)) (found_or_on frame_found place)) found_read) (walk_step_in (bars place.names) visit place.movi tt text)
     ∙ ap (λ z. read_on (read_on (read_on (read_on z (visited visit (walk_in barred visit) tt)) (λ p. given p.1)) (found_or_on frame_found place)) found_read) (entry_barred barred place.movi name size rest bar named sized enough)
 
--- a chunk that may not stand in movi is refused behind its header
+-- a chunk that may not stand in movi is refused after its header
 pub barred_refused : (place : Place) (name size rest : List ℕ) → length name ≡ 4 → length size ≡ 4 → 8 + padded (little_number 4 size) ≤ place.movi → (is_name name (codes "LIST") ≡ true → 4 ≤ little_number 4 size) → is_barred place.names name ≡ true →
     frame_read place ((name ++ size) ++ rest) ≡ Err (Met fault.NotAvi rest)
 unfolding movi_found visit_movi

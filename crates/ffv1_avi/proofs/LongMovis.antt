@@ -56,7 +56,7 @@ movi_long_at place chunks left name size rest room each lists frames passes stan
     ap (λ z. read_on z found_read) (frame_step place (chunks_text chunks ++ text))
     ∙ ap (λ z. read_on (read_on z (found_or_on frame_found place)) found_read) found
 
--- where movi has no bytes left
+-- if movi has no bytes left
 pub found_moved : (place : Place) (text : List ℕ) → place.movi ≡ 0 → extent_of place ≡ EveryRiff → frame_found place text ≡ read_on (read_on (movi_sought place.names place.riff text) (movi_or_riff place)) (sought_on frame_found)
 unfolding moved
 found_moved place text none every =
@@ -83,7 +83,7 @@ pub after_long_at : (place : Place) (chunks : List Chunk) (left : ℕ) (name siz
     frame_read place (chunks_text chunks ++ ((name ++ size) ++ rest)) ≡ Err (Met fault.Truncated rest)
 after_long_at place chunks left name size rest every none room each movis frames passes = ap (λ z. read_on z found_read) (found_long place chunks left name size rest none every room each movis frames passes)
 
--- the next RIFF is sought by three of a position's numbers
+-- the next RIFF is looked for by three of a position's numbers
 begun_in : (place : Place) (text : List ℕ) → riff_begun place text ≡ riff_begun (in_riff place.input place.names 0 place.owed) text
 unfolding riff_begun
 begun_in place text = on_name (name_or_end place.owed text)

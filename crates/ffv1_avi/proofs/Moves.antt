@@ -1,4 +1,4 @@
--- Where frames are sought after a movi.
+-- Where frames are looked for after a movi.
 use Rattle.std.proofs.Common.{◌≡◌, ℕ, suc, zero, ◌+◌, ◌-◌, ◌≤◌, ◌<◌, ◌==◌, nat_le, nat_lt, Bool, true, false, Option, Some, None, Result, Ok, Err, List, codes, drop, ap, ◌∙◌, sym, subst, arith, refl}
 use Rattle.std.proofs.lemmas.Bool.{eqb-false, eqb-true, leb-true, ltb-true, ne_eqb}
 use Rattle.byteorder.specs.Endian.{little_number}
@@ -9,13 +9,12 @@ use Rattle.ffv1_avi.specs.Files.{found_read, frame_found, frame_found_up_to, fra
 use Rattle.ffv1_avi.specs.Places.{amount, extent_of, frame_at, movi_at, riff_at}
 use Rattle.ffv1_reads.specs.Reads.{Stop, given, passed, read_on, taken, ◌>>=◌}
 use Rattle.ffv1_avi.specs.Padding.{padded}
-use Rattle.ffv1_reads.specs.Head.{limit}
 use Rattle.ffv1_avi.specs.Walk.{Visit, bars_none, entry_in, is_name, resumed, visited, walk_in, walk_up_to}
 use Rattle.ffv1_avi.proofs.ListWalks.{entry_sound}
 use Rattle.ffv1_reads.proofs.Results.{read_on_ok}
 use Rattle.ffv1_reads.proofs.Results.{ok_is, some_is}
 use Rattle.ffv1_avi.specs.declared.place.Names.{Names}
-use Rattle.ffv1_avi.specs.Names.{bars, is_barred}
+use Rattle.ffv1_avi.specs.Names.{bars, is_barred, most_bytes}
 use Rattle.ffv1_avi.specs.Names.{is_frame}
 
 no_some : {X : Type 0} (x : X) → ◌≡◌ {A = Option X} (Some x) None → ⊥
@@ -98,14 +97,14 @@ sought_less names left text y rest h =
     omega (arith, stop.fits, movi.0, movi.1)
 
 -- the next RIFF is counted
-begun_less : (place next : Place) (text rest : List ℕ) → riff_begun place text ≡ Ok (Some next, rest) → (amount next < place.input) × (0 < next.input)
+begun_less : (place next : Place) (text rest : List ℕ) → riff_begun place text ≡ Ok (Some next, rest) → (amount next < place.input) × (0 < next.input) × (next.names ≡ place.names)
 unfolding riff_begun
 begun_less place next text rest h =
     let first = read_on_ok (name_or_end place.owed text) (riff_named place) (Some next, rest) h in
     on_name first.0.0 first.0.1 first.2
   where
     Goal : Type 0
-    Goal = (amount next < place.input) × (0 < next.input)
+    Goal = (amount next < place.input) × (0 < next.input) × (next.names ≡ place.names)
 
     on_head : (bytes more : List ℕ) (a b c : Bool) → is_name (drop 4 bytes) (codes "AVIX") ≡ a → nat_le 4 (little_number 4 bytes) ≡ b → nat_lt (8 + little_number 4 bytes) place.input ≡ c → riff_judged place bytes more ≡ Ok (Some next, rest) → Goal
     on_head bytes more false b c p q r k = absurd (cc (rw p at k))
@@ -116,8 +115,8 @@ begun_less place next text rest h =
         let same : made ≡ next = some_is made next (ap (λ (z : Option Place × List ℕ). z.0) (ok_is (Some made, more) (Some next, rest) (rw (p, q, r) at k))) in
         let room : 4 ≤ little_number 4 bytes = leb-true _ _ q in
         let fits : 8 + little_number 4 bytes < place.input = ltb-true _ _ r in
-        let P : Place → Type 0 = λ z. (amount z < place.input) × (0 < z.input) in
-        subst P same (omega (arith, room, fits), omega (arith, fits))
+        let P : Place → Type 0 = λ z. (amount z < place.input) × (0 < z.input) × (z.names ≡ place.names) in
+        subst P same (omega (arith, room, fits), omega (arith, fits), refl)
 
     on_riff : (name more : List ℕ) (a : Bool) → is_name name (codes "RIFF") ≡ a → riff_named place (Some name) more ≡ Ok (Some next, rest) → Goal
     on_riff name more false p k = absurd (cc (rw p at k))
@@ -145,23 +144,23 @@ pub moved_every : (place : Place) → (place.input ≡ 0 → ⊥) → (text : Li
 unfolding moved
 moved_every place some text = ap (λ z. moved_by z place text) (extent_every place some)
 
--- less is left after a move, and as much is read
-pub moved_less : (place next : Place) (text rest : List ℕ) → moved place text ≡ Ok (Some next, rest) → (amount next < amount place) × (extent_of next ≡ extent_of place)
+-- less is left after a move, as much is read, and the names stay
+pub moved_less : (place next : Place) (text rest : List ℕ) → moved place text ≡ Ok (Some next, rest) → (amount next < amount place) × (extent_of next ≡ extent_of place) × (next.names ≡ place.names)
 moved_less place next text rest h = on_input (place.input == 0) refl
   where
     Goal : Type 0
-    Goal = (amount next < amount place) × (extent_of next ≡ extent_of place)
+    Goal = (amount next < amount place) × (extent_of next ≡ extent_of place) × (next.names ≡ place.names)
 
     on_found : (o : Option (ℕ × ℕ)) (more : List ℕ) → (place.input ≡ 0 → ⊥) → movi_sought place.names place.riff text ≡ Ok (o, more) → movi_or_riff place o more ≡ Ok (Some next, rest) → Goal
     on_found None more some is k =
         let begun = begun_less place next more rest k in
-        (omega (arith, begun.0), extent_every next (λ e. omega (arith, e, begun.1)) ∙ sym (extent_every place some))
+        (omega (arith, begun.0), extent_every next (λ e. omega (arith, e, begun.1)) ∙ sym (extent_every place some), begun.2)
     on_found (Some p) more some is k =
         let made = movi_at place p in
         let same : made ≡ next = some_is made next (ap (λ (z : Option Place × List ℕ). z.0) (ok_is (Some made, more) (Some next, rest) k)) in
         let less = sought_less place.names place.riff text p more is in
-        let P : Place → Type 0 = λ z. (amount z < amount place) × (extent_of z ≡ extent_of place) in
-        subst P same (omega (arith, less), refl)
+        let P : Place → Type 0 = λ z. (amount z < amount place) × (extent_of z ≡ extent_of place) × (z.names ≡ place.names) in
+        subst P same (omega (arith, less), refl, refl)
 
     on_input : (b : Bool) → (place.input == 0) ≡ b → Goal
     on_input true e = absurd (no_some next (sym (ap (λ (z : Option Place × List ℕ). z.0) (ok_is (None, text) (Some next, rest) (sym (moved_first place (eqb-true place.input 0 e) text) ∙ h)))))
@@ -173,12 +172,12 @@ moved_less place next text rest h = on_input (place.input == 0) refl
 -- the frame at which the walk of a movi stops
 movi_stop_at : (names : Names) (s : Unit {0}) (e : Entry) (text : List ℕ) (t : Unit {0}) (y : ℕ × ℕ) (rest : List ℕ) → visit_movi names s e text ≡ Ok ((t, Some y), rest) → (y.0 ≡ e.size) × (y.1 ≡ e.left)
 unfolding visit_movi
-movi_stop_at names s e text t y rest h = on_names (is_barred names e.name) (is_frame names e.name) (nat_lt limit e.size) (e.size == 0) refl refl refl refl h
+movi_stop_at names s e text t y rest h = on_names (is_barred names e.name) (is_frame names e.name) (nat_lt (most_bytes names) e.size) (e.size == 0) refl refl refl refl h
   where
     Z : Type 0
     Z = (Unit {0} × Option (ℕ × ℕ)) × List ℕ
 
-    on_names : (a b c d : Bool) → is_barred names e.name ≡ a → is_frame names e.name ≡ b → nat_lt limit e.size ≡ c → (e.size == 0) ≡ d → visit_movi names s e text ≡ Ok ((t, Some y), rest) → (y.0 ≡ e.size) × (y.1 ≡ e.left)
+    on_names : (a b c d : Bool) → is_barred names e.name ≡ a → is_frame names e.name ≡ b → nat_lt (most_bytes names) e.size ≡ c → (e.size == 0) ≡ d → visit_movi names s e text ≡ Ok ((t, Some y), rest) → (y.0 ≡ e.size) × (y.1 ≡ e.left)
     on_names true b c d p q r z h = absurd (cc (rw p at h))
     on_names false true true d p q r z h = absurd (cc (rw (p, q, r) at h))
     on_names false true false true p q r z h = absurd (cc (rw (p, q, r, z) at h))
@@ -198,8 +197,8 @@ found_less names left text y rest h =
     let frame = movi_stop_at names stop.state stop.entry stop.text walked.0 y rest stop.is in
     omega (arith, stop.fits, frame.0, frame.1)
 
--- less is left after a frame, and as much is read
-frame_up_to_less : (most : ℕ) (place next : Place) (size : ℕ) (text rest : List ℕ) → frame_found_up_to most place text ≡ Ok (Some (size, next), rest) → (amount next < amount place) × (extent_of next ≡ extent_of place)
+-- less is left after a frame, as much is read, and the names stay
+frame_up_to_less : (most : ℕ) (place next : Place) (size : ℕ) (text rest : List ℕ) → frame_found_up_to most place text ≡ Ok (Some (size, next), rest) → (amount next < amount place) × (extent_of next ≡ extent_of place) × (next.names ≡ place.names)
 unfolding frame_found_up_to
 frame_up_to_less zero place next size text rest h =
     let y : ℕ × Place = (size, next) in
@@ -209,10 +208,10 @@ frame_up_to_less (suc most) place next size text rest h =
     on_found (λ p more k. frame_up_to_less most p next size more rest k) first.0.0 first.0.1 first.1 first.2
   where
     Goal : Type 0
-    Goal = (amount next < amount place) × (extent_of next ≡ extent_of place)
+    Goal = (amount next < amount place) × (extent_of next ≡ extent_of place) × (next.names ≡ place.names)
 
     Again : Type 0
-    Again = (p : Place) (more : List ℕ) → frame_found_up_to most p more ≡ Ok (Some (size, next), rest) → (amount next < amount p) × (extent_of next ≡ extent_of p)
+    Again = (p : Place) (more : List ℕ) → frame_found_up_to most p more ≡ Ok (Some (size, next), rest) → (amount next < amount p) × (extent_of next ≡ extent_of p) × (next.names ≡ p.names)
 
     y : ℕ × Place
     y = (size, next)
@@ -222,7 +221,7 @@ frame_up_to_less (suc most) place next size text rest h =
     on_moved again (Some p) more behind is k =
         let later = again p behind k in
         let less = moved_less place p more behind is in
-        (omega (arith, later.0, less.0), later.1 ∙ less.1)
+        (omega (arith, later.0, less.0), later.1 ∙ less.1, later.2 ∙ less.2)
 
     on_found : Again → (o : Option (ℕ × ℕ)) (more : List ℕ) → movi_found place.names place.movi text ≡ Ok (o, more) → found_or_on (frame_found_up_to most) place o more ≡ Ok (Some (size, next), rest) → Goal
     on_found again None more is k =
@@ -232,10 +231,10 @@ frame_up_to_less (suc most) place next size text rest h =
         let x : ℕ × Place = (p.0, frame_at place p.1) in
         let same : x ≡ y = some_is x y (ap (λ (z : Option (ℕ × Place) × List ℕ). z.0) (ok_is (Some x, more) (Some y, rest) k)) in
         let less = found_less place.names place.movi text p more is in
-        let P : Place → Type 0 = λ z. (amount z < amount place) × (extent_of z ≡ extent_of place) in
-        subst P (ap (λ (z : ℕ × Place). z.1) same) (omega (arith, less), refl)
+        let P : Place → Type 0 = λ z. (amount z < amount place) × (extent_of z ≡ extent_of place) × (z.names ≡ place.names) in
+        subst P (ap (λ (z : ℕ × Place). z.1) same) (omega (arith, less), refl, refl)
 
-pub frame_less_at : (place next : Place) (size : ℕ) (text rest : List ℕ) → frame_found place text ≡ Ok (Some (size, next), rest) → (amount next < amount place) × (extent_of next ≡ extent_of place)
+pub frame_less_at : (place next : Place) (size : ℕ) (text rest : List ℕ) → frame_found place text ≡ Ok (Some (size, next), rest) → (amount next < amount place) × (extent_of next ≡ extent_of place) × (next.names ≡ place.names)
 unfolding frame_found
 frame_less_at place next size text rest h = frame_up_to_less (amount place) place next size text rest h
 
@@ -244,7 +243,7 @@ pub movi_empty : (names : Names) (text : List ℕ) → movi_found names 0 text �
 unfolding movi_found walk_up_to
 movi_empty names text = refl
 
--- where nothing is left there is no frame
+-- if nothing is left, there is no frame
 pub found_nothing : (most : ℕ) (place : Place) (text : List ℕ) → place.movi ≡ 0 → place.input ≡ 0 → frame_found_up_to most place text ≡ Ok (None, text)
 unfolding frame_found_up_to
 found_nothing zero place text movi input = refl
@@ -293,7 +292,7 @@ frame_step place text = found_enough (amount place) (suc (amount place)) place t
     on_found (Ok (Some p, rest)) is = refl
     on_found (Ok (None, rest)) is = on_moved rest (moved place rest) refl
 
--- where movi has nothing left, and nothing is left of the input, there is no frame
+-- if movi has nothing left, and nothing is left of the input, there is no frame
 pub frame_ends : (place : Place) → place.movi ≡ 0 → place.input ≡ 0 → (text : List ℕ) → frame_read place text ≡ Ok (None, text)
 unfolding frame_found
 frame_ends place movi input text = ap (λ z. read_on z found_read) (found_nothing (amount place) place text movi input)

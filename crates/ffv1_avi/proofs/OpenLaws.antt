@@ -11,6 +11,8 @@ use Rattle.ffv1_avi.specs.Files.{Headers, begins, list_visited, movi_reached, no
 use Rattle.ffv1_reads.specs.Head.{Head}
 use Rattle.ffv1_avi.specs.declared.place.Extent.{Extent}
 use Rattle.ffv1_avi.specs.declared.place.Place.{Place}
+use Rattle.ffv1_avi.specs.Names.{most_bytes, most_in}
+use Rattle.ffv1_avi.specs.declared.place.Extent.TheVariants.{FirstMovi, EveryRiff}
 use Rattle.ffv1_avi.specs.Places.{first_place}
 use Rattle.ffv1_reads.specs.Reads.{Reading, read_on, refused, taken}
 use Rattle.ffv1_avi.specs.Padding.{padded}
@@ -27,7 +29,7 @@ use Rattle.ffv1_reads.proofs.Results.{ok_is}
 use Rattle.ffv1_avi.proofs.ChunkByChunk.{walk_step}
 use Rattle.ffv1_avi.specs.declared.place.Names.TheVariants.{Closed}
 
--- RIFF's chunks up to movi, where it has so many bytes for them, and so many after movi
+-- RIFF's chunks up to movi, if it has so many bytes for them, and so many after movi
 pub record IsTop (extent : Extent) (room : ℕ) (text : List ℕ) (y : Head × Place) (rest : List ℕ) : Type 0 where
   pub parts : List Part
   pub movi_size : List ℕ
@@ -142,3 +144,13 @@ open_complete extent riff_size parts movi_size left known head rest riff sized n
   where
     spelled_length : length (codes "AVI ") ≡ 4
     spelled_length = refl
+
+-- how many bytes a frame may have, by how far is read
+pub opened_most : (extent : Extent) (text : List ℕ) (w : (Head × Place) × List ℕ) → open_read extent text ≡ Ok w → most_bytes w.0.1.names ≡ most_in extent
+opened_most extent text w h =
+    let top = (open_sound extent text w h).top in
+    ap (λ (p : Place). most_bytes p.names) top.place ∙ by_extent extent top.left (little_number 4 top.movi_size - 4) (owed top.known.frames) top.known
+  where
+    by_extent : (x : Extent) (left size owed : ℕ) (k : Headers) → most_bytes (first_place x left size (Closed k.passed k.streams) owed).names ≡ most_in x
+    by_extent FirstMovi left size owed k = refl
+    by_extent EveryRiff left size owed k = refl

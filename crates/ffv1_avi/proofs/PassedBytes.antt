@@ -34,7 +34,7 @@ skip_sound size text p h =
     let odd : length (drop size all) ≡ size % 2 = length-drop size all ∙ (omega (arith, gone.2)) in
     (take size all, record { padding = drop size all; text_is = whole; long = long; odd = odd })
 
--- and they are read where they stand
+-- and they are read in their place
 pub content_complete : (w : Want) (size : ℕ) (bytes padding rest : List ℕ) → length bytes ≡ size → length padding ≡ size % 2 → content w size ((bytes ++ padding) ++ rest) ≡ Ok (bytes, rest)
 content_complete w size bytes padding rest long odd =
     let whole : (bytes ++ padding) ++ rest ≡ bytes ++ (padding ++ rest) = append_assoc bytes padding rest in

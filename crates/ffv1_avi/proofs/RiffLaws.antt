@@ -8,7 +8,7 @@ use Rattle.byteorder.specs.Endian.{little_number}
 use Rattle.ffv1_avi.specs.declared.chunk.Entry.{Entry}
 use Rattle.ffv1_avi.specs.declared.place.Names.{Names}
 use Rattle.ffv1_avi.specs.declared.place.Names.TheVariants.{Any, Closed}
-use Rattle.ffv1_avi.specs.Names.{bitmap_name, frame_name, is_frame, is_stream_frame}
+use Rattle.ffv1_avi.specs.Names.{bitmap_name, frame_name, is_frame, is_stream_frame, most_bytes}
 use Rattle.ffv1_avi.specs.declared.place.Place.{Place}
 use Rattle.ffv1_avi.specs.Chunks.{AreChunks, AreFrames, AreSized, Chunk, chunk_text, chunks_text, those}
 use Rattle.ffv1_avi.specs.Files.{frames_read, moved, movi_or_riff, movi_sought, name_or_end, riff_begun, riff_judged, riff_list, riff_named, visit_riff}
@@ -97,7 +97,7 @@ riff_complete names s e bytes padding t rest listed long odd takes = on_list (is
         let own = own_taken e.size bytes padding rest (listed p) long in
         rw p (ap (λ z. read_on z (riff_list e.left e.size)) own ∙ rw q (ap (λ z. read_on z (λ _. given (tt, None))) (list_skip_complete e.size bytes padding rest (listed p) long odd)))
 
--- where the walk stops there is a movi
+-- if the walk stops there is a movi
 pub record StopsAtMovi (e : Entry) (text : List ℕ) (y : ℕ × ℕ) (rest : List ℕ) : Type 0 where
   pub list : is_name e.name (codes "LIST") ≡ true
   pub text_is : text ≡ codes "movi" ++ rest
@@ -286,9 +286,9 @@ chunks_even (c ∷ cs) each =
     let both : length (chunks_text (c ∷ cs)) ≡ length (chunk_text c) + length (chunks_text cs) = length-append (chunk_text c) (chunks_text cs) in
     omega (arith, more, long, both)
 
-sized_both : (fs gs : List (List ℕ)) → AreSized fs → AreSized gs → AreSized (fs ++ gs)
-sized_both [] gs h k = k
-sized_both (f ∷ fs) gs h k = (h.0, h.1, sized_both fs gs h.2 k)
+sized_both : (most : ℕ) (fs gs : List (List ℕ)) → AreSized most fs → AreSized most gs → AreSized most (fs ++ gs)
+sized_both most [] gs h k = k
+sized_both most (f ∷ fs) gs h k = (h.0, h.1, sized_both most fs gs h.2 k)
 
 pub map_both : (xs ys : List Chunk) → map (λ (c : Chunk). c.bytes) (xs ++ ys) ≡ map (λ (c : Chunk). c.bytes) xs ++ map (λ (c : Chunk). c.bytes) ys
 map_both [] ys = refl
@@ -300,7 +300,7 @@ framed_both names xs ys fs gs h k =
     let lists : those (barred_in names) (xs ++ ys) ≡ [] = those_both (barred_in names) xs ys ∙ ap (λ z. z ++ those (barred_in names) ys) h.none_barred ∙ k.none_barred in
     let all : map (λ (c : Chunk). c.bytes) (those (frame_in names) (xs ++ ys)) ≡ fs ++ gs =
     ap (map (λ (c : Chunk). c.bytes)) (those_both (frame_in names) xs ys) ∙ map_both (those (frame_in names) xs) (those (frame_in names) ys) ∙ ap (λ z. z ++ map (λ (c : Chunk). c.bytes) (those (frame_in names) ys)) h.those_of ∙ ap (λ z. fs ++ z) k.those_of in
-    record { each = chunks_both xs ys h.each k.each; none_barred = lists; those_of = all; sized = sized_both fs gs h.sized k.sized }
+    record { each = chunks_both xs ys h.each k.each; none_barred = lists; those_of = all; sized = sized_both (most_bytes names) fs gs h.sized k.sized }
 
 -- what RIFF has after a movi, and the RIFFs after it, to the end of the input
 pub record RiffRest (place : Place) (text : List ℕ) (frames : List (List ℕ)) (rest : List ℕ) : Type 0 where

@@ -28,7 +28,7 @@ use Rattle.ffv1_avi.specs.Places.{frame_at, movi_at, riff_at}
 use Rattle.ffv1_avi.specs.Walk.{bars_none, entry_in, entry_read, is_name}
 use Rattle.ffv1_avi.proofs.ChunkReadings.{chunk_framed, entry_counted}
 
--- where movi has nothing left, and more RIFFs are read, a chunk of RIFF comes next
+-- if movi has nothing left, and more RIFFs are read, a chunk of RIFF comes next
 riff_chunk : (place : Place) (left : ℕ) → 0 < place.input → (text : List ℕ) → chunk_taken (riff_left place left) text ≡ (entry_read left >>= riff_taken (riff_left place left)) text
 unfolding chunk_taken entry_in
 riff_chunk place left more text = let some : (place.input == 0) ≡ false = ne_eqb place.input 0 (λ e. omega (arith, e, more)) in rw some refl
@@ -154,7 +154,7 @@ next_reached place next {a = a} {before = before} {after = after} more read is =
     counts : Counts before after (0 + (12 + 0))
     counts n same = is ∙ rw same (twice n (2 ^ 64 - 1))
 
--- a refusal where the end of the input may be an answer
+-- a refusal if the end of the input may be an answer
 over : {X : Type 0} (extent : Extent) (reading : Reading (Option X)) (old new : Option (List ℕ)) (before after : ℕ) (f : FileFault) → RefusedOrNone extent reading old new before after f → RefusedOrOver reading old new before after f
 over FirstMovi reading old new before after fault.Read (counted, inl wants) = (counted, inl wants)
 over FirstMovi reading old new before after fault.Read (counted, inr halts) = absurd halts

@@ -45,7 +45,7 @@ counted (suc k) n (s ∷ ss) all (inr (other, more)) =
     let later = counted k (n + 1) ss (omega (arith, all)) more in
     (later.0, later.1, inr (low, None, bytes, later.2))
 
--- where none of the first 100 counts
+-- if none of the first 100 counts
 none_counted : (k n : ℕ) (streams : List Chunk) → n + k ≡ 100 → AreOthers EveryRiff (take k streams) → Counts None n streams None (n + length (take k streams))
 none_counted zero n [] all are = (refl, omega arith)
 none_counted zero n (s ∷ ss) all are = inl (le-ltb _ _ (omega (arith, all)), refl, omega arith)

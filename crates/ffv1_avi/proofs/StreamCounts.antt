@@ -1,4 +1,4 @@
--- How many streams chunks of hdrl have, where every RIFF is read.
+-- How many streams chunks of hdrl have, if every RIFF is read.
 use Rattle.std.proofs.Common.{◌≡◌, ℕ, suc, ◌+◌, ◌≤◌, min, nat_lt, Bool, true, false, Option, Some, None, List, [], ◌∷◌, length, take, codes, ap, ◌∙◌, arith, refl}
 use Rattle.ffv1_avi.specs.declared.place.Extent.TheVariants.{EveryRiff}
 use Rattle.ffv1_avi.specs.Chunks.{Chunk, is_list, those}

@@ -1,4 +1,4 @@
--- A stream's list is read exactly where its first header and its first format say a head.
+-- A stream's list is read exactly if its first header and its first format say a head.
 use Rattle.std.proofs.Common.{◌≡◌, ◌⊎◌, inl, inr, ℕ, ◌+◌, ◌≤◌, ◌==◌, Bool, true, false, Option, Some, None, Ok, List, [], ◌∷◌, ◌++◌, length, codes, ap, ◌∙◌, sym, subst, arith, refl, add-zero}
 use Rattle.std.specs.Cmp.Lexicographic.{same_text}
 use Rattle.ffv1_avi.specs.Chunks.{AreChunks, Chunk, Says, SaysOther, chunks_text, first_of, is_named, says_of, those}

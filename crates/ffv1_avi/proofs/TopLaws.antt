@@ -116,7 +116,7 @@ top_complete extent s e bytes padding t rest listed long odd takes = on_list (is
         let own = own_taken e.size bytes padding rest room long in
         rw (p, rw (p, q, r) at takes) (ap (λ z. read_on z (list_visited extent s e.left e.size)) own ∙ rw (q, r) (ap (λ z. read_on z (λ _. given (s, None))) (list_skip_complete e.size bytes padding rest room long odd)))
 
--- where the walk of RIFF stops there is movi
+-- if the walk of RIFF stops there is movi
 pub record IsMovi (extent : Extent) (s : Headers) (e : Entry) (text : List ℕ) (y : Head × Place) (rest : List ℕ) : Type 0 where
   pub list : is_name e.name (codes "LIST") ≡ true
   pub text_is : text ≡ codes "movi" ++ rest

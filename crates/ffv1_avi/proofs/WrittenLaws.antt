@@ -5,17 +5,18 @@ use Rattle.std.proofs.lemmas.List.{length-replicate, take_all}
 use Rattle.std.proofs.lemmas.List.Sums.{sum_by-cons}
 use Rattle.byteorder.specs.Endian.{little_number}
 use Rattle.byteorder.specs.Numbers.{little_number-reads_back}
+use Rattle.ffv1_reads.specs.Bitmap.{number}
 use Rattle.ffv1_avi.specs.Chunks.{AreFrames, AreSized, AviFile, Chunk, IsChunk, IsPart, IsStream, IsWritable, Part, Says, chunk_text, chunks_text, part_chunk}
 use Rattle.ffv1_reads.specs.Reads.{Stop}
 use Rattle.ffv1_avi.specs.declared.place.Names.{Names}
-use Rattle.ffv1_avi.specs.declared.place.Names.TheVariants.{Any}
-use Rattle.ffv1_avi.specs.Names.{is_barred, is_frame}
+use Rattle.ffv1_avi.specs.Names.{is_barred, is_frame, most_bytes}
+use Rattle.ffv1_avi.specs.declared.place.Names.TheVariants.{Any, Closed}
 use Rattle.ffv1_avi.specs.declared.place.Extent.{Extent}
 use Rattle.ffv1_avi.specs.declared.place.Extent.TheVariants.{FirstMovi, EveryRiff}
 use Rattle.ffv1_reads.specs.Head.{Head, limit}
 use Rattle.ffv1_avi.specs.Padding.{padded}
 use Rattle.ffv1_avi.specs.Streams.{record_end}
-use Rattle.ffv1_avi.specs.Written.{avih, file_of, format_size, frame_chunk, frame_size, front, head_text, movi, movi_size, number, padding, riff_size, spelled, strf, strh}
+use Rattle.ffv1_avi.specs.Written.{avih, file_of, format_size, frame_chunk, frame_size, front, head_text, movi, movi_size, padding, riff_size, spelled, strf, strh}
 use Rattle.ffv1_avi.proofs.PartLaws.{parts_text}
 
 -- a number of 32 bits is read back
@@ -26,23 +27,28 @@ back n h = little_number-reads_back 4 n [] h
 abbrev pub frame_of : List ℕ → Chunk
 frame_of frame = record { name = codes "00dc"; size = number (length frame); bytes = frame; padding = padding (length frame) }
 
-frame_is : (frame : List ℕ) → length frame ≤ limit → IsChunk (frame_of frame)
-frame_is frame short = record { named = refl; sized = refl; counted = back (length frame) (omega (arith, short)); padded = length-replicate (length frame % 2) 0; listed = λ l. absurd (cc) }
+frame_is : (frame : List ℕ) → length frame < 2 ^ 32 → IsChunk (frame_of frame)
+frame_is frame short = record { named = refl; sized = refl; counted = back (length frame) short; padded = length-replicate (length frame % 2) 0; listed = λ l. absurd (cc) }
 
 pub frames_text : (frames : List (List ℕ)) → chunks_text (map frame_of frames) ≡ flat_map frame_chunk frames
 frames_text [] = refl
 frames_text (f ∷ fs) = ap (λ z. frame_chunk f ++ z) (frames_text fs)
 
-pub frames_are : (names : Names) → is_barred names (codes "00dc") ≡ false → is_frame names (codes "00dc") ≡ true → (frames : List (List ℕ)) → AreSized frames → AreFrames names (map frame_of frames) frames
+most_fits : (names : Names) → most_bytes names < 2 ^ 32
+most_fits Any = omega arith
+most_fits (Closed stream streams) = omega arith
+
+pub frames_are : (names : Names) → is_barred names (codes "00dc") ≡ false → is_frame names (codes "00dc") ≡ true → (frames : List (List ℕ)) → AreSized (most_bytes names) frames → AreFrames names (map frame_of frames) frames
 frames_are names stands named [] sized = record { each = tt; none_barred = refl; those_of = refl; sized = tt }
 frames_are names stands named (f ∷ fs) sized =
     let more = frames_are names stands named fs sized.2 in
-    record { each = (frame_is f sized.1, more.each); none_barred = rw stands more.none_barred; those_of = rw named (ap (λ z. f ∷ z) more.those_of); sized = sized }
+    let fits : length f < 2 ^ 32 = omega (arith, sized.1, most_fits names) in
+    record { each = (frame_is f fits, more.each); none_barred = rw stands more.none_barred; those_of = rw named (ap (λ z. f ∷ z) more.those_of); sized = sized }
 
-pub frames_long : (frames : List (List ℕ)) → AreSized frames → (4 + length (chunks_text (map frame_of frames)) ≡ movi_size frames) × (movi_size frames % 2 ≡ 0)
-frames_long [] sized = (refl, refl)
-frames_long (f ∷ fs) sized =
-    let more = frames_long fs sized.2 in
+pub frames_long : (most : ℕ) (frames : List (List ℕ)) → AreSized most frames → (4 + length (chunks_text (map frame_of frames)) ≡ movi_size frames) × (movi_size frames % 2 ≡ 0)
+frames_long most [] sized = (refl, refl)
+frames_long most (f ∷ fs) sized =
+    let more = frames_long most fs sized.2 in
     let c = frame_of f in
     let whole : sum (map frame_size (f ∷ fs)) ≡ frame_size f + sum (map frame_size fs) = sum_by-cons (λ x. x) (frame_size f) (map frame_size fs) in
     let odd : length (padding (length f)) ≡ length f % 2 = length-replicate (length f % 2) 0 in
@@ -132,8 +138,8 @@ parts_long head count =
     ap length (append-nil (chunk_text c) ∙ append-nil ((c.name ++ c.size) ++ c.bytes)) ∙ length-append (c.name ++ c.size) c.bytes ∙ (omega (arith, front, header_long head count))
 
 -- what the written stream says
-written_says : (extent : Extent) (head : Head) (frames : List (List ℕ)) (count : ℕ) → IsWritable head frames → Says extent (fields_of head count) head
-written_says extent head frames count is =
+written_says : (extent by : Extent) (head : Head) (frames : List (List ℕ)) (count : ℕ) → IsWritable by head frames → Says extent (fields_of head count) head
+written_says extent by head frames count is =
     let rate = back head.rate is.rate in
     let scale = back head.scale is.scale in
     let width = back head.width is.width in
@@ -148,19 +154,19 @@ written_says extent head frames count is =
     to_end FirstMovi = refl
     to_end EveryRiff = refl
 
-pub written_stream : (extent : Extent) (head : Head) (frames : List (List ℕ)) (count : ℕ) → IsWritable head frames → IsStream extent (stream_of head count) head
-written_stream extent head frames count is =
-    record { fields = fields_of head count; bytes = refl; each = (strh_is head count, (strf_is head is.short, tt)); says = written_says extent head frames count is }
+pub written_stream : (extent by : Extent) (head : Head) (frames : List (List ℕ)) (count : ℕ) → IsWritable by head frames → IsStream extent (stream_of head count) head
+written_stream extent by head frames count is =
+    record { fields = fields_of head count; bytes = refl; each = (strh_is head count, (strf_is head is.short, tt)); says = written_says extent by head frames count is }
 
 -- the parts in a row
 pub tail_same : (config pad behind : List ℕ) → (config ++ pad) ++ behind ≡ ((((((config ++ pad) ++ []) ++ []) ++ []) ++ []) ++ []) ++ behind
 tail_same config pad behind = simp append-nil
 
-pub written_file : (head : Head) (frames : List (List ℕ)) → IsWritable head frames → AviFile (file_of head frames) head frames
+pub written_file : (head : Head) (frames : List (List ℕ)) → IsWritable FirstMovi head frames → AviFile (file_of head frames) head frames
 written_file head frames is =
     let count = length frames in
     let size = movi_size frames in
-    let long = frames_long frames is.sized in
+    let long = frames_long limit frames is.sized in
     let small : size < 2 ^ 32 = omega (arith, is.small) in
     let counted : little_number 4 (number size) ≡ 4 + length (chunks_text (map frame_of frames)) = back size small ∙ sym long.0 in
     let riff : little_number 4 (number (riff_size head frames)) ≡ riff_size head frames = back (riff_size head frames) (omega (arith, is.small)) in
@@ -170,9 +176,9 @@ written_file head frames is =
     let whole : file_of head frames ≡ (codes "RIFF" ++ number (riff_size head frames) ++ codes "AVI ") ++ (parts_text (header_of head count ∷ []) ++ ((codes "LIST" ++ number size ++ codes "movi") ++ (chunks_text (map frame_of frames) ++ []))) =
     ap (λ z. head_text head count (riff_size head frames) ++ z) behind
     ∙ ap (λ z. front head count (riff_size head frames) ++ z) (tail_same head.config_record (padding (40 + length head.config_record)) (spelled (movi size) ++ (chunks_text (map frame_of frames) ++ []))) in
-    record { riff_size = number (riff_size head frames); parts = header_of head count ∷ []; movi_size = number size; chunks = map frame_of frames; rest = []; stream = stream_of head count; others = []; bytes = whole; riff_sized = refl; movi_sized = refl; counted = counted; fits = fits; each = (header_is head count is.short, tt); first = refl; says = written_stream FirstMovi head frames count is; framed = frames_are Any refl refl frames is.sized }
+    record { riff_size = number (riff_size head frames); parts = header_of head count ∷ []; movi_size = number size; chunks = map frame_of frames; rest = []; stream = stream_of head count; others = []; bytes = whole; riff_sized = refl; movi_sized = refl; counted = counted; fits = fits; each = (header_is head count is.short, tt); first = refl; says = written_stream FirstMovi FirstMovi head frames count is; framed = frames_are Any refl refl frames is.sized }
 
 -- of which nothing is left
-pub written_rest : (head : Head) (frames : List (List ℕ)) (is : IsWritable head frames) → ◌≡◌ {A = Result ((Head × List (List ℕ)) × List ℕ) Stop} (Ok ((head, frames), (written_file head frames is).rest)) (Ok ((head, frames), []))
+pub written_rest : (head : Head) (frames : List (List ℕ)) (is : IsWritable FirstMovi head frames) → ◌≡◌ {A = Result ((Head × List (List ℕ)) × List ℕ) Stop} (Ok ((head, frames), (written_file head frames is).rest)) (Ok ((head, frames), []))
 unfolding written_file
 written_rest head frames is = refl

@@ -1,13 +1,14 @@
 -- What is written is a file of one RIFF.
 use Rattle.std.proofs.Common.{◌≡◌, ℕ, ◌+◌, ◌^◌, ◌<◌, List, [], ◌∷◌, ◌++◌, length, codes, flat_map, map, ap, ◌∙◌, sym, subst, arith, refl, append-nil, true, false}
 use Rattle.byteorder.specs.Endian.{little_number}
+use Rattle.ffv1_reads.specs.Bitmap.{number}
 use Rattle.ffv1_avi.specs.declared.place.Extent.TheVariants.{EveryRiff}
 use Rattle.ffv1_avi.specs.declared.place.Names.TheVariants.{Closed}
 use Rattle.ffv1_avi.specs.Names.{is_barred, is_frame, is_stream_frame}
 use Rattle.ffv1_avi.specs.Chunks.{AreFrames, Chunk, IsWritable, chunks_text}
-use Rattle.ffv1_reads.specs.Head.{Head}
+use Rattle.ffv1_reads.specs.Head.{Head, frame_limit}
 use Rattle.ffv1_avi.specs.Riffs.{RiffFile}
-use Rattle.ffv1_avi.specs.Written.{file_of, frame_chunk, front, head_text, movi, movi_size, number, padding, riff_size, spelled}
+use Rattle.ffv1_avi.specs.Written.{file_of, frame_chunk, front, head_text, movi, movi_size, padding, riff_size, spelled}
 use Rattle.ffv1_avi.proofs.PartLaws.{parts_text}
 use Rattle.ffv1_avi.proofs.WrittenLaws.{back, frame_of, frames_are, frames_long, frames_text, header_is, header_of, parts_long, stream_of, tail_same, written_stream}
 
@@ -20,12 +21,12 @@ first_stands : is_barred (Closed 0 1) (codes "00dc") ≡ false
 unfolding is_stream_frame
 first_stands = refl
 
-pub written_riff : (head : Head) (frames : List (List ℕ)) → IsWritable head frames → RiffFile (file_of head frames) head frames
+pub written_riff : (head : Head) (frames : List (List ℕ)) → IsWritable EveryRiff head frames → RiffFile (file_of head frames) head frames
 written_riff head frames is =
     let count = length frames in
     let size = movi_size frames in
     let chunks = map frame_of frames in
-    let long = frames_long frames is.sized in
+    let long = frames_long frame_limit frames is.sized in
     let small : size < 2 ^ 32 = omega (arith, is.small) in
     let said = back size small in
     let counted : little_number 4 (number size) ≡ 4 + length (chunks_text chunks) = said ∙ sym long.0 in
@@ -37,4 +38,4 @@ written_riff head frames is =
     ∙ ap (λ z. front head count (riff_size head frames) ++ z) (tail_same head.config_record (padding (40 + length head.config_record)) (spelled (movi size) ++ (chunks_text chunks ++ []))) in
     let P : List Chunk → Type 0 = λ z. AreFrames (Closed 0 1) z frames in
     let framed : AreFrames (Closed 0 1) (chunks ++ []) frames = subst P (sym (append-nil chunks)) (frames_are (Closed 0 1) first_stands first_named frames is.sized) in
-    record { riff_size = number (riff_size head frames); parts = header_of head count ∷ []; movi_size = number size; chunks = chunks; sections = []; riffs = []; before = []; stream = stream_of head count; after = []; extended = []; bytes = whole; riff_sized = refl; movi_sized = refl; counted = counted; filled = filled; each = (header_is head count is.short, tt); sections_are = tt; riffs_are = tt; bounded = omega arith; streams_are = refl; others = tt; few = omega arith; says = written_stream EveryRiff head frames count is; extended_are = tt; framed = framed; enough = omega arith }
+    record { riff_size = number (riff_size head frames); parts = header_of head count ∷ []; movi_size = number size; chunks = chunks; sections = []; riffs = []; before = []; stream = stream_of head count; after = []; extended = []; bytes = whole; riff_sized = refl; movi_sized = refl; counted = counted; filled = filled; each = (header_is head count is.short, tt); sections_are = tt; riffs_are = tt; bounded = omega arith; streams_are = refl; others = tt; few = omega arith; says = written_stream EveryRiff EveryRiff head frames count is; extended_are = tt; framed = framed; enough = omega arith }

@@ -7,7 +7,7 @@ use Rattle.ffv1_avi.specs.declared.place.Extent.{Extent}
 use Rattle.ffv1_avi.specs.declared.place.Extent.TheVariants.{FirstMovi, EveryRiff}
 use Rattle.ffv1_avi.specs.declared.place.Names.{Names}
 use Rattle.ffv1_avi.specs.declared.place.Names.TheVariants.{Any}
-use Rattle.ffv1_avi.specs.Names.{is_barred, is_frame}
+use Rattle.ffv1_avi.specs.Names.{is_barred, is_frame, most_bytes, most_in}
 use Rattle.ffv1_reads.specs.Head.{Head, limit}
 use Rattle.ffv1_avi.specs.Padding.{padded}
 use Rattle.ffv1_avi.specs.Walk.{is_name}
@@ -21,7 +21,7 @@ pub record Chunk : Type 0 where
   pub bytes : List ℕ
   pub padding : List ℕ
 
--- a name and a size of four bytes each, as many bytes as the size says, and one more where they are
+-- a name and a size of four bytes each, as many bytes as the size says, and one more if they are
 -- odd; a list has room for a name of its own
 pub record IsChunk (c : Chunk) : Type 0 where
   pub named : length c.name ≡ 4
@@ -134,7 +134,8 @@ pub record IsStream (extent : Extent) (stream : Chunk) (head : Head) : Type 0 wh
   pub each : AreChunks fields
   pub says : Says extent fields head
 
--- a stream's list is no FFV1 video; where the first movi alone is read there is no such stream
+-- a stream's list is no FFV1 video; if the first movi alone is read, there is no stream of this
+-- kind
 pub record IsOther (extent : Extent) (stream : Chunk) : Type 0 where
   pub extent_is : extent ≡ EveryRiff
   pub fields : List Chunk
@@ -146,10 +147,10 @@ abbrev pub AreOthers : Extent → List Chunk → Type 0
 AreOthers extent [] = Unit {0}
 AreOthers extent (s ∷ ss) = IsOther extent s × AreOthers extent ss
 
--- frames that have bytes, and not too many
-abbrev pub AreSized : List (List ℕ) → Type 0
-AreSized [] = Unit {0}
-AreSized (f ∷ fs) = (0 < length f) × (length f ≤ limit) × AreSized fs
+-- frames that have bytes, and at most so many
+abbrev pub AreSized : ℕ → List (List ℕ) → Type 0
+AreSized bound [] = Unit {0}
+AreSized bound (f ∷ fs) = (0 < length f) × (length f ≤ bound) × AreSized bound fs
 
 -- a chunk that may not stand in movi
 abbrev pub barred_in : Names → Chunk → Bool
@@ -166,7 +167,7 @@ pub record AreFrames (names : Names) (chunks : List Chunk) (frames : List (List 
   pub each : AreChunks chunks
   pub none_barred : those (barred_in names) chunks ≡ []
   pub those_of : map (λ (c : Chunk). c.bytes) (those (frame_in names) chunks) ≡ frames
-  pub sized : AreSized frames
+  pub sized : AreSized (most_bytes names) frames
 
 -- a file with this head and these frames: RIFF with its parts and then the first movi, which fits
 -- in it; after the chunks of movi may stand whatever does
@@ -214,14 +215,14 @@ pub record Passes (left : ℕ) (name size : List ℕ) : Type 0 where
   pub header : 8 ≤ left
   pub passes : left < 8 + padded (little_number 4 size)
 
--- what is written so that it can be read: numbers of 32 bits, rate and scale both zero or neither,
--- frames and a format that are not too long, and a size of RIFF that is not too great
-pub record IsWritable (head : Head) (frames : List (List ℕ)) : Type 0 where
+-- what is written so that it can be read so far: numbers of 32 bits, rate and scale both zero or
+-- neither, frames and a format that are not too long, and a size of RIFF that is not too great
+pub record IsWritable (extent : Extent) (head : Head) (frames : List (List ℕ)) : Type 0 where
   pub width : head.width < 2 ^ 32
   pub height : head.height < 2 ^ 32
   pub rate : head.rate < 2 ^ 32
   pub scale : head.scale < 2 ^ 32
   pub both : (head.rate == 0) ≡ (head.scale == 0)
   pub short : 40 + length head.config_record ≤ limit
-  pub sized : AreSized frames
+  pub sized : AreSized (most_in extent) frames
   pub small : riff_size head frames ≤ most

@@ -1,4 +1,4 @@
--- What of hdrl is read where every RIFF is read: its streams up to the one that counts, and its
+-- What of hdrl is read if every RIFF is read: its streams up to the one that counts, and its
 -- lists odml.
 use Rattle.std.specs.Prelude.{◌⊎◌, ℕ, suc, zero, List, [], ◌∷◌, codes}
 use Rattle.ffv1_avi.specs.declared.place.Extent.TheVariants.{EveryRiff}

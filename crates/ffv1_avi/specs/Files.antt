@@ -9,10 +9,10 @@ use Rattle.ffv1_avi.specs.declared.place.Extent.TheVariants.{FirstMovi, EveryRif
 use Rattle.ffv1_avi.specs.declared.place.Names.{Names}
 use Rattle.ffv1_avi.specs.declared.place.Names.TheVariants.{Closed}
 use Rattle.ffv1_avi.specs.declared.place.Place.{Place}
-use Rattle.ffv1_reads.specs.Head.{Head, limit}
+use Rattle.ffv1_reads.specs.Head.{Head}
 use Rattle.ffv1_avi.specs.Places.{amount, extent_of, first_place, frame_at, movi_at, riff_at}
 use Rattle.ffv1_reads.specs.Reads.{Kept, Reading, given, refused, taken, passed}
-use Rattle.ffv1_avi.specs.Names.{bars, is_barred, is_frame}
+use Rattle.ffv1_avi.specs.Names.{bars, is_barred, is_frame, most_bytes}
 use Rattle.ffv1_avi.specs.Padding.{padded, content}
 use Rattle.ffv1_reads.specs.Reads.{◌>>=◌}
 use Rattle.ffv1_avi.specs.Walk.{is_name, Visit, walk, walk_in}
@@ -29,19 +29,19 @@ pub record Headers : Type 0 where
 abbrev pub no_headers : Headers
 no_headers = record { passed = 0; head = None; frames = None; streams = 0 }
 
--- a stream that was read, which counts where it is FFV1 video
+-- a stream that was read, which counts if it is FFV1 video
 abbrev pub stream_known : Headers → Option Head → Headers
 stream_known k None =
     record { passed = k.passed + 1; head = None; frames = k.frames; streams = k.streams }
 stream_known k (Some head) =
     record { passed = k.passed; head = Some head; frames = k.frames; streams = k.streams }
 
--- how many streams there are with one more, where two digits name it
+-- how many streams there are with one more, if two digits name it
 abbrev pub one_more : Extent → ℕ → ℕ
 one_more FirstMovi streams = streams
 one_more EveryRiff streams = min (streams + 1) 100
 
--- the same, and a stream came; the streams are counted where every RIFF is read
+-- the same, and a stream came; the streams are counted if every RIFF is read
 abbrev pub stream_came : Extent → Headers → Headers
 stream_came extent k =
     record {
@@ -51,7 +51,7 @@ stream_came extent k =
       streams = one_more extent k.streams;
     }
 
--- what is left of a list of which its own name has been read, where it says nothing here
+-- what is left of a list of which its own name has been read, if it says nothing here
 abbrev pub list_skipped : {S Y : Type 0} → S → ℕ → Reading (S × Option Y)
 list_skipped s size = passed (padded size - 4) >>= λ _. given (s, None)
 
@@ -82,7 +82,7 @@ unfoldable pub extended_read : Option ℕ → ℕ → Reading (Option ℕ)
 extended_read frames size =
     walk visit_extended (size - 4) frames >>= λ p. (passed (size % 2) >>= λ _. given p.0)
 
--- it is looked at where every RIFF is read
+-- it is looked at if every RIFF is read
 abbrev pub extended_visited : Extent → Headers → ℕ → Reading (Headers × Option ⊥)
 extended_visited FirstMovi k size = list_skipped k size
 extended_visited EveryRiff k size =
@@ -164,9 +164,9 @@ open_read extent = taken 12 >>= λ bytes.
     else refused fault.NotAvi
 
 -- a frame's size is judged before its bytes are read
-abbrev pub frame_judged : ℕ → ℕ → Reading (Unit {0} × Option (ℕ × ℕ))
-frame_judged size left =
-    if nat_lt limit size then refused fault.ChunkTooLong
+abbrev pub frame_judged : ℕ → ℕ → ℕ → Reading (Unit {0} × Option (ℕ × ℕ))
+frame_judged most size left =
+    if nat_lt most size then refused fault.ChunkTooLong
     else if size == 0 then refused fault.EmptyFrame
     else given (tt, Some (size, left))
 
@@ -174,10 +174,10 @@ frame_judged size left =
 unfoldable pub visit_movi : Names → Visit (Unit {0}) (ℕ × ℕ)
 visit_movi names s e =
     if is_barred names e.name then refused fault.NotAvi
-    else if is_frame names e.name then frame_judged e.size e.left
+    else if is_frame names e.name then frame_judged (most_bytes names) e.size e.left
     else skipped s e.size
 
--- the size of the next frame, and what movi has left after it, where it has so many bytes left;
+-- the size of the next frame, and what movi has left after it, if it has so many bytes left;
 -- none at its end
 unfoldable pub movi_found : Names → ℕ → Reading (Option (ℕ × ℕ))
 movi_found names left = walk_in (bars names) (visit_movi names) left tt >>= λ p. given p.1
@@ -187,19 +187,19 @@ abbrev pub riff_list : ℕ → ℕ → List ℕ → Reading (Unit {0} × Option 
 riff_list left size own =
     if is_name own (codes "movi") then given (tt, Some (size - 4, left)) else list_skipped tt size
 
--- a chunk of RIFF after a movi, where no frame may stand
+-- a chunk of RIFF after a movi, where no frame may come
 unfoldable pub visit_riff : Names → Visit (Unit {0}) (ℕ × ℕ)
 visit_riff names s e =
     if is_name e.name (codes "LIST") then (taken 4 >>= riff_list e.left e.size)
     else if is_frame names e.name then refused fault.NotAvi
     else skipped s e.size
 
--- the bytes of the next movi, and what RIFF has left after it, where it has so many bytes left;
+-- the bytes of the next movi, and what RIFF has left after it, if it has so many bytes left;
 -- none at its end
 unfoldable pub movi_sought : Names → ℕ → Reading (Option (ℕ × ℕ))
 movi_sought names left = walk (visit_riff names) left tt >>= λ p. given p.1
 
--- four bytes; or, where no frame is owed, the end of the input
+-- four bytes; or, if no frame is owed, the end of the input
 unfoldable pub name_or_end : ℕ → Reading (Option (List ℕ))
 name_or_end zero [] = Ok (None, [])
 name_or_end owes text = (taken 4 >>= λ name. given (Some name)) text
@@ -229,7 +229,7 @@ abbrev pub movi_or_riff : Place → Option (ℕ × ℕ) → Reading (Option Plac
 movi_or_riff place None = riff_begun place
 movi_or_riff place (Some p) = given (Some (movi_at place p))
 
--- where frames are sought next after the end of a movi; nowhere at the end
+-- where frames are looked for next after the end of a movi; nowhere at the end
 abbrev pub moved_by : Extent → Place → Reading (Option Place)
 moved_by FirstMovi place = given None
 moved_by EveryRiff place = movi_sought place.names place.riff >>= movi_or_riff place

@@ -1,10 +1,13 @@
 -- Which chunks a list movi has, by their names (AVI RIFF File Reference, "Stream Data ('movi'
--- List)"; OpenDML AVI File Format Extensions, "Index Locations in RIFF File"): two digits say the
+-- List)"; OpenDML AVI File Format Extensions, "Index Locations in RIFF File"). Two digits say the
 -- stream, by its place among all strl, and two letters what the chunk holds.
 use Rattle.std.specs.Prelude.{◌≡◌, ◌⊎◌, ◌<◌, ◌++◌, ℕ, ◌+◌, ◌-◌, ◌*◌, ◌/◌, ◌%◌, ◌==◌, ◌&&◌}
 use Rattle.std.specs.Prelude.{◌||◌, Bool, true, false}
 use Rattle.std.specs.Prelude.{if◌then◌else◌, nat_le, nat_lt, List, [], ◌∷◌, take, codes}
 use Rattle.std.specs.Prelude.{slice_index}
+use Rattle.ffv1_reads.specs.Head.{frame_limit, limit}
+use Rattle.ffv1_avi.specs.declared.place.Extent.{Extent}
+use Rattle.ffv1_avi.specs.declared.place.Extent.TheVariants.{FirstMovi, EveryRiff}
 use Rattle.ffv1_avi.specs.declared.place.Names.{Names}
 use Rattle.ffv1_avi.specs.declared.place.Names.TheVariants.{Any, Closed}
 use Rattle.ffv1_avi.specs.Walk.{is_name, bars_none}
@@ -67,11 +70,21 @@ is_barred (Closed stream streams) name =
     if is_stream_frame stream name || stands_beside stream streams name then false else true
 
 -- a chunk of this name may not stand in movi, whatever size it says; the size of a list is judged
--- before, and that of every chunk where the first movi is read alone
+-- before, and that of every chunk if the first movi is read alone
 abbrev pub bars : Names → List ℕ → Bool
 bars Any = bars_none
 bars (Closed stream streams) = λ name. if is_name name (codes "LIST") then false
     else is_barred (Closed stream streams) name
+
+-- the most bytes of a frame that are read, by how far is read
+abbrev pub most_in : Extent → ℕ
+most_in FirstMovi = limit
+most_in EveryRiff = frame_limit
+
+-- and by the names of the chunks of movi: any, where the first movi is read alone
+abbrev pub most_bytes : Names → ℕ
+most_bytes Any = most_in FirstMovi
+most_bytes (Closed stream streams) = most_in EveryRiff
 
 -- the same in words: the name of a frame of a stream
 abbrev pub IsFrameName : ℕ → List ℕ → Type 0

@@ -1,7 +1,7 @@
 -- Where in a file a fault is: in the chunk, of those one after the other, that could not be read.
--- Of a list movi the chunk is its header and its own name, since its chunks come next; and so is it
--- of an RIFF. A frame that `dmlh` says and that is not there is missed where the next RIFF would
--- begin.
+-- Of a list movi the chunk is its header and its own name, since its chunks come next; the same
+-- holds of an RIFF. If a frame that `dmlh` says is not there, the fault is where the next RIFF
+-- would begin.
 use Rattle.std.specs.Prelude.{◌≡◌, ℕ, ◌+◌, ◌-◌, ◌^◌, ◌==◌, min, Bool, true, false, if◌then◌else◌}
 use Rattle.std.specs.Prelude.{List, drop, Option, Some, None, Result, Ok, Err}
 use Rattle.byteorder.specs.Endian.{little_number}
@@ -44,7 +44,7 @@ riff_left place left =
       owed = place.owed;
     }
 
--- a frame, with its bytes and their padding, where the chunk is one
+-- a frame, with its bytes and their padding, if the chunk is one
 abbrev pub frame_taken : Place → ℕ → Option (ℕ × ℕ) → Reading Place
 frame_taken place left None = given (movi_left place left)
 frame_taken place left (Some p) = content Kept p.0 >>= λ bytes. given (frame_at place p.1)
@@ -68,7 +68,7 @@ movi_taken place (Some e) = visit_movi place.names tt e >>= λ p. frame_taken pl
 movi_taken place None =
     if place.input == 0 then given place else (entry_read place.riff >>= riff_taken place)
 
--- a chunk from its first byte on, from the first movi on: one of movi, with its frame; where that
+-- a chunk from its first byte on, from the first movi on: one of movi, with its frame; if that
 -- has none left, one of RIFF. At the end nothing is read
 unfoldable pub chunk_taken : Place → Reading Place
 chunk_taken place = entry_in (bars place.names) place.movi >>= movi_taken place
@@ -126,8 +126,8 @@ top_taken extent found None = refused fault.NotAvi
 top_taken extent found (Some e) = visit_top extent found e >>= top_left e.left
 
 -- a chunk from its first byte on, before the frames: the first twelve bytes of the file; and a
--- chunk of RIFF, the list hdrl with all that it has; of movi the header and its own name. Where
--- RIFF ends before any movi, that is missed there. Before the frames nothing is read
+-- chunk of RIFF, the list hdrl with all that it has; of movi the header and its own name. If RIFF
+-- ends before any movi, the fault is at its end. Before the frames nothing is read
 unfoldable pub spot_taken : Extent → Spot → Reading Spot
 spot_taken extent Start = taken 12 >>= riff_begins
 spot_taken extent (InRiff found left) = entry_read left >>= top_taken extent found

@@ -6,7 +6,7 @@ use Rattle.ffv1_avi.specs.declared.place.Names.{Names}
 use Rattle.ffv1_avi.specs.declared.place.Names.TheVariants.{Any}
 use Rattle.ffv1_avi.specs.declared.place.Place.{Place}
 
--- how far is read: bytes after this RIFF are looked at only where every RIFF is read
+-- how far is read: bytes after this RIFF are looked at only if every RIFF is read
 abbrev pub extent_of : Place → Extent
 extent_of place = if place.input == 0 then FirstMovi else EveryRiff
 
@@ -23,7 +23,7 @@ abbrev pub most_input : ℕ
 most_input = 18446744073709551615
 
 -- the first movi, in an RIFF that has so many bytes after it; which chunks stand in it is judged
--- where every RIFF is read
+-- if every RIFF is read
 abbrev pub first_place : Extent → ℕ → ℕ → Names → ℕ → Place
 first_place FirstMovi riff movi names owed =
     record { input = 0; riff = 0; movi = movi; names = Any; owed = 0 }
@@ -52,7 +52,7 @@ riff_at place size =
       owed = place.owed;
     }
 
--- after a frame, where movi has so many bytes left
+-- after a frame, if movi has so many bytes left
 abbrev pub frame_at : Place → ℕ → Place
 frame_at place left =
     record {

@@ -7,8 +7,8 @@ use Rattle.ffv1_avi.specs.Files.{frame_found}
 use Rattle.ffv1_reads.specs.Head.{Head}
 use Rattle.ffv1_avi.specs.declared.place.Place.{Place}
 
--- the head of its file, where it stands in that, the fault that it has met, for how many bytes its
--- record has room, and the bytes before where it stands
+-- the head of its file, the place in that, the fault that it has met, for how many bytes its record
+-- has room, and the bytes before that place
 pub record Standing : Type 0 where
   pub head : Head
   pub place : Place
@@ -29,7 +29,7 @@ abbrev pub next_with : List ℕ → Option Place → Option (List ℕ × Place)
 next_with bytes None = None
 next_with bytes (Some place) = Some (bytes, place)
 
--- what is left where no frame was read to its end: a beginning of the one that was found, or
+-- what is left if no frame was read to its end: a beginning of the one that was found, or
 -- nothing
 abbrev pub Leaves : Place → Option (List ℕ) → List ℕ → Type 0
 Leaves place None bytes = ⊤

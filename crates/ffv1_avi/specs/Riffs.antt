@@ -81,7 +81,7 @@ AreExtended (c ∷ cs) (inner ∷ inners) =
 abbrev pub is_total : Chunk → Bool
 is_total c = is_named (codes "dmlh") c && nat_le 4 (length c.bytes)
 
--- that number, of the first one; 0 where there is none
+-- that number, of the first one; 0 if there is none
 abbrev pub total_of : Option Chunk → ℕ
 total_of None = 0
 total_of (Some c) = little_number 4 c.bytes

@@ -7,6 +7,7 @@ use Rattle.byteorder.specs.Endian.{little_number}
 use Rattle.ffv1_reads.specs.declared.fault.FileFault.TheVariants as fault
 use Rattle.ffv1_avi.specs.declared.place.Extent.{Extent}
 use Rattle.ffv1_avi.specs.declared.place.Extent.TheVariants.{FirstMovi, EveryRiff}
+use Rattle.ffv1_reads.specs.Bitmap as bitmap
 use Rattle.ffv1_reads.specs.Head.{Head, limit}
 use Rattle.ffv1_reads.specs.Reads.{Looked, Kept, Reading, Want, given, refused, taken, wanted}
 use Rattle.ffv1_reads.specs.Reads.{passed}
@@ -14,7 +15,7 @@ use Rattle.ffv1_avi.specs.Padding.{padded, content}
 use Rattle.ffv1_reads.specs.Reads.{◌>>=◌}
 use Rattle.ffv1_avi.specs.Walk.{is_name, Visit, walk}
 
--- the rate and the scale of a stream's header, where it is one of video
+-- the rate and the scale of a stream's header, if it is one of video
 abbrev pub rates_of : List ℕ → Option (ℕ × ℕ)
 rates_of bytes =
     if nat_le 56 (length bytes) && is_name (take 4 bytes) (codes "vids")
@@ -27,13 +28,13 @@ pub record Format : Type 0 where
   pub height : ℕ
   pub config_record : List ℕ
 
--- where the record ends in a format of such a size: where biSize, the first number, says so; or at
+-- where the record ends in a format of a given size: where biSize, the first number, says so; or at
 -- the end of the chunk
 abbrev pub record_end : Extent → ℕ → ℕ → ℕ
 record_end FirstMovi says size = size
-record_end EveryRiff says size = if nat_lt 40 says && nat_lt says size then says else size
+record_end EveryRiff says size = bitmap.record_end says size
 
--- a stream's format, where it is FFV1
+-- a stream's format, if it is FFV1
 abbrev pub format_of : Extent → List ℕ → Option Format
 format_of extent bytes =
     if nat_le 40 (length bytes) && is_name (take 4 (drop 16 bytes)) (codes "FFV1")
@@ -80,7 +81,7 @@ abbrev pub no_video : Extent → Reading (Option Head)
 no_video FirstMovi = refused fault.NoFfv1
 no_video EveryRiff = given None
 
--- a stream is judged at its end: its head, where it is FFV1 video
+-- a stream is judged at its end: its head, if it is FFV1 video
 abbrev pub stream_judged : Extent → Option (Option (ℕ × ℕ)) → Option (Option Format) →
     Reading (Option Head)
 stream_judged extent (Some (Some rates)) (Some (Some format)) =
@@ -91,11 +92,11 @@ stream_judged extent rates format = no_video extent
 abbrev pub skipped : {S Y : Type 0} → S → ℕ → Reading (S × Option Y)
 skipped s size = passed (padded size) >>= λ _. given (s, None)
 
--- what a header of such a size says
+-- what a header of a given size says
 unfoldable pub rates_in : ℕ → Reading (Option (ℕ × ℕ))
 rates_in size = content Looked size >>= λ bytes. given (rates_of bytes)
 
--- what a format says whose first 40 bytes are these, and after them the record, where it is FFV1
+-- what a format says whose first 40 bytes are these, and after them the record, if it is FFV1
 abbrev pub format_behind : List ℕ → List ℕ → Option Format
 format_behind front config =
     Some (record {
@@ -104,8 +105,7 @@ format_behind front config =
       config_record = config;
     })
 
--- the rest of a format of such a size, after its first 40 bytes: the record is kept where it is
--- FFV1
+-- the rest of a format of a given size, after its first 40 bytes: the record is kept if it is FFV1
 abbrev pub format_rest : Extent → Want → ℕ → List ℕ → Reading (Option Format)
 format_rest extent w size front =
     if is_name (take 4 (drop 16 front)) (codes "FFV1")
@@ -119,7 +119,7 @@ format_by extent w size =
     if nat_lt size 40 then (passed (padded size) >>= λ _. given None)
     else (taken 40 >>= format_rest extent w size)
 
--- what a format of such a size says
+-- what a format of a given size says
 unfoldable pub format_in : Extent → ℕ → Reading (Option Format)
 format_in extent size = format_by extent Kept size
 
@@ -143,7 +143,7 @@ visit_field extent k e =
     else if is_name e.name (codes "strf") then format_read extent k e.size k.format
     else skipped k e.size
 
--- a stream's list with so many bytes after its own name: its head, where it is FFV1 video
+-- a stream's list with so many bytes after its own name: its head, if it is FFV1 video
 unfoldable pub stream_read : Extent → ℕ → Reading (Option Head)
 stream_read extent room =
     walk (visit_field extent) room nothing_known >>= λ k.

@@ -39,7 +39,7 @@ entry_in barred left =
 abbrev pub entry_read : ℕ → Reading (Option Entry)
 entry_read left = entry_in bars_none left
 
--- what is made of a chunk after its header: the state that it leads to, and, where the walk stops,
+-- what is made of a chunk after its header: the state that it leads to, and, if the walk stops,
 -- an outcome
 abbrev pub Visit : Type 0 → Type 0 → Type 0
 Visit S Y = S → Entry → Reading (S × Option Y)
@@ -63,8 +63,8 @@ walk_up_to barred visit zero left s = given (s, None)
 walk_up_to barred visit (suc most) left s =
     entry_in barred left >>= visited visit (walk_up_to barred visit most) s
 
--- the chunks of such a list are walked, to its end or to where a visit stops; each takes at least 8
--- bytes
+-- the chunks of a list of that size are walked, to its end or to where a visit stops; each takes at
+-- least 8 bytes
 abbrev pub walk_in : {S Y : Type 0} → (List ℕ → Bool) → Visit S Y → ℕ → S →
     Reading (S × Option Y)
 walk_in barred visit left s = walk_up_to barred visit left left s

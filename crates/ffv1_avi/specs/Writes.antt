@@ -8,7 +8,7 @@ use Rattle.ffv1_avi.specs.Written.{file_of, most, riff_size}
 use Rattle.ffv1_reads.specs.declared.fault.FileFault.{FileFault}
 use Rattle.ffv1_reads.specs.declared.fault.FileFault.TheVariants as fault
 
--- the file of a head and frames was written, or refused before any byte where it would be too large
+-- the file of a head and frames was written, or refused before any byte if it would be too large
 abbrev pub WritesFile : Passage → Head → List (List ℕ) → Result (Unit {0}) FileFault → Type 0
 WritesFile p head frames (Err fault.TooLarge) =
     (most < riff_size head frames) × (p.after ≡ p.before) × Keeps p.old p.new

@@ -4,25 +4,17 @@ use Rattle.std.specs.Prelude.{ℕ, ◌+◌, ◌*◌, ◌/◌, ◌%◌, ◌==◌,
 use Rattle.std.specs.Prelude.{length, replicate, codes, flat_map, map, nat_le, sum, Option, Some}
 use Rattle.std.specs.Prelude.{None}
 use Rattle.std.specs.declared.vec.Vec.{Vec}
-use Rattle.byteorder.specs.Endian.{little_bytes}
 use Rattle.ffv1_avi.specs.declared.field.Field.{Field}
 use Rattle.ffv1_avi.specs.declared.field.Field.TheVariants.{Name, Number, Pair}
+use Rattle.ffv1_reads.specs.Bitmap.{bitmap_header, number, pair}
 use Rattle.ffv1_reads.specs.Head.{Head}
 use Rattle.ffv1_avi.specs.Padding.{padded}
-
--- a number of 4 bytes
-abbrev pub number : ℕ → List ℕ
-number n = little_bytes 4 n
-
--- two numbers of 2 bytes
-abbrev pub pair : ℕ → ℕ → List ℕ
-pair a b = little_bytes 2 a ++ little_bytes 2 b
 
 -- the padding of so many bytes
 abbrev pub padding : ℕ → List ℕ
 padding size = replicate (size % 2) 0
 
--- microseconds a frame, in 32 bits; 0 where there is no rate
+-- microseconds a frame, in 32 bits; 0 if there is no rate
 abbrev pub microseconds : ℕ → ℕ → ℕ
 microseconds rate scale = if rate == 0 then 0 else min (1000000 * scale / rate) 4294967295
 
@@ -63,15 +55,12 @@ strh head count =
     count
     ∷ number 0 ∷ number 0 ∷ number 0 ∷ pair 0 0 ∷ pair head.width head.height ∷ []
 
--- the stream's format, BITMAPINFOHEADER, up to the configuration record: its name and size, then
--- biSize (40, without the record), biWidth, biHeight, biPlanes (which is always 1) and biBitCount
--- (three samples of 8), biCompression, biSizeImage, biXPelsPerMeter, biYPelsPerMeter, biClrUsed,
--- biClrImportant
+-- the stream's format up to the configuration record: its name and size, then BITMAPINFOHEADER,
+-- with its size without the record, and no size of a picture
 abbrev pub strf : Head → List (List ℕ)
 strf head =
     codes "strf" ∷ number (40 + length head.config_record)
-    ∷ number 40 ∷ number head.width ∷ number head.height ∷ pair 1 24 ∷ codes "FFV1"
-    ∷ number 0 ∷ number 0 ∷ number 0 ∷ number 0 ∷ number 0 ∷ []
+    ∷ bitmap_header 40 head.width head.height 0
 
 -- fields, one after the other
 abbrev pub spelled : List (List ℕ) → List ℕ
@@ -93,7 +82,7 @@ front head count size =
     spelled (opening size (format_size head)) ++ spelled (avih head count)
     ++ spelled (stream head (format_size head) count) ++ spelled (strf head)
 
--- all before movi, for so many frames, where RIFF has such a size
+-- all before movi, for so many frames, for the given size of RIFF
 abbrev pub head_text : Head → ℕ → ℕ → List ℕ
 head_text head count size =
     front head count size ++ head.config_record ++ padding (40 + length head.config_record)
@@ -117,7 +106,7 @@ file_of head frames =
 abbrev pub most : ℕ
 most = 2147483647
 
--- the sizes of movi and RIFF, where that is not too great
+-- the sizes of movi and RIFF, if that is not too great
 abbrev pub sizes_of : Head → List (List ℕ) → Option (ℕ × ℕ)
 sizes_of head frames =
     if nat_le (riff_size head frames) most then Some

@@ -38,9 +38,9 @@ pub(crate) fn padded(size: u32) -> u64
 
 /// The header of the next chunk of a list that has so many bytes left, or None at its end.
 ///
-/// `Truncated` where the input ends before; then `NotAvi` where the list bars the chunk's name;
-/// `Truncated` where the chunk does not fit in the list; `NotAvi` where it is a list without room
-/// for its own name.
+/// `Truncated` if the input ends before that; then `NotAvi` if the list bars the chunk's name;
+/// `Truncated` if the chunk does not fit in the list; `NotAvi` if it is a list without room for its
+/// own name.
 #[tactic(auto, unfolding(crate::specs::Walk::entry_in))]
 pub(crate) fn next_entry_in<R: ByteIn>(
     input: &mut R,

@@ -1,5 +1,5 @@
-//! Laws of files: what is read is a file by its chunks, such a file is read, and what was written
-//! is read back.
+//! Laws of files: what is read is a file by its chunks, a file by its chunks is read, and what was
+//! written is read back.
 
 ghost use Rattle.std.specs.Prelude.{◌≡◌, ◌<◌, ◌≤◌, ◌+◌, ◌++◌, ◌&&◌, ℕ, List, codes, length, []};
 ghost use Rattle.std.specs.Prelude.{false, flat_map, nat_le, take, true, Option, Some, None};
@@ -43,8 +43,8 @@ pub fn what_is_read_is_a_file()
         file_read FirstMovi file ≡ Ok ((head, frames), rest) → AviFile file head frames }
 {}
 
-/// Where every RIFF is read and the frames come to an end, nothing is left of the input, and it is
-/// a file of that head and those frames: each chunk of the stream's frames, in every movi of every
+/// If every RIFF is read and the frames come to an end, nothing is left of the input, and it is a
+/// file of that head and those frames. Each chunk of the stream's frames, in every movi of every
 /// RIFF, was given, in order.
 pub fn every_riff_is_read_whole()
     ensures { (file : List ℕ) (head : Head) (frames : List (List ℕ)) (rest : List ℕ) →
@@ -52,16 +52,16 @@ pub fn every_riff_is_read_whole()
         RiffFile file head frames × (rest ≡ []) }
 {}
 
-/// A beginning of a file that is read, up to the end of `movi`, ends where more bytes are wanted.
+/// A beginning of a file that is read, up to the end of `movi`, ends when more bytes are wanted.
 pub fn shorter_file_wants_more_bytes()
     ensures { (file : List ℕ) (head : Head) (frames : List (List ℕ)) (is : AviFile file head frames)
         (beginning more : List ℕ) → file ≡ (beginning ++ more) ++ is.rest → 0 < length more →
         EndsEarly (file_read FirstMovi) beginning }
 {}
 
-/// A beginning of a file of which every RIFF is read ends where more bytes are wanted, but at the
-/// edge of an RIFF. There the frames of the RIFFs before it are read, where they are not fewer than
-/// `dmlh` says; and else those are given, one by one, and then more bytes are wanted.
+/// A beginning of a file of which every RIFF is read ends when more bytes are wanted, except at the
+/// edge of an RIFF. There the frames of the RIFFs before it are read, if they are not fewer than
+/// `dmlh` says. Otherwise they are given, one by one, and then more bytes are wanted.
 pub fn shorter_riffs_want_more_bytes()
     ensures within { (file : List ℕ) (head : Head) (frames : List (List ℕ))
         (is : RiffFile file head frames) (beginning more : List ℕ) → file ≡ beginning ++ more →
@@ -78,9 +78,9 @@ pub fn shorter_riffs_want_more_bytes()
         GivesThen beginning head (frames_to is before) (Short Looked) }
 {}
 
-/// After the last RIFF nothing but an RIFF may stand. All frames are given, one by one, and then
-/// four bytes that are another name are refused, and so is an RIFF that is no `AVIX`, or too small
-/// for its form; where fewer bytes than a header has are left, more are wanted. What is refused so
+/// After the last RIFF nothing but an RIFF may come. All frames are given, one by one, and then
+/// four bytes that are another name are refused. So is an RIFF that is no `AVIX`, or too small for
+/// its form. If fewer bytes than a header has are left, more are wanted. A file that is so refused
 /// is not read as a whole file.
 pub fn only_riffs_follow_riffs()
     ensures name { (file : List ℕ) (head : Head) (frames : List (List ℕ)) →
@@ -103,16 +103,16 @@ pub fn only_riffs_follow_riffs()
         GivesThen file head frames why → file_read EveryRiff file ≡ Err why }
 {}
 
-/// Where `movi` comes after no stream, the file has no FFV1, and nothing after the name of `movi`
+/// When `movi` comes after no stream, the file has no FFV1, and nothing after the name of `movi`
 /// is read.
 pub fn movi_before_streams_is_refused()
     ensures { (file : List ℕ) (parts : List Part) (rest : List ℕ) → MoviBegins file parts rest →
         streams parts ≡ [] → open_read FirstMovi file ≡ Err (Met fault.NoFfv1 rest) }
 {}
 
-/// A chunk that passes its list is truncated, and nothing after its header is read: in `movi`
-/// after chunks that are no frames, in RIFF and in `hdrl` after chunks whose first stream, if
-/// there is one, is FFV1, and in the first stream after chunks of which no format is too long.
+/// A chunk that passes its list is truncated, and nothing after its header is read. So it is in
+/// `movi` after chunks that are no frames, in RIFF and in `hdrl` after chunks whose first stream,
+/// if there is one, is FFV1, and in the first stream after chunks of which no format is too long.
 pub fn long_chunk_is_truncated()
     ensures movi { (chunks : List Chunk) (left : ℕ) (name size rest : List ℕ) → AreChunks chunks →
         those (is_named (codes "LIST")) chunks ≡ [] → those (is_named (codes "00dc")) chunks ≡ [] →
@@ -135,8 +135,8 @@ pub fn long_chunk_is_truncated()
         Passes left name size → open_read FirstMovi file ≡ Err (Met fault.Truncated rest) }
 {}
 
-/// Where every RIFF is read, and `movi` comes where none of the first 100 streams is FFV1 video,
-/// the file has no FFV1, and nothing after the name of `movi` is read.
+/// If every RIFF is read, and `movi` comes when none of the first 100 streams is FFV1 video, the
+/// file has no FFV1, and nothing after the name of `movi` is read.
 pub fn movi_after_other_streams_is_refused()
     ensures { (file : List ℕ) (parts : List Part) (rest : List ℕ) → MoviBegins file parts rest →
         AreOthers EveryRiff (take 100 (streams parts)) →
@@ -144,12 +144,12 @@ pub fn movi_after_other_streams_is_refused()
         open_read EveryRiff file ≡ Err (Met fault.NoFfv1 rest) }
 {}
 
-/// Where every RIFF is read, a chunk that passes its list is truncated, and nothing after its
-/// header is read: in RIFF, in `hdrl` and in `odml` after chunks whose streams can be read, up to
-/// the one that counts; in a stream's list where none before it counts, after chunks of which no
-/// format is too long; in any `movi` after chunks that may stand there and are no frames, where it
-/// may stand there itself or is a list;
-/// and in RIFF after a `movi`, or in the next RIFF, after chunks that are no `movi` and no frames.
+/// If every RIFF is read, a chunk that passes its list is truncated, and nothing after its header
+/// is read. So it is in RIFF, in `hdrl` and in `odml` after chunks whose streams can be read, up to
+/// the one that counts; in a stream's list if none before it counts, after chunks of which no
+/// format is too long; in any `movi` after chunks that may stand there and are no frames, if it may
+/// stand there itself or is a list; and in RIFF after a `movi`, or in the next RIFF, after chunks
+/// that are no `movi` and no frames.
 pub fn long_chunk_in_riffs_is_truncated()
     ensures riff { (file : List ℕ) (parts : List Part) (left : ℕ) (name size rest : List ℕ) →
         RiffBegins file parts left ((name ++ size) ++ rest) → AreCounted 100 (streams parts) →
@@ -201,7 +201,7 @@ pub fn long_chunk_in_riffs_is_truncated()
 {}
 
 /// A file of a head and frames, by its chunks, is read as that head and those frames, and it has no
-/// others. Where every RIFF is read, nothing is left of it.
+/// others. If every RIFF is read, nothing is left of it.
 pub fn file_is_read_as_its_frames()
     ensures read { (file : List ℕ) (head : Head) (frames : List (List ℕ))
         (is : AviFile file head frames) → file_read FirstMovi file ≡ Ok ((head, frames), is.rest) }
@@ -214,10 +214,10 @@ pub fn file_is_read_as_its_frames()
         (head ≡ other) × (frames ≡ others) }
 {}
 
-/// Where every RIFF is read, a movi holds only what a name lists: a name of four bytes may stand
-/// there exactly where it is that of a frame of the stream, compressed or not, of its palette, of
-/// another one of the streams, of an index, or JUNK. Any other is refused behind its header, and
-/// nothing after that is read; but for a list its size is not looked at.
+/// If every RIFF is read, a movi holds only what a name lists: a name of four bytes may stand there
+/// exactly if it is that of a frame of the stream, compressed or not, of its palette, of another
+/// one of the streams, of an index, or JUNK. Any other is refused after its header, and nothing
+/// after that is read. Its size is not looked at, unless it is a list.
 pub fn movi_holds_listed_chunks()
     ensures frames { (stream streams : ℕ) (name : List ℕ) → stream < 100 →
         is_frame (Closed stream streams) name ≡ true → IsFrameName stream name }
@@ -236,14 +236,14 @@ pub fn movi_holds_listed_chunks()
 {}
 
 /// What is written is a file of its head and frames, by its chunks, of one RIFF, and is read back,
-/// where the first `movi` alone is read and where every RIFF is.
+/// if the first `movi` alone is read and if every RIFF is.
 pub fn written_file_is_read_back()
-    ensures file { (head : Head) (frames : List (List ℕ)) → IsWritable head frames →
+    ensures file { (head : Head) (frames : List (List ℕ)) → IsWritable FirstMovi head frames →
         AviFile (file_of head frames) head frames }
-    ensures read { (head : Head) (frames : List (List ℕ)) → IsWritable head frames →
+    ensures read { (head : Head) (frames : List (List ℕ)) → IsWritable FirstMovi head frames →
         file_read FirstMovi (file_of head frames) ≡ Ok ((head, frames), []) }
-    ensures riff { (head : Head) (frames : List (List ℕ)) → IsWritable head frames →
+    ensures riff { (head : Head) (frames : List (List ℕ)) → IsWritable EveryRiff head frames →
         RiffFile (file_of head frames) head frames }
-    ensures every { (head : Head) (frames : List (List ℕ)) → IsWritable head frames →
+    ensures every { (head : Head) (frames : List (List ℕ)) → IsWritable EveryRiff head frames →
         file_read EveryRiff (file_of head frames) ≡ Ok ((head, frames), []) }
 {}

@@ -4,8 +4,8 @@
 //!
 //! `write_avi` writes a `FileHead` and frames. `AviReader::open` and `AviReader::open_all` read a
 //! file up to its first list `movi`, the one to read the frames of that alone, the other those of
-//! every `movi` of every RIFF; then `AviReader::head` tells its head, and each
-//! `AviReader::next_frame` gives the next frame, until it answers false. A reader holds no input,
+//! every `movi` of every RIFF. Then `AviReader::head` tells its head, and each
+//! `AviReader::next_frame` gives the next frame, until it answers false. A reader holds no input:
 //! each call is lent the same one. `FileFault` says why a file could not be read or written. The
 //! test `read_back` of `ffv1_tests` runs this:
 //!

@@ -2,12 +2,13 @@
 
 ghost use Rattle.std.specs.Prelude.{◌≡◌, ◌+◌, ◌/◌, ◌%◌, ◌∷◌, []};
 ghost use Rattle.ffv1_avi.specs.Names.{are_digits, bars, bitmap_name, frame_name, is_barred};
-ghost use Rattle.ffv1_avi.specs.Names.{is_digit};
+ghost use Rattle.ffv1_avi.specs.Names.{is_digit, most_bytes};
 ghost use Rattle.ffv1_avi.specs.Names.{is_frame, is_index, is_of_other, is_stream_frame};
 ghost use Rattle.ffv1_avi.specs.Names.{palette_name, stands_beside};
 
 use crate::chunk::is_name;
 use crate::place::Names;
+use ffv1_reads::{FRAME_LIMIT, LIMIT};
 
 /// Whether a byte is a digit.
 fn is_digit(byte: u8) -> bool
@@ -77,6 +78,16 @@ pub(crate) fn is_frame(names: Names, name: [u8; 4]) -> bool
     match names {
         Names::Any => is_name(&name, b"00dc"),
         Names::Closed(stream, _) => is_stream_frame(stream, name),
+    }
+}
+
+/// The most bytes of a frame that are read.
+pub(crate) fn most_bytes(names: Names) -> u32
+    ensures { result ≡ most_bytes names }
+{
+    match names {
+        Names::Any => LIMIT,
+        Names::Closed(_, _) => FRAME_LIMIT,
     }
 }
 

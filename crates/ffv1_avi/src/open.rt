@@ -65,7 +65,7 @@ fn stream_found(found: Found, sizes: Option<Sizes>) -> Found
     found
 }
 
-/// What is known where a stream came. The streams are counted where every RIFF is read.
+/// What is known when a stream came. The streams are counted if every RIFF is read.
 fn stream_came(extent: Extent, found: Found) -> Found
     ensures { (bytes : List ℕ) →
         headers_with result bytes ≡ stream_came extent (headers_with found bytes) }
@@ -77,7 +77,7 @@ fn stream_came(extent: Extent, found: Found) -> Found
     found
 }
 
-/// A stream's list, of such a size, after its own name, with its padding.
+/// A stream's list, of a given size, after its own name, with its padding.
 fn visit_stream<R: ByteIn, A: Allocator>(
     input: &mut R,
     extent: Extent,
@@ -146,7 +146,7 @@ fn visit_extended<R: ByteIn>(
     Ok(frames)
 }
 
-/// The list odml of such a size after its own name, with its padding.
+/// The list odml of a given size after its own name, with its padding.
 #[tactic(auto, unfolding(crate::specs::Files::extended_read))]
 fn read_extended<R: ByteIn>(
     input: &mut R,
@@ -167,7 +167,7 @@ fn read_extended<R: ByteIn>(
     Ok(frames)
 }
 
-/// The list odml of such a size after its own name, which is looked at where every RIFF is read.
+/// The list odml of a given size after its own name, which is looked at if every RIFF is read.
 fn extend<R: ByteIn>(
     input: &mut R,
     extent: Extent,
@@ -187,7 +187,7 @@ fn extend<R: ByteIn>(
     Ok(found)
 }
 
-/// A list of hdrl of such a size, by its own name.
+/// A list of hdrl of a given size, by its own name.
 fn visit_header_list<R: ByteIn, A: Allocator>(
     input: &mut R,
     extent: Extent,
@@ -236,7 +236,7 @@ fn visit_header<R: ByteIn, A: Allocator>(
     Ok(found)
 }
 
-/// The list hdrl of such a size after its own name, with its padding.
+/// The list hdrl of a given size after its own name, with its padding.
 #[tactic(auto, unfolding(crate::specs::Files::header_read))]
 fn read_header<R: ByteIn, A: Allocator>(
     input: &mut R,
@@ -269,7 +269,7 @@ pub(crate) enum Top {
     Movi(Found, Sizes, Place),
 }
 
-/// The first movi, of so many bytes, where RIFF has so many after it.
+/// The first movi, of so many bytes, if RIFF has so many after it.
 fn first_place(extent: Extent, riff: u32, movi: u32, found: Found) -> Place
     ensures { result ≡ first_place extent riff movi (Closed found.passed found.streams)
         (owed found.frames) }

@@ -16,10 +16,10 @@ pub enum Extent {
 /// Which chunks a movi has, by their names.
 #[derive(Clone, Copy)]
 pub(crate) enum Names {
-    /// Where the first movi is read alone: the frames are `00dc`, and all but lists may stand
+    /// If the first movi is read alone: the frames are `00dc`, and all but lists may stand
     /// beside them.
     Any,
-    /// Where every RIFF is read: those of the stream of this number, of so many that two digits can
+    /// If every RIFF is read: those of the stream of this number, of so many that two digits can
     /// name, and what may stand beside its frames.
     Closed(u8, u8),
 }
@@ -27,7 +27,7 @@ pub(crate) enum Names {
 /// Where a reader stands: in a movi.
 #[derive(Clone, Copy)]
 pub(crate) struct Place {
-    /// Bytes that are read at most after this RIFF; 0 where the first movi is read alone.
+    /// Bytes that are read at most after this RIFF; 0 if the first movi is read alone.
     pub(crate) input: u64,
     /// Bytes that this RIFF has after movi.
     pub(crate) riff: u32,
@@ -35,7 +35,7 @@ pub(crate) struct Place {
     pub(crate) movi: u32,
     /// Which chunks movi has.
     pub(crate) names: Names,
-    /// Frames that `dmlh` says are still to come; 0 where there is none.
+    /// Frames that `dmlh` says are still to come; 0 if there is none.
     pub(crate) owed: u32,
 }
 

@@ -13,6 +13,7 @@ ghost use Rattle.ffv1_wire.specs.Passage.{passage};
 ghost use Rattle.ffv1_avi.specs.Internal.Ending.{AnswersOrNone};
 ghost use Rattle.ffv1_avi.specs.Offsets.{OffsetAfter};
 ghost use Rattle.ffv1_avi.specs.Internal.Offsets.{FindsFrom, FindsInMovi, MovesTo};
+ghost use Rattle.ffv1_avi.specs.Names.{most_bytes, most_in};
 ghost use Rattle.ffv1_avi.specs.Offsets.{OffsetOpened};
 ghost use Rattle.ffv1_avi.specs.Places.{amount, ended, extent_of, frame_at};
 ghost use Rattle.ffv1_reads.specs.Reads.{Answers};
@@ -25,23 +26,23 @@ ghost use Rattle.ffv1_avi.specs.declared.place.Extent.TheVariants.{FirstMovi, Ev
 ghost use Rattle.ffv1_avi.specs.declared.place.Place.{Place};
 
 use crate::chunk::{Entry, is_name, next_entry_in, padded};
-use crate::names::{is_barred, is_frame};
+use crate::names::{is_barred, is_frame, most_bytes};
 use crate::open::read_opening;
 use crate::place::{Extent, Names, Place, ended};
 use crate::riff::move_on;
-use ffv1_reads::{FileFault, FileHead, LIMIT, fill, pass};
+use ffv1_reads::{FileFault, FileHead, fill, pass};
 use ffv1_wire::ByteIn;
 use std::alloc::{Allocator, Global};
 use std::marker::Model;
 
-/// A chunk of movi: the size of a frame, or None where it was passed.
+/// A chunk of movi: the size of a frame, or None if it was passed.
 #[tactic(auto, unfolding(crate::specs::Files::visit_movi))]
 fn visit_movi<R: ByteIn>(
     input: &mut R,
     names: Names,
     entry: Entry,
 ) -> Result<Option<u32>, FileFault>
-    ensures sized { IfOk result (λ o. IfSome o (λ n. (0 < n) × (n ≤ 67108864))) }
+    ensures sized { IfOk result (λ o. IfSome o (λ n. (0 < n) × (n ≤ most_bytes names))) }
     ensures answer { Answers (λ (size : Option ℕ). (tt, frame_with size entry.left))
         (visit_movi names tt entry) (passage R.remaining R.failures input.old input.new) result }
 {
@@ -52,7 +53,7 @@ fn visit_movi<R: ByteIn>(
         pass(input, padded(entry.size))?;
         return Ok(None);
     }
-    if entry.size > LIMIT {
+    if entry.size > most_bytes(names) {
         return Err(FileFault::ChunkTooLong);
     }
     if entry.size == 0 {
@@ -69,7 +70,7 @@ fn find_in_movi<R: ByteIn>(
     place: Place,
     offset: &mut u64,
 ) -> Result<Option<(u32, u32)>, FileFault>
-    ensures sized { IfOk result (λ o. IfSome o (λ p. (0 < p.0) × (p.0 ≤ 67108864))) }
+    ensures sized { IfOk result (λ o. IfSome o (λ p. (0 < p.0) × (p.0 ≤ most_bytes place.names))) }
     ensures answer { Answers (λ (p : Option (ℕ × ℕ)). p) (movi_found place.names place.movi)
         (passage R.remaining R.failures input.old input.new) result }
     ensures from { FindsInMovi place (passage R.remaining R.failures input.old input.new) result
@@ -86,7 +87,7 @@ fn find_in_movi<R: ByteIn>(
     Ok(None)
 }
 
-/// The place after a frame's header, where movi has so many bytes left.
+/// The place after a frame's header, if movi has so many bytes left.
 fn frame_at(place: Place, left: u32) -> Place
     ensures { result ≡ frame_at place left }
 {
@@ -106,7 +107,7 @@ fn find_frame<R: ByteIn>(
     place: Place,
     offset: &mut u64,
 ) -> Result<Option<(u32, Place)>, FileFault>
-    ensures sized { IfOk result (λ o. IfSome o (λ p. (0 < p.0) × (p.0 ≤ 67108864))) }
+    ensures sized { IfOk result (λ o. IfSome o (λ p. (0 < p.0) × (p.0 ≤ most_bytes place.names))) }
     ensures answer { AnswersOrNone (extent_of place) (λ (p : Option (ℕ × Place)). p)
         (frame_found place) (passage R.remaining R.failures input.old input.new) result }
     ensures from { FindsFrom place (passage R.remaining R.failures input.old input.new) result
@@ -125,7 +126,7 @@ fn find_frame<R: ByteIn>(
 }
 
 /// The next frame in place of what the vector has, and the place after it; None at the end. The
-/// chunks before its own are counted, and its own where there is no fault.
+/// chunks before its own are counted, and its own if there is no fault.
 fn read_frame<R: ByteIn, A: Allocator>(
     input: &mut R,
     place: Place,
@@ -135,10 +136,12 @@ fn read_frame<R: ByteIn, A: Allocator>(
     ensures answer { AnswersFrom place (λ (after : Option Place). next_with frame.new.items after)
         (frame_read place) (passage R.remaining R.failures input.old input.new) result }
     ensures sized { IfOk result
-        (λ o. OnSome o ((0 < length frame.new.items) × (length frame.new.items ≤ 67108864))) }
+        (λ o. OnSome o ((0 < length frame.new.items)
+        × (length frame.new.items ≤ most_bytes place.names))) }
     ensures none { IfOk result (λ after. after ≡ None → frame.new.items ≡ []) }
     ensures less { IfOk result (λ o. IfSome o (λ after. amount after < amount place)) }
     ensures same { IfOk result (λ o. IfSome o (λ after. extent_of after ≡ extent_of place)) }
+    ensures names { IfOk result (λ o. IfSome o (λ after. after.names ≡ place.names)) }
     ensures err { OnErr result (Leaves place (R.remaining input.old) frame.new.items) }
     ensures room { HasRoom (vec_capacity frame.old) (vec_capacity frame.new)
         (length frame.new.items) result }
@@ -183,15 +186,16 @@ impl<A: Allocator> AviReader<A> {
     /// Reads a file up to its first `movi`, the frames of which are then read, and takes memory for
     /// its configuration record alone, with room for at most as many bytes as were read.
     ///
-    /// `Truncated` where a chunk does not fit in its list or the input ends inside it; `NotAvi`
-    /// where the file does not begin as an AVI, a list has no room for its own name, there is no
-    /// `movi`, or rate or scale is zero alone; `NoFfv1` where the first `strl` is no FFV1 video, or
-    /// `movi` comes before any; `ChunkTooLong` where its format is above 67108864 bytes; `Read`
-    /// where a read failed, `OutOfMemory`.
+    /// `Truncated` if a chunk does not fit in its list or the input ends inside it. `NotAvi` if the
+    /// file does not begin as an AVI, a list has no room for its own name, there is no `movi`, or
+    /// one of rate and scale is zero and the other is not. `NoFfv1` if the first `strl` is no FFV1
+    /// video, or `movi` comes before any. `ChunkTooLong` if its format is above 67108864 bytes.
+    /// `Read` if a read failed, `OutOfMemory`.
     pub fn open<R: ByteIn>(alloc: A, input: &mut R) -> Result<AviReader<A>, FileFault>
         ensures answer { Answers opened_at (open_read FirstMovi)
             (passage R.remaining R.failures input.old input.new) result }
         ensures sound { IfOk result (λ r. r.fault ≡ None) }
+        ensures most { IfOk result (λ r. most_bytes r.place.names ≡ most_in FirstMovi) }
         ensures own { IfErr result (λ f. is_opening_fault f ≡ true) }
         ensures room { IfOk result (λ r. RoomRead (R.remaining input.old)
             (R.remaining input.new) 0 r.room) }
@@ -206,15 +210,16 @@ impl<A: Allocator> AviReader<A> {
     /// read.
     ///
     /// The first `strl` that is FFV1 video counts, of the first 100. The record ends where the
-    /// first number of its format says, where that lies inside it. `Truncated` where a chunk does
-    /// not fit in its list or the input ends inside it; `NotAvi` where the file does not begin as
-    /// an AVI, a list has no room for its own name, there is no `movi`, or rate or scale is zero
-    /// alone; `NoFfv1` where `movi` comes and no `strl` counts; `ChunkTooLong` where a format is
-    /// above 67108864 bytes; `Read` where a read failed, `OutOfMemory`.
+    /// first number of its format says, if that lies inside it. `Truncated` if a chunk does not fit
+    /// in its list or the input ends inside it. `NotAvi` if the file does not begin as an AVI, a
+    /// list has no room for its own name, there is no `movi`, or one of rate and scale is zero and
+    /// the other is not. `NoFfv1` if `movi` comes and no `strl` counts. `ChunkTooLong` if a format
+    /// is above 67108864 bytes. `Read` if a read failed, `OutOfMemory`.
     pub fn open_all<R: ByteIn>(alloc: A, input: &mut R) -> Result<AviReader<A>, FileFault>
         ensures answer { Answers opened_at (open_read EveryRiff)
             (passage R.remaining R.failures input.old input.new) result }
         ensures sound { IfOk result (λ r. r.fault ≡ None) }
+        ensures most { IfOk result (λ r. most_bytes r.place.names ≡ most_in EveryRiff) }
         ensures own { IfErr result (λ f. is_opening_fault f ≡ true) }
         ensures room { IfOk result (λ r. RoomRead (R.remaining input.old)
             (R.remaining input.new) 0 r.room) }
@@ -223,7 +228,7 @@ impl<A: Allocator> AviReader<A> {
         AviReader::open_located(alloc, Extent::EveryRiff, None, input, &mut offset)
     }
 
-    /// The same of a file whose first byte was read before, where there was one.
+    /// The same of a file whose first byte was read before, if there was one.
     pub fn open_all_after<R: ByteIn>(
         alloc: A,
         first: Option<u8>,
@@ -232,6 +237,7 @@ impl<A: Allocator> AviReader<A> {
         ensures answer { Answers opened_at (open_read EveryRiff)
             (passage_with first R.remaining R.failures input.old input.new) result }
         ensures sound { IfOk result (λ r. r.fault ≡ None) }
+        ensures most { IfOk result (λ r. most_bytes r.place.names ≡ most_in EveryRiff) }
         ensures own { IfErr result (λ f. is_opening_fault f ≡ true) }
         ensures room { IfOk result (λ r. RoomRead (bytes_with first (R.remaining input.old))
             (R.remaining input.new) 0 r.room) }
@@ -240,12 +246,12 @@ impl<A: Allocator> AviReader<A> {
         AviReader::open_located(alloc, Extent::EveryRiff, first, input, &mut offset)
     }
 
-    /// Reads a file up to its first `movi`, to read it then so far, as `open` and `open_all` do,
-    /// and says where in the file a fault is: `offset` is then the number of bytes before the chunk
-    /// at fault, counting the byte that was read before; no greater than 2^64 - 1. That chunk is
-    /// the first twelve bytes of the file, or a chunk of its first RIFF: the list `hdrl` with all
-    /// that it has, of `movi` the header and its own name. Where RIFF ends before any `movi`, it is
-    /// where the next chunk would begin.
+    /// Reads a file up to its first `movi`, to read it then as far as `open` and `open_all` do, and
+    /// says where in the file a fault is: `offset` is then the number of bytes before the chunk at
+    /// fault, counting the byte that was read before; no greater than 2^64 - 1. That chunk is the
+    /// first twelve bytes of the file, or a chunk of its first RIFF: the list `hdrl` with all that
+    /// it has, of `movi` the header and its own name. If RIFF ends before any `movi`, it is where
+    /// the next chunk would begin.
     pub fn open_located<R: ByteIn>(
         alloc: A,
         extent: Extent,
@@ -256,6 +262,7 @@ impl<A: Allocator> AviReader<A> {
         ensures answer { Answers opened_at (open_read extent)
             (passage_with first R.remaining R.failures input.old input.new) result }
         ensures sound { IfOk result (λ r. r.fault ≡ None) }
+        ensures most { IfOk result (λ r. most_bytes r.place.names ≡ most_in extent) }
         ensures own { IfErr result (λ f. is_opening_fault f ≡ true) }
         ensures room { IfOk result (λ r. RoomRead (bytes_with first (R.remaining input.old))
             (R.remaining input.new) 0 r.room) }
@@ -295,21 +302,22 @@ impl<A: Allocator> AviReader<A> {
         &self.head
     }
 
-    /// Reads the next frame in place of what the vector has, and answers true; or false at the end,
-    /// where the vector is then empty, each time again, and then nothing is read. Of a reader that
-    /// `open` made the end is that of `movi`, and the bytes after it are left unread; of one that
-    /// `open_all` made it is the end of the input, after a whole RIFF.
+    /// Reads the next frame in place of what the vector has, and answers true; or false at the end.
+    /// The vector is then empty. Each further call answers false again, and reads nothing. Of a
+    /// reader that `open` made the end is that of `movi`, and the bytes after it are left unread;
+    /// of one that `open_all` made it is the end of the input, after a whole RIFF.
     ///
-    /// The input has to be the one that the reader was opened on. `Truncated` where a chunk does
-    /// not fit in its list or the input ends inside it, or before as many frames as `dmlh` says;
-    /// `NotAvi` where a list stands in `movi`, a list has no room for its own name, or no RIFF
-    /// `AVIX` stands after a RIFF; of a reader that `open_all` made, after its header, also where a
+    /// The input has to be the one that the reader was opened on. `Truncated` if a chunk does not
+    /// fit in its list or the input ends inside it, or before as many frames as `dmlh` says.
+    /// `NotAvi` if a list stands in `movi`, a list has no room for its own name, or no RIFF `AVIX`
+    /// comes after a RIFF. If `open_all` made the reader, `NotAvi` also, after its header, if a
     /// chunk stands in `movi` that is no frame `NNdc` or `NNdb` of the stream, its `NNpc`, a chunk
     /// of another of the streams, `ixNN` or `JUNK`, whatever its size; or a frame in RIFF after
-    /// a `movi`; `ChunkTooLong` for a frame above 67108864 bytes, of which no
-    /// byte is read, `EmptyFrame` for one of none, `Read` where a read failed, `OutOfMemory`. After
-    /// a fault the vector holds a beginning of the frame, and each further call answers the fault
-    /// again, empties the vector and reads nothing. The vector has room as `ffv1_reads::fill` says.
+    /// a `movi`; `ChunkTooLong` for a frame above 1073741824 bytes, or 67108864 of a reader that
+    /// `open` made, of which no byte is read, `EmptyFrame` for one of none, `Read` if a read
+    /// failed, `OutOfMemory`. After a fault the vector holds a beginning of the frame, and each
+    /// further call answers the fault again, empties the vector and reads nothing. The vector has
+    /// room as `ffv1_reads::fill` says.
     pub fn next_frame<R: ByteIn>(
         &mut self,
         input: &mut R,
@@ -321,13 +329,14 @@ impl<A: Allocator> AviReader<A> {
             (passage R.remaining R.failures input.old input.new) result }
         ensures stands { StandsAfter self.old result self.new }
         ensures sized { IfOk result (λ more. more ≡ true → (0 < length frame.new.items)
-            × (length frame.new.items ≤ 67108864)) }
+            × (length frame.new.items ≤ most_bytes self.old.place.names)) }
         ensures end { IfOk result (λ more. more ≡ false → (frame.new.items ≡ [])
             × (self.new.place ≡ ended)) }
         ensures less { IfOk result
             (λ more. more ≡ true → amount self.new.place < amount self.old.place) }
         ensures same { IfOk result
             (λ more. more ≡ true → extent_of self.new.place ≡ extent_of self.old.place) }
+        ensures most { most_bytes self.new.place.names ≤ most_bytes self.old.place.names }
         ensures own { self.old.fault ≡ None → IfErr result (λ f. is_frame_fault f ≡ true) }
         ensures err { OnErr result (Leaves self.old.place (R.remaining input.old) frame.new.items) }
         ensures room { HasRoom (vec_capacity frame.old) (vec_capacity frame.new)

@@ -21,7 +21,7 @@ use byteorder::{ByteOrder, LittleEndian};
 use ffv1_reads::{FileFault, pass, take};
 use ffv1_wire::{ByteIn, read_byte};
 
-/// A chunk of RIFF after a movi: the bytes of the next movi, or None where it was passed. None is a
+/// A chunk of RIFF after a movi: the bytes of the next movi, or None if it was passed. None is a
 /// frame.
 #[tactic(auto, unfolding(crate::specs::Files::visit_riff))]
 fn visit_riff<R: ByteIn>(
@@ -84,7 +84,7 @@ fn first_byte<R: ByteIn>(input: &mut R) -> Result<Option<u8>, FileFault>
     }
 }
 
-/// The next four bytes; or None at the end of the input, where no frame is owed.
+/// The next four bytes; or None at the end of the input, if no frame is owed.
 fn name_or_end<R: ByteIn>(input: &mut R, owed: u32) -> Result<Option<[u8; 4]>, FileFault>
     ensures { AnswersOrNone EveryRiff (λ (name : Option (List ℕ)). name) (name_or_end owed)
         (passage R.remaining R.failures input.old input.new) result }
@@ -139,7 +139,7 @@ fn begin_riff<R: ByteIn>(input: &mut R, place: Place) -> Result<Option<Place>, F
     Ok(Some(enter_riff(input, place)?))
 }
 
-/// The same, which counts its first twelve bytes where there is one.
+/// The same, which counts its first twelve bytes if there is one.
 fn count_riff<R: ByteIn>(
     input: &mut R,
     place: Place,
@@ -160,7 +160,8 @@ fn count_riff<R: ByteIn>(
     }
 }
 
-/// Where frames are sought next after the end of a movi; None at the end. What was read is counted.
+/// Where frames are looked for next after the end of a movi; None at the end. What was read is
+/// counted.
 pub(crate) fn move_on<R: ByteIn>(
     input: &mut R,
     place: Place,

@@ -36,7 +36,7 @@ pub(crate) struct Fields {
     format: Option<Option<(u32, u32)>>,
 }
 
-/// The rate and the scale of a stream's header of such a size, where it is one of video.
+/// The rate and the scale of a stream's header of a given size, if it is one of video.
 fn read_rates<R: ByteIn>(input: &mut R, size: u32) -> Result<Option<(u32, u32)>, FileFault>
     ensures { Answers (λ (r : Option (ℕ × ℕ)). r) (rates_in size)
         (passage R.remaining R.failures input.old input.new) result }
@@ -56,7 +56,7 @@ fn read_rates<R: ByteIn>(input: &mut R, size: u32) -> Result<Option<(u32, u32)>,
     Ok(Some((rate, scale)))
 }
 
-/// Where the record ends in a format of such a size, of which the first number is this one.
+/// Where the record ends in a format of a given size, of which the first number is this one.
 fn record_end(extent: Extent, says: u32, size: u32) -> u32
     requires { 40 ≤ size }
     ensures value { result ≡ record_end extent says size }
@@ -69,8 +69,8 @@ fn record_end(extent: Extent, says: u32, size: u32) -> u32
     }
 }
 
-/// The width and the height of a stream's format of such a size, and its record in place of what
-/// the vector has, where it is FFV1. The vector has room as `ffv1_reads::fill` says.
+/// The width and the height of a stream's format of a given size, and its record in place of what
+/// the vector has, if it is FFV1. The vector has room as `ffv1_reads::fill` says.
 fn read_format<R: ByteIn, A: Allocator>(
     input: &mut R,
     extent: Extent,
@@ -118,7 +118,7 @@ fn visit_rates<R: ByteIn>(input: &mut R, fields: Fields, size: u32) -> Result<Fi
     Ok(fields)
 }
 
-/// A format of a stream: the first one counts, and is not read where it is too long. The vector's
+/// A format of a stream: the first one counts, and is not read if it is too long. The vector's
 /// room grows by at most as many bytes as are read.
 fn visit_format<R: ByteIn, A: Allocator>(
     input: &mut R,
@@ -183,7 +183,7 @@ fn no_video(extent: Extent) -> Result<Option<Sizes>, FileFault>
     }
 }
 
-/// What a stream says, at its end: None where it is no FFV1 video.
+/// What a stream says, at its end: None if it is no FFV1 video.
 fn judged(extent: Extent, fields: Fields) -> Result<Option<Sizes>, FileFault>
     ensures { (bytes : List ℕ) (text : Option (List ℕ)) (failures : ℕ) →
         Answers (λ (s : Option Sizes). found_with s bytes)
@@ -206,7 +206,7 @@ fn judged(extent: Extent, fields: Fields) -> Result<Option<Sizes>, FileFault>
 }
 
 /// A stream's list with so many bytes left after its own name; its record in place of what the
-/// vector has. None where it is no FFV1 video.
+/// vector has. None if it is no FFV1 video.
 #[tactic(auto, unfolding(crate::specs::Streams::stream_read))]
 pub(crate) fn read_stream<R: ByteIn, A: Allocator>(
     input: &mut R,

@@ -19,7 +19,7 @@ use std::alloc::Allocator;
 /// The greatest size of RIFF that is written: readers may take it as a signed number of 32 bits.
 const MOST: u64 = 2_147_483_647;
 
-/// The size of movi, where that of RIFF, which has so many bytes beside it, is not too great.
+/// The size of movi, if that of RIFF, which has so many bytes beside it, is not too great.
 fn movi_size<A: Allocator>(frames: &[Vec<u8, A>], others: u64) -> Option<u32>
     requires { others < 2 ^ 33 }
     ensures { result
@@ -43,7 +43,7 @@ fn movi_size<A: Allocator>(frames: &[Vec<u8, A>], others: u64) -> Option<u32>
     }
 }
 
-/// Microseconds a frame, at most 4294967295; 0 where there is no rate.
+/// Microseconds a frame, at most 4294967295; 0 if there is no rate.
 fn microseconds(rate: u32, scale: u32) -> u32
     ensures { result ≡ microseconds rate scale }
 {
@@ -53,7 +53,7 @@ fn microseconds(rate: u32, scale: u32) -> u32
     (1_000_000 * u64::from(scale) / u64::from(rate)).min(u64::from(u32::MAX)) as u32
 }
 
-/// RIFF of such a size, and its list hdrl, where the format has such a size with its padding.
+/// RIFF of a given size, and its list hdrl, for the given size of the format with its padding.
 fn put_opening<W: ByteOut>(out: &mut W, size: u32, format: u32) -> Result<(), FileFault>
     requires { format ≤ 2 ^ 31 }
     ensures { Writes (passage W.contents W.failures out.old out.new)
@@ -100,7 +100,7 @@ fn put_main_header<W: ByteOut, A: Allocator>(
     put_fields(out, &fields)
 }
 
-/// The list strl, where the format has such a size with its padding, and the stream's header,
+/// The list strl, for the given size of the format with its padding, and the stream's header,
 /// AVISTREAMHEADER, for so many frames.
 fn put_stream<W: ByteOut, A: Allocator>(
     out: &mut W,
@@ -138,7 +138,7 @@ fn put_stream<W: ByteOut, A: Allocator>(
     put_fields(out, &fields)
 }
 
-/// The format, BITMAPINFOHEADER, of such a size, up to the record that stands after it (RFC 9043,
+/// The format, BITMAPINFOHEADER, of a given size, up to the record that comes after it (RFC 9043,
 /// 4.3.3).
 fn put_format<W: ByteOut, A: Allocator>(
     out: &mut W,
@@ -178,7 +178,7 @@ fn put_frame<W: ByteOut>(out: &mut W, frame: &[u8]) -> Result<(), FileFault>
     put_padding(out, frame.len())
 }
 
-/// The list movi of such a size, and the frames.
+/// The list movi of a given size, and the frames.
 fn put_movi<W: ByteOut, A: Allocator>(
     out: &mut W,
     frames: &[Vec<u8, A>],
@@ -200,7 +200,7 @@ fn put_movi<W: ByteOut, A: Allocator>(
     Ok(())
 }
 
-/// The file's parts before movi, where the format has such a size, and RIFF such a one.
+/// The file's parts before movi, for the given sizes of the format and of RIFF.
 fn put_head<W: ByteOut, A: Allocator>(
     out: &mut W,
     head: &FileHead<A>,
@@ -223,7 +223,7 @@ fn put_head<W: ByteOut, A: Allocator>(
     put_padding(out, len)
 }
 
-/// The sizes of movi and of RIFF, where that is at most 2147483647.
+/// The sizes of movi and of RIFF, if that is at most 2147483647.
 fn sizes<A: Allocator>(head: &FileHead<A>, frames: &[Vec<u8, A>]) -> Option<(u32, u32)>
     ensures { result ≡ sizes_of (head_of head.now) (frames_of frames.now) }
 {
@@ -237,9 +237,8 @@ fn sizes<A: Allocator>(head: &FileHead<A>, frames: &[Vec<u8, A>]) -> Option<(u32
 
 /// Writes a file of the head and the frames.
 ///
-/// Sizes are at most 8192. `TooLarge`, before any byte, where the size of RIFF would pass
-/// 2147483647; `Write` where a write failed: a beginning of the file has then been written. It
-/// takes no memory.
+/// Sizes are at most 8192. `TooLarge`, before any byte, if the size of RIFF would pass 2147483647.
+/// `Write` if a write failed: a beginning of the file has then been written. It takes no memory.
 pub fn write_avi<W: ByteOut, A: Allocator>(
     out: &mut W,
     head: &FileHead<A>,

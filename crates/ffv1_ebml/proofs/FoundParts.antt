@@ -1,4 +1,4 @@
--- An element is sought, one after the other.
+-- Elements are looked for, one after the other.
 use Rattle.std.proofs.Common.{◌≡◌, ◌<◌, ◌≤◌, ◌==◌, ◌∙◌, ℕ, suc, zero, List, Option, Some, None, Result, Ok, Err, true, false, length, refl, sym, ap, arith}
 use Rattle.std.proofs.lemmas.Bool.{eq-eqb, ne_eqb}
 use Rattle.ffv1_reads.specs.declared.fault.FileFault.{FileFault}
@@ -28,7 +28,7 @@ found_here (suc n) ident xs p few is same =
     let test : (p.ident == ident) ≡ true = eq-eqb _ _ same in
     ap (found_or_on ident (found_up_to n ident)) is ∙ rw test refl
 
--- it is sought after another one
+-- it is looked for after another one
 pub found_on : (n ident : ℕ) (xs : List ℕ) (p : Part) → length xs ≤ n → first_part xs ≡ Ok (Some p) → (p.ident ≡ ident → ⊥) → length p.rest < length xs → (m : ℕ) × (length p.rest ≤ m) × (found_up_to n ident xs ≡ found_up_to m ident p.rest)
 unfolding found_up_to
 found_on zero ident xs p few is other less = absurd (no_some p (sym (part_none xs (omega (arith, few))) ∙ is))

@@ -1,4 +1,4 @@
--- A beginning of a header ends where more bytes are wanted.
+-- A beginning of a header ends when more bytes are wanted.
 use Rattle.std.proofs.Common.{◌≡◌, ◌≤◌, ◌<◌, ◌+◌, ◌-◌, ◌∙◌, ◌++◌, ◌∷◌, [], ℕ, List, inl, inr, Ok, Err, length, take, drop, refl, sym, ap, arith, append-nil, length-append, length-drop}
 use Rattle.std.proofs.lemmas.Bool.{cases_lt}
 use Rattle.std.proofs.lemmas.List.{drop-append-le, take-append-drop, take-append-le}

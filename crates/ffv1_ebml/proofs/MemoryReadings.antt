@@ -1,4 +1,4 @@
--- Headers of elements in memory, where all of the content is there.
+-- Headers of elements in memory, if all of the content is there.
 use Rattle.std.proofs.Common.{◌≡◌, ◌<◌, ◌≤◌, ◌+◌, ◌-◌, ◌∙◌, ◌∷◌, [], ℕ, suc, zero, List, Some, None, Ok, Err, length, take, drop, slice_index, refl, ap, arith}
 use Rattle.std.proofs.lemmas.Bool.{le-ltb, lt-ltb}
 use Rattle.ffv1_reads.proofs.WantedBytes.{taken_complete}

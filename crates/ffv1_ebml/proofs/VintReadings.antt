@@ -5,12 +5,12 @@ use Rattle.ffv1_reads.proofs.Results.{cut_front}
 use Rattle.ffv1_reads.specs.Reads.{Reading, given, taken, ◌>>=◌}
 use Rattle.ffv1_ebml.specs.Vints.{length_of, vint_rest, vint_read}
 
--- where some bytes are left, the first one is read
+-- if some bytes are left, the first one is read
 pub vint_whole : (most left : ℕ) → (left ≡ 0 → ⊥) → (text : List ℕ) → vint_read most left text ≡ (taken 1 >>= vint_rest most left) text
 unfolding vint_read
 vint_whole most left some text = rw (ne_eqb _ _ some) refl
 
--- the others, where they fit
+-- the others, if they fit
 abbrev pub vint_tail : ℕ → List ℕ → Reading (List ℕ)
 vint_tail n first = taken (n - 1) >>= λ rest. given (first ++ rest)
 

@@ -12,13 +12,13 @@ use Rattle.ffv1_ebml.specs.declared.sum.Sum.TheVariants.{Absent}
 use Rattle.ffv1_ebml.specs.Elements.{element_read, is_crc}
 use Rattle.ffv1_ebml.specs.Vints.{number_of}
 
--- an element in memory, and what stands after it
+-- an element in memory, and what comes after it
 pub record Part : Type 0 where
   pub ident : ℕ
   pub content : List ℕ
   pub rest : List ℕ
 
--- by its header and what stands after that; its size must be known
+-- by its header and what comes after that; its size must be known
 abbrev pub part_with : ℕ → List ℕ → Option ℕ → Result (Option Part) FileFault
 part_with ident text None = Err fault.BadElement
 part_with ident text (Some size) =
@@ -30,7 +30,7 @@ part_read (Err (Met f rest)) = Err f
 part_read (Err (Short w)) = Err fault.Truncated
 
 -- the first element of some content, whose header is read as one in a parent of so many bytes; none
--- where there are no bytes
+-- if there are no bytes
 unfoldable pub first_part : List ℕ → Result (Option Part) FileFault
 first_part [] = Ok None
 first_part (b ∷ bs) = part_read (element_read (length (b ∷ bs)) Absent (b ∷ bs))
@@ -54,7 +54,7 @@ found_up_to (suc most) ident content =
 abbrev pub found : ℕ → List ℕ → Found
 found ident content = found_up_to (length content) ident content
 
--- a number of 0 to 8 bytes (RFC 8794, 7.2), which has a default where there are none
+-- a number of 0 to 8 bytes (RFC 8794, 7.2), which has a default if there are none
 abbrev pub number_in : ℕ → List ℕ → Result ℕ FileFault
 number_in default [] = Ok default
 number_in default (b ∷ bs) =
@@ -64,8 +64,8 @@ number_in default (b ∷ bs) =
 abbrev pub text_in : List ℕ → List ℕ
 text_in content = before_first (λ b. b == 0) content
 
--- the CRC-32 of some content: where its first element is one of 4 bytes, they are the sum of all
--- that stands after it, low end first
+-- the CRC-32 of some content: if its first element is one of 4 bytes, they are the sum of all that
+-- comes after it, low end first
 abbrev pub sum_of_part : Result (Option Part) FileFault → Result (Unit {0}) FileFault
 sum_of_part (Err f) = Err f
 sum_of_part (Ok None) = Ok tt

@@ -15,8 +15,8 @@ use Rattle.ffv1_ebml.specs.declared.sum.Sum.TheVariants.{Absent, Awaits}
 use Rattle.ffv1_ebml.specs.Sums.{is_met, passed_summed, summed}
 use Rattle.ffv1_ebml.specs.Vints.{data_of, number_of, size_of, vint_read, vint_rest}
 
--- after its header: a size that is known fits, and the parent has left what stands after the
--- element; of unknown size, what stands after the header
+-- after its header: a size that is known fits, and the parent has left what comes after the
+-- element; of unknown size, what comes after the header
 abbrev pub element_judged : ℕ → ℕ → Option ℕ → Reading Element
 element_judged left ident None = given (record { ident = ident; size = None; left = left })
 element_judged left ident (Some size) =
@@ -38,13 +38,13 @@ is_among idents ident = list_any (λ other. other == ident) idents
 abbrev pub none_outside : ℕ → Bool
 none_outside ident = false
 
--- after its ID, in a parent outside of which elements of some IDs stand: such a one is refused, and
--- its size is not looked at
+-- after its ID, in a parent outside of which elements of some IDs stand: an element with one of
+-- these IDs is refused, and its size is not looked at
 abbrev pub element_named : (ℕ → Bool) → ℕ → Sum → List ℕ → Reading (Element × Sum)
 element_named outside left sum ident =
     if outside (number_of ident) then refused fault.BadElement else element_rest left sum ident
 
--- the header of the next element in such a parent, all of it summed
+-- the header of the next element in a parent of that kind, all of it summed
 unfoldable pub element_in : (ℕ → Bool) → ℕ → Sum → Reading (Element × Sum)
 element_in outside left sum = vint_read 4 left >>= element_named outside left sum
 
@@ -67,7 +67,7 @@ element_after left first =
 abbrev pub IsWithin : Element → ℕ → Type 0
 IsWithin e most = (e.left ≤ most) × IfSome e.size (λ size. size + e.left ≤ most)
 
--- the next element, or none where the input has ended
+-- the next element, or none if the input has ended
 abbrev pub element_or_end : ℕ → Reading (Option Element)
 element_or_end left [] = Ok (None, [])
 element_or_end left (b ∷ bs) = (element_read left Absent >>= λ p. given (Some p.0)) (b ∷ bs)
@@ -91,8 +91,8 @@ sum_judged sum = if is_met sum then given tt else refused fault.Checksum
 abbrev pub stated_judged : ℕ → List ℕ → Reading (Unit {0})
 stated_judged left stated = passed_summed left (Awaits (low_number stated) turned) >>= sum_judged
 
--- after the header of the first element of some content: where that is a CRC-32 of 4 bytes, they
--- are the sum of all that stands after it, low end first; all else is passed without a look
+-- after the header of the first element of some content: if that is a CRC-32 of 4 bytes, they are
+-- the sum of all that comes after it, low end first; all else is passed without a look
 abbrev pub content_judged : Element → Option ℕ → Reading (Unit {0})
 content_judged e None = refused fault.BadElement
 content_judged e (Some size) =

@@ -11,7 +11,7 @@ summed Absent bytes = Absent
 summed Begins bytes = Begins
 summed (Awaits stated so_far) bytes = Awaits stated (fold byte_step so_far bytes)
 
--- at the end of the content: where a sum is awaited, it is that of the bytes
+-- at the end of the content: if a sum is awaited, it is that of the bytes
 abbrev pub is_met : Sum → Bool
 is_met Absent = true
 is_met Begins = true

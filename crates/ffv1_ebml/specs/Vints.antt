@@ -7,7 +7,7 @@ use Rattle.std.specs.Prelude.{List, ◌++◌, length, slice_index, fold, Option,
 use Rattle.ffv1_reads.specs.Reads.{Reading, given, refused, taken, ◌>>=◌}
 use Rattle.ffv1_reads.specs.declared.fault.FileFault.TheVariants as fault
 
--- how many bytes there are, by the first of them; 9 where it begins none
+-- how many bytes there are, by the first of them; 9 if it begins none
 unfoldable pub length_of : ℕ → ℕ
 length_of first =
     if nat_le 128 first then 1
@@ -43,6 +43,6 @@ number_of bytes = fold (λ number byte. 256 * number + byte) 0 bytes
 abbrev pub data_of : List ℕ → ℕ
 data_of bytes = number_of bytes % 2 ^ (7 * length bytes)
 
--- a size (6): the data; unknown where all bits of these are 1 (6.2)
+-- a size (6): the data; unknown if all bits of these are 1 (6.2)
 unfoldable pub size_of : List ℕ → Option ℕ
 size_of bytes = if data_of bytes + 1 == 2 ^ (7 * length bytes) then None else Some (data_of bytes)

@@ -19,11 +19,11 @@ pub struct Child<'a> {
     pub ident: u32,
     /// Its content.
     pub content: &'a [u8],
-    /// What stands after it in its parent.
+    /// What comes after it in its parent.
     pub rest: &'a [u8],
 }
 
-/// The bytes of a variable-size integer of at most `most` bytes, and what stands after them.
+/// The bytes of a variable-size integer of at most `most` bytes, and what comes after them.
 fn split_vint(content: &[u8], most: usize) -> Result<(&[u8], &[u8]), FileFault>
     requires { most ≤ 8 }
     ensures ok { IfOk result (λ p. vint_read most (length content.now) content.now
@@ -47,10 +47,10 @@ fn split_vint(content: &[u8], most: usize) -> Result<(&[u8], &[u8]), FileFault>
     Ok((&content[..len], &content[len..]))
 }
 
-/// The first element of some content, or None where that has no bytes.
+/// The first element of some content, or None if that has no bytes.
 ///
-/// `BadElement` where its ID has more than 4 bytes, its size more than 8, or its size is unknown;
-/// `Truncated` where it does not fit.
+/// `BadElement` if its ID has more than 4 bytes, its size more than 8, or its size is unknown.
+/// `Truncated` if it does not fit.
 pub fn first_child(content: &[u8]) -> Result<Option<Child<'_>>, FileFault>
     ensures value { parts result ≡ first_part content.now }
     ensures less { IfOk result (λ o. IfSome o (λ c.
@@ -75,10 +75,10 @@ pub fn first_child(content: &[u8]) -> Result<Option<Child<'_>>, FileFault>
     }))
 }
 
-/// The content of the first element with this ID, or None where there is none.
+/// The content of the first element with this ID, or None if there is none.
 ///
-/// Where an element before it can't be read, its fault, as of `first_child`; what stands after it
-/// is not looked at.
+/// If an element before it can't be read, the fault of that one, as of `first_child`. What comes
+/// after it is not looked at.
 pub fn find(content: &[u8], ident: u32) -> Result<Option<&[u8]>, FileFault>
     ensures value { slices result ≡ found ident content.now }
     ensures short { IfOk result (λ o. IfSome o (λ s. length s.now ≤ length content.now)) }
@@ -93,9 +93,9 @@ pub fn find(content: &[u8], ident: u32) -> Result<Option<&[u8]>, FileFault>
     Ok(None)
 }
 
-/// The number that an element holds (RFC 8794, 7.2), or `default` where it holds no bytes.
+/// The number that an element holds (RFC 8794, 7.2), or `default` if it holds no bytes.
 ///
-/// `BadElement` where it has more than 8 bytes.
+/// `BadElement` if it has more than 8 bytes.
 pub fn number(content: &[u8], default: u64) -> Result<u64, FileFault>
     ensures { result ≡ number_in default content.now }
 {
@@ -118,10 +118,10 @@ pub fn text(content: &[u8]) -> &[u8]
     }
 }
 
-/// Judges the CRC-32 of some content (RFC 8794, 11.3.1): where its first element is one of 4 bytes,
-/// they are the sum of all that stands after it.
+/// Judges the CRC-32 of some content (RFC 8794, 11.3.1): if its first element is one of 4 bytes,
+/// they are the sum of all that comes after it.
 ///
-/// `Checksum` where they are not; the fault of `first_child` where the first element can't be read.
+/// `Checksum` if they are not; the fault of `first_child` if the first element can't be read.
 pub fn judge(content: &[u8]) -> Result<(), FileFault>
     ensures { result ≡ content_told content.now }
 {

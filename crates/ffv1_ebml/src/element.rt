@@ -19,9 +19,9 @@ use ffv1_wire::{ByteIn, read_byte};
 pub struct Element {
     /// The ID, with all its bits.
     pub ident: u32,
-    /// How many bytes of content it has, or None where that is unknown.
+    /// How many bytes of content it has, or None if that is unknown.
     pub size: Option<u64>,
-    /// How many bytes its parent has left after the element; where its size is unknown, after the
+    /// How many bytes its parent has left after the element; if its size is unknown, after the
     /// header.
     pub left: u64,
 }
@@ -80,9 +80,9 @@ fn element_rest<R: ByteIn>(
 /// which the elements with these IDs stand, and sums it.
 ///
 /// `BadElement` if its ID has more than 4 bytes, after the first of them, or is one of these, after
-/// the ID, whatever stands after that; then `BadElement` if its size has more than 8 bytes, after
-/// the first; `Truncated` if its ID, its size or its content passes what is left, after what was
-/// read of the header, or if the input ends before. After a fault the sum is as it was.
+/// the ID, whatever comes after that. Then `BadElement` if its size has more than 8 bytes, after
+/// the first. `Truncated` if its ID, its size or its content passes what is left, after what was
+/// read of the header, or if the input ends before that. After a fault the sum is as it was.
 #[tactic(auto, unfolding(crate::specs::Elements::element_in))]
 pub fn next_element_in<R: ByteIn>(
     input: &mut R,
@@ -107,9 +107,9 @@ pub fn next_element_in<R: ByteIn>(
 
 /// Reads the header of the next element of a parent that has `left` bytes left, and sums it.
 ///
-/// `BadElement` where its ID has more than 4 bytes or its size more than 8, after the first byte of
-/// that; `Truncated` where its ID, its size or its content passes what is left, after what was read
-/// of the header, or where the input ends before. After a fault the sum is as it was.
+/// `BadElement` if its ID has more than 4 bytes or its size more than 8, after the first byte of
+/// that. `Truncated` if its ID, its size or its content passes what is left, after what was read of
+/// the header, or if the input ends before that. After a fault the sum is as it was.
 pub fn next_element<R: ByteIn>(
     input: &mut R,
     left: u64,
@@ -132,12 +132,12 @@ pub struct Data {
     pub left: u64,
 }
 
-/// Reads the next variable-size integer, as a block's track number is one, where `left` bytes are
+/// Reads the next variable-size integer, as a block's track number is one, if `left` bytes are
 /// left, and sums it.
 ///
-/// `BadElement` where it has more than 8 bytes, after the first; `Truncated` where it passes what
-/// is left, after the first or, where nothing is left, before it, and where the input ends before.
-/// After a fault the sum is as it was.
+/// `BadElement` if it has more than 8 bytes, after the first. `Truncated` if it passes what is
+/// left, after the first or, if nothing is left, before it. `Truncated` also if the input ends
+/// before that. After a fault the sum is as it was.
 pub fn next_data<R: ByteIn>(input: &mut R, left: u64, sum: &mut Sum) -> Result<Data, FileFault>
     ensures answer { Answers (λ (d : Data). (d, sum.new)) (data_read left sum.old)
         (passage R.remaining R.failures input.old input.new) result }
@@ -154,10 +154,10 @@ pub fn next_data<R: ByteIn>(input: &mut R, left: u64, sum: &mut Sum) -> Result<D
     })
 }
 
-/// Reads the header of the next element of a parent that has `left` bytes left, or answers None
-/// where the input has ended before it.
+/// Reads the header of the next element of a parent that has `left` bytes left, or answers None if
+/// the input has ended before it.
 ///
-/// `Read` where a read failed, also that of its first byte; other faults as of `next_element`.
+/// `Read` if a read failed, also that of its first byte; other faults as of `next_element`.
 pub fn first_element<R: ByteIn>(input: &mut R, left: u64) -> Result<Option<Element>, FileFault>
     ensures answer { AnswersOrNone (λ (e : Option Element). e) (first_read left)
         (passage R.remaining R.failures input.old input.new) result }
@@ -215,12 +215,12 @@ fn content_rest<R: ByteIn>(input: &mut R, element: Element) -> Result<(), FileFa
     Ok(())
 }
 
-/// Passes the content of an element, of so many bytes. Where its first element is a CRC-32 of 4
+/// Passes the content of an element, of so many bytes. If its first element is a CRC-32 of 4
 /// bytes, the sum of all that comes after that is judged.
 ///
-/// `Checksum` where it is another one, after the content; `BadElement` and `Truncated` where the
-/// header of the first element is no header, after what was read of it, `BadElement` also where its
-/// size is unknown; `Truncated` where the input ends before.
+/// `Checksum` if it is another one, after the content. `BadElement` and `Truncated` if the header
+/// of the first element is no header, after what was read of it. `BadElement` also if its size is
+/// unknown. `Truncated` if the input ends before that.
 #[tactic(auto, unfolding(crate::specs::Elements::content_passed))]
 pub fn pass_content<R: ByteIn>(input: &mut R, count: u64) -> Result<(), FileFault>
     ensures { Answers (λ (_ : Unit {0}). tt) (content_passed count)

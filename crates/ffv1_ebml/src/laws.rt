@@ -111,9 +111,9 @@ pub fn spelled_element_is_found()
         found ident (spelled other size content ++ rest) ≡ found ident rest }
 {}
 
-/// In a parent outside of which elements of some IDs stand, such a one is refused behind its ID,
-/// whatever stands after that: its size is not looked at. Any other is read as in any parent; and
-/// what is read of an element is of another.
+/// In a parent outside of which elements of some IDs stand, an element with one of these IDs is
+/// refused after its ID, whatever comes after that: its size is not looked at. Any other element is
+/// read as in any parent; and an element that is read has none of these IDs.
 pub fn ids_outside_are_refused()
     ensures refused { (outside : ℕ → Bool) (left : ℕ) (sum : Sum) (ident rest : List ℕ) →
         IsVint ident → length ident ≤ 4 → length ident ≤ left →
@@ -128,7 +128,7 @@ pub fn ids_outside_are_refused()
         (element_read left sum text ≡ Ok p) × (outside p.0.0.ident ≡ false) }
 {}
 
-/// The bytes of a header that is read, without some of the last, end where more are wanted.
+/// The bytes of a header that is read, without some of the last, end when more are wanted.
 pub fn shorter_header_wants_more_bytes()
     ensures { (left : ℕ) (sum : Sum) (xs ys : List ℕ) (p : Element × Sum) → 0 < length ys →
         element_read left sum (xs ++ ys) ≡ Ok (p, []) →

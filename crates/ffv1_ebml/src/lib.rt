@@ -2,11 +2,11 @@
 //! Elements of EBML (RFC 8794): an ID, a size, and that many bytes of content, big end first.
 //!
 //! From a reader of bytes, `next_element` reads the header of an element in a parent that has so
-//! many bytes left, `next_element_in` does so where elements of some IDs stand only outside of it,
-//! `first_element` where the end of the input is an answer, and `next_data` reads an integer of
-//! variable size alone; `pass_content` passes an element's content, and judges the CRC-32 that it
-//! begins with. A `Sum` goes along where a CRC-32 is awaited: `take_summed`, `pass_summed` and
-//! `fill_summed` read bytes and sum them.
+//! many bytes left. `next_element_in` does so if elements of some IDs stand only outside of it, and
+//! `first_element` if the end of the input is an answer. `next_data` reads an integer of variable
+//! size alone. `pass_content` passes an element's content, and judges the CRC-32 that it begins
+//! with. A `Sum` goes along if a CRC-32 is awaited: `take_summed`, `pass_summed` and `fill_summed`
+//! read bytes and sum them.
 //!
 //! In memory, `first_child` gives the first element of some content, and `find` the first with an
 //! ID; `number` and `text` read what it holds, and `judge` judges a CRC-32. Nothing is copied.

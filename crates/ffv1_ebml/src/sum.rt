@@ -57,7 +57,7 @@ impl Sum {
     }
 }
 
-/// Fills `buf`, and sums it. `Truncated` where the input ends before; after a fault the sum is as
+/// Fills `buf`, and sums it. `Truncated` if the input ends before that. After a fault the sum is as
 /// it was.
 pub fn take_summed<R: ByteIn>(input: &mut R, buf: &mut [u8], sum: &mut Sum) -> Result<(), FileFault>
     ensures answer { Answers (λ (_ : Unit {0}). (buf.new, sum.new))
@@ -72,7 +72,7 @@ pub fn take_summed<R: ByteIn>(input: &mut R, buf: &mut [u8], sum: &mut Sum) -> R
 
 /// Reads `size` bytes in place of what the vector has, as `ffv1_reads::fill` does, and sums them.
 ///
-/// `Truncated` where the input ends before, `OutOfMemory` where memory was refused; after a fault
+/// `Truncated` if the input ends before that, `OutOfMemory` if memory was refused. After a fault
 /// the vector holds a beginning of the bytes, and the sum is as it was. The vector has room as
 /// `ffv1_reads::fill` says.
 pub fn fill_summed<R: ByteIn, A: Allocator>(
@@ -115,8 +115,8 @@ fn pass_so_far<R: ByteIn>(input: &mut R, count: u64, so_far: u32) -> Result<u32,
     Ok(sum)
 }
 
-/// Passes so many bytes, and sums them. `Truncated` where the input ends before; after a fault the
-/// sum is as it was.
+/// Passes so many bytes, and sums them. `Truncated` if the input ends before that. After a fault
+/// the sum is as it was.
 pub fn pass_summed<R: ByteIn>(input: &mut R, count: u64, sum: &mut Sum) -> Result<(), FileFault>
     ensures answer { Answers (λ (_ : Unit {0}). sum.new) (passed_summed count sum.old)
         (passage R.remaining R.failures input.old input.new) result }

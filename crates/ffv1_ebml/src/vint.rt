@@ -17,7 +17,7 @@ pub(crate) struct Vint {
     pub(crate) len: usize,
 }
 
-/// How many bytes there are, by the first of them; 9 where it begins none.
+/// How many bytes there are, by the first of them; 9 if it begins none.
 #[tactic(auto, unfolding(crate::specs::Vints::length_of))]
 pub(crate) fn length_of(first: u8) -> usize
     ensures value { result ≡ length_of first }
@@ -67,7 +67,7 @@ pub(crate) fn data_of(bytes: &[u8]) -> u64
     number_of(bytes) % (1u64 << (7 * bytes.len()))
 }
 
-/// The size that these bytes say, or None where it is unknown.
+/// The size that these bytes say, or None if it is unknown.
 #[tactic(auto, unfolding(crate::specs::Vints::size_of))]
 pub(crate) fn size_of(bytes: &[u8]) -> Option<u64>
     requires { length bytes.now ≤ 8 }
@@ -80,8 +80,8 @@ pub(crate) fn size_of(bytes: &[u8]) -> Option<u64>
 
 /// The integer whose first byte was read, of at most `most` bytes, in a parent that has `left`.
 ///
-/// `BadElement` where it has more than `most`, then `Truncated` where it has more than are left;
-/// both after its first byte.
+/// `BadElement` if it has more than `most`, then `Truncated` if it has more than are left; both
+/// after its first byte.
 pub(crate) fn vint_rest<R: ByteIn>(
     input: &mut R,
     first: u8,
@@ -111,7 +111,7 @@ pub(crate) fn vint_rest<R: ByteIn>(
 
 /// The next integer of at most `most` bytes, in a parent that has `left` bytes left.
 ///
-/// `Truncated` where there is none, before anything is read; then as `vint_rest`.
+/// `Truncated` if there is none, before anything is read; then as `vint_rest`.
 #[tactic(auto, unfolding(crate::specs::Vints::vint_read))]
 pub(crate) fn next_vint<R: ByteIn>(input: &mut R, most: usize, left: u64) -> Result<Vint, FileFault>
     requires { most ≤ 8 }

@@ -8,31 +8,32 @@ use Rattle.ffv1_wire.specs.Passage.{Passage}
 use Rattle.ffv1_record.specs.Accepted.{Accepted}
 use Rattle.ffv1_codec.specs.Frame.{frame_of, HasLongSlice}
 use Rattle.ffv1_codec.specs.Picture.{Planes}
-use Rattle.ffv1_reads.specs.Head.{Head, limit}
+use Rattle.ffv1_reads.specs.Head.{Head}
+use Rattle.ffv1_record.specs.declared.config.Profile.{Profile as RecordProfile}
 use Rattle.ffv1_reads.specs.Known.{Known}
 use Rattle.ffv1_reads.specs.declared.fault.FileFault.{FileFault}
 use Rattle.ffv1_reads.specs.declared.fault.FileFault.TheVariants as file_fault
 use Rattle.ffv1_matroska.specs.Written.{begun_of, end_place}
 use Rattle.ffv1_matroska.specs.WrittenPlaces.{cluster_bytes, last_place}
 use Rattle.ffv1_matroska.specs.Writers.{Finishes, Puts, Writing as Writer, piece_of, writing_of}
-use Rattle.ffv1_matroska.specs.declared.shown.Shown.{Shown}
+use Rattle.ffv1_matroska.specs.declared.track_entry.TrackEntry.{TrackEntry}
 use Rattle.ffv1_engine.specs.declared.fault.Fault.{Fault}
 use Rattle.ffv1_engine.specs.declared.fault.Fault.TheVariants as fault
 use Rattle.ffv1_engine.specs.declared.packing.Packed.{Packed}
-use Rattle.ffv1_engine.specs.Internal.Clusters.{AreClusters, EndsFar, EndsLong, EndsPutting, PutAll, PutsAll, PutsSome, StopsPutting, StopsPuttingBy, begun_for}
-use Rattle.ffv1_engine.specs.Internal.Encoding.{Encoded, EncodesOne, EndsAt, EndsKnown, StopsBy, StopsNext}
+use Rattle.ffv1_engine.specs.Internal.Clusters.{AreClusters, EndsFar, EndsPutting, PutAll, PutsAll, PutsSome, StopsPutting, StopsPuttingBy, begun_for}
+use Rattle.ffv1_engine.specs.Internal.Encoding.{Encoded, EncodesOne, EndsAt, EndsKnown, EndsLong, StopsBy, StopsNext}
 use Rattle.ffv1_engine.specs.Faults.{Cause, cause_of, of_avi}
 use Rattle.ffv1_engine.specs.Faults.Cause.{Reading, Writing, Memory, Content}
 use Rattle.ffv1_engine.specs.PackMatroska.{is_matroska_pack_fault}
-use Rattle.ffv1_engine.specs.Packing.{AreReadable, bytes_in, frames_for, said_for}
+use Rattle.ffv1_engine.specs.Packing.{AreReadable, bytes_in, frames_for, most_frame, said_for}
 use Rattle.ffv1_engine.specs.Play.{WritesUpTo}
 use Rattle.ffv1_engine.specs.Video.{ReadsPictures, at_first, picture_next}
 use Rattle.ffv1_engine.specs.VideoReads.{PictureLacks, PictureWants}
 use Rattle.ffv1_engine.specs.Internal.VideoReads.{VideoReading}
 use Rattle.ffv1_engine.proofs.FramesInTurn.{take_past}
-use Rattle.ffv1_engine.proofs.PicturesEncoded.{encoded_after}
-use Rattle.ffv1_engine.proofs.PicturesRead.{joined, memory_kept, read_none}
-use Rattle.ffv1_engine.proofs.PicturesSoFar.{all_frames, encoded_all, encoded_more, ends_after, known_after, known_next, lacks_after, wants_after}
+use Rattle.ffv1_engine.proofs.PicturesRead.{joined, memory_kept}
+use Rattle.ffv1_engine.proofs.PicturesSoFar.{all_frames, encoded_all, encoded_more, ends_after, frame_next, known_after, known_next, lacks_after, short_next, wants_after}
+use Rattle.ffv1_engine.proofs.ReadableFrames.{more_readable}
 
 -- ---- what is known of the faults
 
@@ -58,8 +59,8 @@ own_finish p w file_fault.Rate h = absurd h
 
 -- the laws of `ffv1_matroska` on what is written piece by piece
 abbrev pub MorePieces : Type 0
-MorePieces = (head : Head) (shown : Shown) (frames : List (List ℕ)) (frame : List ℕ) →
-    begun_of head shown (frames ++ (frame ∷ [])) ≡ begun_of head shown frames ++ piece_of (writing_of head shown frames) frame
+MorePieces = (head : Head) (details : TrackEntry) (frames : List (List ℕ)) (frame : List ℕ) →
+    begun_of head details (frames ++ (frame ∷ [])) ≡ begun_of head details frames ++ piece_of (writing_of head details frames) frame
 
 pub longer : (frames : List (List ℕ)) (frame : List ℕ) → length (frames ++ (frame ∷ [])) ≡ length frames + 1
 longer [] frame = refl
@@ -71,13 +72,9 @@ bytes_longer (f ∷ fs) frame =
     let rest = bytes_longer fs frame in
     omega (arith, rest)
 
-more_readable : (frames : List (List ℕ)) (frame : List ℕ) → AreReadable frames → length frame ≤ limit → AreReadable (frames ++ (frame ∷ []))
-more_readable [] frame are few = (few, tt)
-more_readable (f ∷ fs) frame are few = (are.0, more_readable fs frame are.1 few)
-
 -- nothing was put
-pub put_none : (w : Writer) (o : Option (List ℕ)) (n : ℕ) → w ≡ writing_of w.head w.shown [] → PutAll w w [] (record { old = o; new = o; before = n; after = n }) (record { frames = 0; bytes = 0 })
-put_none w o n fresh = record {
+pub put_none : (k : RecordProfile) (w : Writer) (o : Option (List ℕ)) (n : ℕ) → w ≡ writing_of w.head w.details [] → PutAll k w w [] (record { old = o; new = o; before = n; after = n }) (record { frames = 0; bytes = 0 })
+put_none k w o n fresh = record {
   is = fresh;
   readable = tt;
   near = λ some. absurd (omega (arith, some));
@@ -88,33 +85,33 @@ put_none w o n fresh = record {
 }
 
 -- frames were put, and now one more is
-module _ (laws : MorePieces) (w v u : Writer) (frames : List (List ℕ)) (frame : List ℕ) (p q : Passage) (packed : Packed) (e : PutAll w v frames p packed)
+module _ (laws : MorePieces) (k : RecordProfile) (w v u : Writer) (frames : List (List ℕ)) (frame : List ℕ) (p q : Passage) (packed : Packed) (e : PutAll k w v frames p packed)
     (joins : q.old ≡ p.new) (counts : q.before ≡ p.after) where
   head_is : v.head ≡ w.head
   head_is = ap (λ (x : Writer). x.head) e.is
 
-  shown_is : v.shown ≡ w.shown
-  shown_is = ap (λ (x : Writer). x.shown) e.is
+  details_is : v.details ≡ w.details
+  details_is = ap (λ (x : Writer). x.details) e.is
 
-  self : v ≡ writing_of v.head v.shown frames
-  self = e.is ∙ sym (ap (λ h. writing_of h w.shown frames) head_is) ∙ sym (ap (λ s. writing_of v.head s frames) shown_is)
+  self : v ≡ writing_of v.head v.details frames
+  self = e.is ∙ sym (ap (λ h. writing_of h w.details frames) head_is) ∙ sym (ap (λ s. writing_of v.head s frames) details_is)
 
-  at_is : v.at ≡ end_place w.head w.shown frames
+  at_is : v.at ≡ end_place w.head w.details frames
   at_is = ap (λ (x : Writer). x.at) e.is
 
-  piece_is : piece_of v frame ≡ piece_of (writing_of w.head w.shown frames) frame
+  piece_is : piece_of v frame ≡ piece_of (writing_of w.head w.details frames) frame
   piece_is = ap (λ x. piece_of x frame) e.is
 
-  appended : (bs : List ℕ) → Appends q.old q.new bs → Appends p.old q.new (begun_of w.head w.shown frames ++ bs)
-  appended bs more = Appends-trans p.old p.new q.new (begun_of w.head w.shown frames) bs e.writes (subst (λ o. Appends o q.new bs) joins more)
+  appended : (bs : List ℕ) → Appends q.old q.new bs → Appends p.old q.new (begun_of w.head w.details frames ++ bs)
+  appended bs more = Appends-trans p.old p.new q.new (begun_of w.head w.details frames) bs e.writes (subst (λ o. Appends o q.new bs) joins more)
 
-  more_is : begun_of w.head w.shown (frames ++ (frame ∷ [])) ≡ begun_of w.head w.shown frames ++ piece_of v frame
-  more_is = laws w.head w.shown frames frame ∙ sym (ap (λ b. begun_of w.head w.shown frames ++ b) piece_is)
+  more_is : begun_of w.head w.details (frames ++ (frame ∷ [])) ≡ begun_of w.head w.details frames ++ piece_of v frame
+  more_is = laws w.head w.details frames frame ∙ sym (ap (λ b. begun_of w.head w.details frames ++ b) piece_is)
 
-  pub put_more : length frame ≤ limit → Puts q v frame u (Ok tt) → PutAll w u (frames ++ (frame ∷ [])) (joined p q) (record { frames = packed.frames + 1; bytes = packed.bytes + length frame })
+  pub put_more : length frame ≤ most_frame k → Puts q v frame u (Ok tt) → PutAll k w u (frames ++ (frame ∷ [])) (joined p q) (record { frames = packed.frames + 1; bytes = packed.bytes + length frame })
   put_more few (near, writes, grows) = record {
-    is = grows.grown frames self ∙ ap (λ h. writing_of h v.shown (frames ++ (frame ∷ []))) head_is ∙ ap (λ s. writing_of w.head s (frames ++ (frame ∷ []))) shown_is;
-    readable = more_readable frames frame e.readable few;
+    is = grows.grown frames self ∙ ap (λ h. writing_of h v.details (frames ++ (frame ∷ []))) head_is ∙ ap (λ s. writing_of w.head s (frames ++ (frame ∷ []))) details_is;
+    readable = more_readable k frames frame e.readable few;
     near = λ some. let ends = grows.ends in omega (arith, near, ends);
     writes = subst (Appends p.old q.new) (sym more_is) (appended (piece_of v frame) writes.1);
     kept = writes.0 ∙ (counts ∙ e.kept);
@@ -123,61 +120,47 @@ module _ (laws : MorePieces) (w v u : Writer) (frames : List (List ℕ)) (frame 
   }
 
   -- of its piece a beginning
-  pub put_cut : Puts q v frame u (Err file_fault.Write) → ((joined p q).after ≡ one_more p.before) × WritesUpTo p.old q.new (length (begun_of w.head w.shown frames)) (begun_of w.head w.shown (frames ++ (frame ∷ [])))
+  pub put_cut : Puts q v frame u (Err file_fault.Write) → ((joined p q).after ≡ one_more p.before) × WritesUpTo p.old q.new (length (begun_of w.head w.details frames)) (begun_of w.head w.details (frames ++ (frame ∷ [])))
   put_cut (near, writes, same) = (
     writes.0 ∙ ap one_more (counts ∙ e.kept),
     record {
-      count = length (begun_of w.head w.shown frames) + writes.1.0;
+      count = length (begun_of w.head w.details frames) + writes.1.0;
       enough = omega arith;
       short =
           let few = writes.1.1 in
-          let long : length (begun_of w.head w.shown (frames ++ (frame ∷ []))) ≡ length (begun_of w.head w.shown frames) + length (piece_of v frame) =
-          ap (λ b. length b) more_is ∙ length-append (begun_of w.head w.shown frames) (piece_of v frame) in
+          let long : length (begun_of w.head w.details (frames ++ (frame ∷ []))) ≡ length (begun_of w.head w.details frames) + length (piece_of v frame) =
+          ap (λ b. length b) more_is ∙ length-append (begun_of w.head w.details frames) (piece_of v frame) in
           omega (arith, few, long);
       writes = subst (Appends p.old q.new)
-          (sym (ap (λ b. take (length (begun_of w.head w.shown frames) + writes.1.0) b) more_is ∙ take_past (begun_of w.head w.shown frames) (piece_of v frame) writes.1.0))
+          (sym (ap (λ b. take (length (begun_of w.head w.details frames) + writes.1.0) b) more_is ∙ take_past (begun_of w.head w.details frames) (piece_of v frame) writes.1.0))
           (appended (take writes.1.0 (piece_of v frame)) writes.1.2);
     },
   )
 
   -- or nothing, since it would end too far
-  pub put_kept : Puts q v frame u (Err file_fault.TooLarge) → ((joined p q).after ≡ p.before) × Appends p.old q.new (begun_of w.head w.shown frames)
-  put_kept (far, kept, keeps, same) = (kept ∙ (counts ∙ e.kept), Appends-kept p.old p.new q.new (begun_of w.head w.shown frames) e.writes (subst (λ o. Keeps o q.new) joins keeps))
+  pub put_kept : Puts q v frame u (Err file_fault.TooLarge) → ((joined p q).after ≡ p.before) × Appends p.old q.new (begun_of w.head w.details frames)
+  put_kept (far, kept, keeps, same) = (kept ∙ (counts ∙ e.kept), Appends-kept p.old p.new q.new (begun_of w.head w.details frames) e.writes (subst (λ o. Keeps o q.new) joins keeps))
 
 -- ---- pictures that are encoded and put, one after the other
 
-pub encoded_none : (o : Option (List ℕ)) (n : ℕ) (a : Accepted) (r : VideoReading) → r.failed ≡ None → r.begun ≡ true → Encoded (record { old = o; new = o; before = n; after = n }) a r r []
-encoded_none o n a r working begun = record {
-  pictures = [];
-  known = (read_none o n r working begun).known;
-  kept = refl;
-  short = tt;
-  are = refl;
-  ppm = refl;
-  head = refl;
-  failed = working;
-  begun = λ is. begun;
-  most = refl;
-}
-
 ends_or : (old new : Option (List ℕ)) (a : Accepted) (r : VideoReading) (w : Writer) (ps : List Planes) (f : Fault) → EndsKnown old new a r ps f →
-    Known old new (λ text rest. (left : List ℕ) × ReadsPictures r.ppm r.most r.head true text ps left × (EndsAt a r ps left rest f ⊎ EndsLong a r ps left rest f ⊎ EndsFar a r w ps left rest f))
+    Known old new (λ text rest. (left : List ℕ) × ReadsPictures r.ppm r.most r.head true text ps left × EndsPutting a r w f ps left rest)
 ends_or None new a r w ps f k = tt
 ends_or (Some text) None a r w ps f k = k
 ends_or (Some text) (Some rest) a r w ps f (left, reads, ends) = (left, reads, inl ends)
 
 or_far : (old new : Option (List ℕ)) (a : Accepted) (r : VideoReading) (w : Writer) (ps : List Planes) (p : Planes) → (HasLongSlice a p (said_for r.head) → ⊥) →
-    length (frame_of a p (said_for r.head)) ≤ limit → last_place < end_place w.head w.shown (frames_for a r.head ps) + cluster_bytes + length (frame_of a p (said_for r.head)) →
+    length (frame_of a p (said_for r.head)) ≤ most_frame a.profile → last_place < end_place w.head w.details (frames_for a r.head ps) + cluster_bytes + length (frame_of a p (said_for r.head)) →
     Known old new (λ text rest. (left : List ℕ) × ReadsPictures r.ppm r.most r.head true text ps left × (picture_next r.ppm r.most r.head (at_first ps) left ≡ Ok (Some p, rest))) →
-    Known old new (λ text rest. (left : List ℕ) × ReadsPictures r.ppm r.most r.head true text ps left × (EndsAt a r ps left rest fault.TooLarge ⊎ EndsLong a r ps left rest fault.TooLarge ⊎ EndsFar a r w ps left rest fault.TooLarge))
+    Known old new (λ text rest. (left : List ℕ) × ReadsPictures r.ppm r.most r.head true text ps left × EndsPutting a r w fault.TooLarge ps left rest)
 or_far None new a r w ps p short few far k = tt
 or_far (Some text) None a r w ps p short few far k = k
 or_far (Some text) (Some rest) a r w ps p short few far (left, reads, next) = (left, reads, inr (inr (p, next, short, few, far, refl)))
 
 or_long : (old new : Option (List ℕ)) (a : Accepted) (r : VideoReading) (w : Writer) (ps : List Planes) (p : Planes) → (HasLongSlice a p (said_for r.head) → ⊥) →
-    limit < length (frame_of a p (said_for r.head)) →
+    most_frame a.profile < length (frame_of a p (said_for r.head)) →
     Known old new (λ text rest. (left : List ℕ) × ReadsPictures r.ppm r.most r.head true text ps left × (picture_next r.ppm r.most r.head (at_first ps) left ≡ Ok (Some p, rest))) →
-    Known old new (λ text rest. (left : List ℕ) × ReadsPictures r.ppm r.most r.head true text ps left × (EndsAt a r ps left rest fault.ChunkTooLong ⊎ EndsLong a r ps left rest fault.ChunkTooLong ⊎ EndsFar a r w ps left rest fault.ChunkTooLong))
+    Known old new (λ text rest. (left : List ℕ) × ReadsPictures r.ppm r.most r.head true text ps left × EndsPutting a r w fault.ChunkTooLong ps left rest)
 or_long None new a r w ps p short long k = tt
 or_long (Some text) None a r w ps p short long k = k
 or_long (Some text) (Some rest) a r w ps p short long (left, reads, next) = (left, reads, inr (inl (p, next, short, long, refl)))
@@ -186,19 +169,19 @@ some_frame : (a : Accepted) (r : VideoReading) (ps : List Planes) → 0 < length
 some_frame a r [] some = some
 some_frame a r (p ∷ ps) some = omega arith
 
-module _ (i o : Passage) (a : Accepted) (r s : VideoReading) (w v : Writer) (frames : List (List ℕ)) (packed : Packed) (e : Encoded i a r s frames) (put : PutAll w v frames o packed) where
-  place_is : v.at ≡ end_place w.head w.shown (frames_for a r.head e.pictures)
-  place_is = ap (λ (x : Writer). x.at) put.is ∙ ap (λ fs. end_place w.head w.shown fs) e.are
+module _ (i o : Passage) (a : Accepted) (r s : VideoReading) (w v : Writer) (frames : List (List ℕ)) (packed : Packed) (e : Encoded i a r s frames) (put : PutAll a.profile w v frames o packed) where
+  place_is : v.at ≡ end_place w.head w.details (frames_for a r.head e.pictures)
+  place_is = ap (λ (x : Writer). x.at) put.is ∙ ap (λ fs. end_place w.head w.details fs) e.are
 
   are : AreClusters a r w e.pictures
   are = record {
     short = e.short;
-    readable = subst AreReadable e.are put.readable;
+    readable = subst (AreReadable a.profile) e.are put.readable;
     near = λ some. subst (λ n. n ≤ last_place) place_is (put.near (subst (λ fs. 0 < length fs) (sym e.are) (some_frame a r e.pictures some)));
   }
 
-  begun_is : begun_of w.head w.shown frames ≡ begun_for a r w e.pictures
-  begun_is = ap (λ fs. begun_of w.head w.shown fs) e.are
+  begun_is : begun_of w.head w.details frames ≡ begun_for a r w e.pictures
+  begun_is = ap (λ fs. begun_of w.head w.details fs) e.are
 
   puts_some : (Next : List Planes → List ℕ → List ℕ → Type 0) (new : Option (List ℕ)) (n : ℕ) →
       Known i.old new (λ text rest. (left : List ℕ) × ReadsPictures r.ppm r.most r.head true text e.pictures left × Next e.pictures left rest) →
@@ -228,42 +211,42 @@ module _ (i o : Passage) (a : Accepted) (r s : VideoReading) (w v : Writer) (fra
 
     -- there is no picture more
     pub puts_all : (t : VideoReading) → EncodesOne q a s t None → PutsAll a r w v (joined i q) o packed
-    puts_all t n = record { frames = frames; all = encoded_all i q a r s frames e joins counts t frames (n, refl); put = put }
+    puts_all t n = record { frames = frames; all = encoded_all i q a r s frames e joins counts t n; put = put }
 
     -- a picture was encoded
     module _ (t : VideoReading) (frame : List ℕ) (one : EncodesOne q a s t (Some frame)) where
       pub encoded_more_is : Encoded (joined i q) a r t (frames ++ (frame ∷ []))
-      encoded_more_is = encoded_more i q a r s frames e joins counts t (frames ++ (frame ∷ [])) (encoded_after q a s t frames frame one)
+      encoded_more_is = encoded_more i q a r s frames e joins counts t frame one
 
       short : HasLongSlice a one.0 (said_for r.head) → ⊥
-      short = subst (λ h. HasLongSlice a one.0 (said_for h) → ⊥) e.head one.2
+      short = short_next i q a r s frames e joins counts t frame one
 
       frame_is : frame ≡ frame_of a one.0 (said_for r.head)
-      frame_is = one.3 ∙ ap (λ h. frame_of a one.0 (said_for h)) e.head
+      frame_is = frame_next i q a r s frames e joins counts t frame one
 
-      end_is : v.at + cluster_bytes + length frame ≡ end_place w.head w.shown (frames_for a r.head e.pictures) + cluster_bytes + length (frame_of a one.0 (said_for r.head))
-      end_is = ap (λ n. n + cluster_bytes + length frame) place_is ∙ ap (λ (b : List ℕ). end_place w.head w.shown (frames_for a r.head e.pictures) + cluster_bytes + length b) frame_is
+      end_is : v.at + cluster_bytes + length frame ≡ end_place w.head w.details (frames_for a r.head e.pictures) + cluster_bytes + length (frame_of a one.0 (said_for r.head))
+      end_is = ap (λ n. n + cluster_bytes + length frame) place_is ∙ ap (λ (b : List ℕ). end_place w.head w.details (frames_for a r.head e.pictures) + cluster_bytes + length b) frame_is
 
       more_frames_are : frames ++ (frame ∷ []) ≡ frames_for a r.head (e.pictures ++ (one.0 ∷ []))
       more_frames_are = ap (λ fs. fs ++ (frame ∷ [])) e.are ∙ ap (λ b. frames_for a r.head e.pictures ++ (b ∷ [])) frame_is ∙ sym (all_frames a r.head e.pictures one.0)
 
       -- its frame is too long
-      pub put_long : limit < length frame → StopsPutting a r w (joined i q) o fault.ChunkTooLong
+      pub put_long : most_frame a.profile < length frame → StopsPutting a r w (joined i q) o fault.ChunkTooLong
       put_long long = (
         put.kept,
         one.1.kept ∙ (counts ∙ e.kept),
         puts_some (EndsPutting a r w fault.ChunkTooLong) q.new q.after
-            (or_long i.old q.new a r w e.pictures one.0 short (subst (λ b. limit < length b) frame_is long) (known_after i q a r s frames e joins counts t one.0 one.1)),
+            (or_long i.old q.new a r w e.pictures one.0 short (subst (λ b. most_frame a.profile < length b) frame_is long) (known_after i q a r s frames e joins counts t one.0 one.1)),
       )
 
       -- its Cluster is put
-      module _ (laws : MorePieces) (u : Writer) (z : Passage) (follows : z.old ≡ o.new) (number : z.before ≡ o.after) (few : length frame ≤ limit) where
-        readable : length (frame_of a one.0 (said_for r.head)) ≤ limit
-        readable = subst (λ b. length b ≤ limit) frame_is few
+      module _ (laws : MorePieces) (u : Writer) (z : Passage) (follows : z.old ≡ o.new) (number : z.before ≡ o.after) (few : length frame ≤ most_frame a.profile) where
+        readable : length (frame_of a one.0 (said_for r.head)) ≤ most_frame a.profile
+        readable = subst (λ b. length b ≤ most_frame a.profile) frame_is few
 
         put_stops_by : (f : FileFault) → Puts z v frame u (Err f) → StopsPutting a r w (joined i q) (joined o z) (of_avi f)
         put_stops_by file_fault.TooLarge h =
-            let kept = put_kept laws w v u frames frame o z packed put follows number h in (
+            let kept = put_kept laws a.profile w v u frames frame o z packed put follows number h in (
               kept.0,
               one.1.kept ∙ (counts ∙ e.kept),
               record {
@@ -274,7 +257,7 @@ module _ (i o : Passage) (a : Accepted) (r s : VideoReading) (w v : Writer) (fra
               },
             )
         put_stops_by file_fault.Write h =
-            let cut = put_cut laws w v u frames frame o z packed put follows number h in (
+            let cut = put_cut laws a.profile w v u frames frame o z packed put follows number h in (
               cut.0,
               one.1.kept ∙ (counts ∙ e.kept),
               record {
@@ -286,7 +269,7 @@ module _ (i o : Passage) (a : Accepted) (r s : VideoReading) (w v : Writer) (fra
                 readable = readable;
                 near = subst (λ n. n ≤ last_place) end_is h.0;
                 writes = subst (λ b. WritesUpTo o.old z.new (length b) (begun_for a r w (e.pictures ++ (one.0 ∷ [])))) begun_is
-                    (subst (λ fs. WritesUpTo o.old z.new (length (begun_of w.head w.shown frames)) (begun_of w.head w.shown fs)) more_frames_are cut.1);
+                    (subst (λ fs. WritesUpTo o.old z.new (length (begun_of w.head w.details frames)) (begun_of w.head w.details fs)) more_frames_are cut.1);
               },
             )
         put_stops_by file_fault.OutOfMemory h = absurd h

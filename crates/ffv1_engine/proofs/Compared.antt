@@ -10,7 +10,7 @@ use Rattle.ffv1_engine.proofs.PlaneBack.{same_shown}
 use Rattle.ffv1_engine.proofs.PlaneRows.{row_long, row_shown}
 
 module _ {A : Type 0} (d : A) (xs ys : List A) (i : ℕ) where
-  -- one place more, where the places before are the same
+  -- one place more, if the places before are the same
   both_more : i < length xs → i < length ys → take i xs ≡ take i ys → get_or xs i d ≡ get_or ys i d → take (i + 1) xs ≡ take (i + 1) ys
   both_more in_xs in_ys before here = rw (add-one, take-suc xs i d in_xs, take-suc ys i d in_ys, before, here) refl
 
@@ -31,7 +31,7 @@ pub same_more : (xs ys : List ℕ) (i : ℕ) (b : Bool) → i < length xs → i 
     IsTrue (b && (get_or xs i 0 == get_or ys i 0)) ↔ (take (i + 1) xs ≡ take (i + 1) ys)
 same_more xs ys i b in_xs in_ys so_far = place_more 0 xs ys i b (get_or xs i 0 == get_or ys i 0) in_xs in_ys so_far (λ here. eqb-true _ _ here, λ here. eq-eqb _ _ here)
 
--- a row is not longer than what it was compared with, where they are the same
+-- a row is not longer than what it was compared with, if they are the same
 row_few : (row rest : List ℕ) → row ≡ take (length row) rest → length row ≤ length rest
 row_few row rest is = let long = ap length is ∙ length-take (length row) rest in omega (arith, long)
 

@@ -111,7 +111,7 @@ memory_other fault.Laced h = absurd (let no : Content ≡ Memory = h in cc)
 memory_other fault.Checksum h = absurd (let no : Content ≡ Memory = h in cc)
 memory_other fault.Rate h = refl
 
--- where the fault is none of the file's own, or the byte is not asked for, there is no line
+-- if the fault is none of the file's own, or the byte is not asked for, there is no line
 other_text : (byte : Bool) (i : ℕ) (f : Fault) (offset : ℕ) → is_file_fault f ≡ false → located_text byte i f offset ≡ []
 other_text true i f offset other = rw other refl
 other_text false i f offset other = refl
@@ -128,7 +128,7 @@ none_appended None n h = tt
 none_appended (Some xs) None h = absurd h
 none_appended (Some xs) (Some ys) h = h ∙ append-nil xs
 
--- so nothing was written where memory was refused
+-- so nothing was written if memory was refused
 pub memory_silent : (byte : Bool) (i : ℕ) (f : Fault) (offset : ℕ) (p : Passage) → cause_of f ≡ Memory → WritesLine [] (located_text byte i f offset) p → (p.after ≡ p.before) × Keeps p.old p.new
 memory_silent byte i f offset p is h =
     let none = nothing_behind [] p (subst (λ line. WritesLine [] line p) (other_text byte i f offset (memory_other f is)) h) in

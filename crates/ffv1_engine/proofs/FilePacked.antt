@@ -19,19 +19,20 @@ use Rattle.ffv1_engine.specs.declared.fault.Fault.TheVariants as fault
 use Rattle.ffv1_engine.specs.Faults.{of_avi}
 use Rattle.ffv1_engine.specs.Pack.{FaultsPacked, IsPackable, Packs, RefusesPack}
 use Rattle.ffv1_engine.specs.Internal.Pack.{EncodesVideo, EndsVideo}
-use Rattle.ffv1_engine.specs.Packing.{AllShort, IsFor, bytes_in, packed_file, packed_frames, packed_head, said_for}
+use Rattle.ffv1_engine.specs.Packing.{AllShort, AreReadableIn, IsFor, bytes_in, packed_file, packed_frames, packed_head, said_for}
 use Rattle.ffv1_engine.specs.Video.{Video}
 
-too_large : (profile : Profile) (old new : Option (List ℕ)) (choice : Choice) (v : Video) (a : Accepted) → IsFor profile choice v.ppm v.head a → AllShort a v.head v.pictures → 0 < length v.pictures → most < riff_size (packed_head choice v a) (packed_frames v a) → EndsVideo (greatest_depth profile) old new v → FaultsPacked profile choice old new fault.TooLarge
-too_large profile None new choice v a for short some large e = tt
-too_large profile (Some text) None choice v a for short some large e = e
-too_large profile (Some text) (Some rest) choice v a for short some large (left, begins, end) = inr (inr (record {
+too_large : (profile : Profile) (old new : Option (List ℕ)) (choice : Choice) (v : Video) (a : Accepted) → IsFor profile choice v.ppm v.head a → AllShort a v.head v.pictures → AreReadableIn (record_profile profile) (packed_frames v a) → 0 < length v.pictures → most < riff_size (packed_head choice v a) (packed_frames v a) → EndsVideo (greatest_depth profile) old new v → FaultsPacked profile choice old new fault.TooLarge
+too_large profile None new choice v a for short readable some large e = tt
+too_large profile (Some text) None choice v a for short readable some large e = e
+too_large profile (Some text) (Some rest) choice v a for short readable some large (left, begins, end) = inr (inr (record {
   video = v;
   accepted = a;
   left = left;
   begins = begins;
   for = for;
   short = short;
+  readable = readable;
   ends = inr (inr (end, inr (some, large, refl)));
 }))
 
@@ -47,10 +48,10 @@ module _ (profile : Profile) (choice : Choice) (i o : Passage) (head : Head) (fr
   file = ap (λ h. file_of h frames) e.head_is ∙ ap (λ f. file_of (packed_head choice e.video e.accepted) f) e.frames_are
 
   packable : riff_size head frames ≤ most → IsPackable profile choice e.video e.accepted
-  packable small = record { deep = e.deep; for = e.for; some = e.some; short = e.short; small = subst (λ n. n ≤ most) riff small }
+  packable small = record { deep = e.deep; for = e.for; some = e.some; short = e.short; readable = e.readable; small = subst (λ n. n ≤ most) riff small }
 
   pub file_refused : (f : FileFault) → WritesFile o head frames (Err f) → RefusesPack profile choice i o (of_avi f)
-  file_refused avi.TooLarge w = (record { kept = w.2; same = w.1 }, e.kept, too_large profile i.old i.new choice e.video e.accepted e.for e.short e.some (subst (λ n. most < n) riff w.0) e.ends)
+  file_refused avi.TooLarge w = (record { kept = w.2; same = w.1 }, e.kept, too_large profile i.old i.new choice e.video e.accepted e.for e.short e.readable e.some (subst (λ n. most < n) riff w.0) e.ends)
   file_refused avi.Write w = (
     record {
       video = e.video;

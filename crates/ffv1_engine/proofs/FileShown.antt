@@ -35,7 +35,7 @@ use Rattle.ffv1_engine.proofs.FilePlayed.{file_has}
 use Rattle.ffv1_engine.proofs.FramesPlayed.{has_stays}
 use Rattle.ffv1_engine.proofs.FramesInTurn.{reads_none, take_past}
 
--- where the lines of the stream were not written, it does not matter whether costs were asked for
+-- if the lines of the stream were not written, it does not matter whether costs were asked for
 pub before_costs : (profile : Profile) (input output : Passage) (cost : Bool) (f : Fault) → StreamStopsBy profile input output f (cause_of f) → ShowStops profile input output cost f
 before_costs profile input output false f h = h
 before_costs profile input output true f h = inl h
@@ -117,7 +117,7 @@ module _ (profile : Profile) (i0 i1 i2 o0 o1 o2 : Option (List ℕ)) (ib im ia o
   abbrev Refused : List Frame → Fault → Type 0
   Refused frames f = RefusedAfter (IsFrame a) frame_payload (HasThen r.place) lines (between i1 i2 im ia) (between o1 o2 om oa) (LocatedAfter r (between i1 i2 im ia)) false frames f
 
-  -- where no line of a byte is asked for
+  -- if no line of a byte is asked for
   unlocated : (frames : List Frame) (Next : Place → List ℕ → List ℕ → Type 0) (f : Fault) → Refused frames f →
       GoesThen (IsFrame a) frame_payload (HasThen r.place) lines (between i1 i2 im ia) (between o1 o2 om oa) frames Next →
       FramesThen (FileThen profile r.head) a text (between i0 i2 ib ia) (between o0 o2 ob oa) frames Next

@@ -39,7 +39,7 @@ module _ {S : Type 0} (takes refuses : LineStep S) (a : Accepted) (payload : Lis
   pub is_faulty : (f : FrameFault) → f.fault ≢ codec_fault.Sink → Answers takes refuses a payload old new tally (Err f) → FaultsOf a payload f tally
   is_faulty f own answer = faults_by_cut f answer.cut answer.cuts own answer.answer
 
--- a line that was written, or not, where that is not told
+-- a line that was written, or not, if that is not told
 pub line_written : {E : Type 0} (line : List ℕ) (p : Passage) (r : Result (Unit {0}) E) → WritesPart line p r → WritesLine [] line p
 line_written line p (Ok done) h = inl (h.0, h.1)
 line_written line p (Err f) h = inr (h.0, h.1.0, h.1.1, h.1.2)

@@ -123,7 +123,7 @@ module _ {X : Type 0} (Is : X → Type 0) (payload : X → List ℕ) (text : Lis
           };
         }
 
--- why it goes no further, where the line of that is written
+-- why it goes no further, if the line of that is written
 module _ {X : Type 0} (Is : X → Type 0) (payload : X → List ℕ) (text : List X → List ℕ) (byte : Bool) (from to : Standing) (last : Place) (i0 i1 i2 o0 o1 o2 : Option (List ℕ)) (ib im ia ob om oa : ℕ)
     (xs : List X) (so : SoFar Is payload text from.place (between i0 i1 ib im) (between o0 o1 ob om) xs to.place) (reached : StaysReached from to (between i0 i1 ib im))
     (line : X → List ℕ) (more : (x : X) → text (xs ++ (x ∷ [])) ≡ text xs ++ line x) (i : ℕ) (is : i ≡ saturated (length xs)) where
@@ -184,7 +184,7 @@ module _ (a : Accepted) (text : List Frame → List ℕ) (from to last : Place) 
       so = one_so (IsFrame a) frame_payload text from to last i0 i1 i2 o0 o1 o2 ib im ia ob om oa so.frames so.so line more f here same writes;
     }
 
-    -- why it goes no further, where a refusal writes nothing
+    -- why it goes no further, if a refusal writes nothing
     stops_by : (f : Fault) (why : Cause) → OneStopsBy (IsFrame a) frame_payload line (λ g. Silent (between o1 o2 om oa)) to last (between i1 i2 im ia) (between o1 o2 om oa) f why →
         PlayStopsBy (HasThen from) a text (between i0 i2 ib ia) (between o0 o2 ob oa) f why
     stops_by f Writing p =

@@ -1,4 +1,4 @@
--- What is said of a text, where it is known, as it is read on.
+-- What is said of a text, if it is known, as it is read on.
 use Rattle.std.specs.Prelude.{ℕ, List, Option, Some, None}
 use Rattle.std.specs.Io.KnownBytes.{Consumes}
 use Rattle.ffv1_reads.specs.Known.{Known}

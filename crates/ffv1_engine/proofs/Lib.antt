@@ -13,6 +13,7 @@ mod VideoChecks
 mod FrameBack
 mod PicturesEncoded
 mod PicturesRead
+mod ReadableFrames
 mod PicturesSoFar
 mod ClustersPut
 mod VideoEncoded

@@ -8,15 +8,15 @@ use Rattle.ffv1_wire.specs.Writes.{AppendsBeginning}
 use Rattle.ffv1_reads.specs.Head.{Head}
 use Rattle.ffv1_matroska.specs.Written.{begun_of, finish_of, finished_of, open_of, opening}
 use Rattle.ffv1_matroska.specs.Writers.{cues_in, file_bytes, finished_opening, writing_of}
-use Rattle.ffv1_matroska.specs.declared.shown.Shown.{Shown}
+use Rattle.ffv1_matroska.specs.declared.track_entry.TrackEntry.{TrackEntry}
 use Rattle.ffv1_engine.specs.Play.{WritesUpTo}
 use Rattle.ffv1_engine.proofs.FramesInTurn.{take_past}
 
 -- the laws of `ffv1_matroska` on the end of a file
 pub record EndLaws : Type 0 where
-  pub cued : (head : Head) (shown : Shown) (frames : List (List ℕ)) → 0 < length frames → begun_of head shown frames ++ cues_in (writing_of head shown frames) ≡ open_of head shown frames
-  pub whole : (head : Head) (shown : Shown) (frames : List (List ℕ)) → file_bytes (writing_of head shown frames) ≡ length (open_of head shown frames)
-  pub over : (head : Head) (shown : Shown) (frames : List (List ℕ)) → patched (open_of head shown frames) 0 (finished_opening (writing_of head shown frames)) ≡ finished_of head shown frames
+  pub cued : (head : Head) (details : TrackEntry) (frames : List (List ℕ)) → 0 < length frames → begun_of head details frames ++ cues_in (writing_of head details frames) ≡ open_of head details frames
+  pub whole : (head : Head) (details : TrackEntry) (frames : List (List ℕ)) → file_bytes (writing_of head details frames) ≡ length (open_of head details frames)
+  pub over : (head : Head) (details : TrackEntry) (frames : List (List ℕ)) → patched (open_of head details frames) 0 (finished_opening (writing_of head details frames)) ≡ finished_of head details frames
 
 take_all : (xs ys : List ℕ) → take (length xs) (xs ++ ys) ≡ xs
 take_all [] ys = refl
@@ -47,20 +47,20 @@ written_over (Some xs) (Some ys) None all bs done back whole over holds patches 
 written_over (Some xs) (Some ys) (Some zs) all bs done back whole over holds patches =
     over_known xs all bs done ys zs holds over (patches.1 ∙ ap (λ n. patched ys (length ys - n) bs) whole)
 
-module _ (laws : EndLaws) (head : Head) (shown : Shown) (frames : List (List ℕ)) (some : 0 < length frames) where
+module _ (laws : EndLaws) (head : Head) (details : TrackEntry) (frames : List (List ℕ)) (some : 0 < length frames) where
   -- its Cues were written after it
-  pub with_cues : (old now mid : Option (List ℕ)) → Appends old now (begun_of head shown frames) → Appends now mid (cues_in (writing_of head shown frames)) → Appends old mid (open_of head shown frames)
+  pub with_cues : (old now mid : Option (List ℕ)) → Appends old now (begun_of head details frames) → Appends now mid (cues_in (writing_of head details frames)) → Appends old mid (open_of head details frames)
   with_cues old now mid begun cues =
-      subst (Appends old mid) (laws.cued head shown frames some) (Appends-trans old now mid (begun_of head shown frames) (cues_in (writing_of head shown frames)) begun cues)
+      subst (Appends old mid) (laws.cued head details frames some) (Appends-trans old now mid (begun_of head details frames) (cues_in (writing_of head details frames)) begun cues)
 
   -- of those a beginning
-  pub cut_cues : (old now new : Option (List ℕ)) → Appends old now (begun_of head shown frames) → AppendsBeginning now new (cues_in (writing_of head shown frames)) →
-      WritesUpTo old new (length (begun_of head shown frames)) (open_of head shown frames)
+  pub cut_cues : (old now new : Option (List ℕ)) → Appends old now (begun_of head details frames) → AppendsBeginning now new (cues_in (writing_of head details frames)) →
+      WritesUpTo old new (length (begun_of head details frames)) (open_of head details frames)
   cut_cues old now new begun (k, few, cues) =
-      let b = begun_of head shown frames in
-      let c = cues_in (writing_of head shown frames) in
-      let all = laws.cued head shown frames some in
-      let long : length (open_of head shown frames) ≡ length b + length c = sym (ap (λ z. length z) all) ∙ length-append b c in
+      let b = begun_of head details frames in
+      let c = cues_in (writing_of head details frames) in
+      let all = laws.cued head details frames some in
+      let long : length (open_of head details frames) ≡ length b + length c = sym (ap (λ z. length z) all) ∙ length-append b c in
       record {
         count = length b + k;
         enough = omega arith;
@@ -69,12 +69,12 @@ module _ (laws : EndLaws) (head : Head) (shown : Shown) (frames : List (List ℕ
       }
 
   -- and its opening was written over
-  pub finished : (old mid new : Option (List ℕ)) → Appends old mid (open_of head shown frames) → Patches mid new (file_bytes (writing_of head shown frames)) (finished_opening (writing_of head shown frames)) →
-      Appends old new (finished_of head shown frames)
+  pub finished : (old mid new : Option (List ℕ)) → Appends old mid (open_of head details frames) → Patches mid new (file_bytes (writing_of head details frames)) (finished_opening (writing_of head details frames)) →
+      Appends old new (finished_of head details frames)
   finished old mid new written patches =
-      written_over old mid new (open_of head shown frames) (finished_opening (writing_of head shown frames)) (finished_of head shown frames) (file_bytes (writing_of head shown frames)) (laws.whole head shown frames) (laws.over head shown frames) written patches
+      written_over old mid new (open_of head details frames) (finished_opening (writing_of head details frames)) (finished_of head details frames) (file_bytes (writing_of head details frames)) (laws.whole head details frames) (laws.over head details frames) written patches
 
   -- or in part
-  pub finished_some : (mid new : Option (List ℕ)) → PatchesBeginning mid new (file_bytes (writing_of head shown frames)) (finished_opening (writing_of head shown frames)) →
-      PatchesBeginning mid new (length (open_of head shown frames)) (opening head (Some (finish_of head shown frames)))
-  finished_some mid new (k, few, patches) = (k, few, subst (λ n. Patches mid new n (take k (finished_opening (writing_of head shown frames)))) (laws.whole head shown frames) patches)
+  pub finished_some : (mid new : Option (List ℕ)) → PatchesBeginning mid new (file_bytes (writing_of head details frames)) (finished_opening (writing_of head details frames)) →
+      PatchesBeginning mid new (length (open_of head details frames)) (opening head (Some (finish_of head details frames)))
+  finished_some mid new (k, few, patches) = (k, few, subst (λ n. Patches mid new n (take k (finished_opening (writing_of head details frames)))) (laws.whole head details frames) patches)

@@ -16,7 +16,7 @@ use Rattle.ffv1_matroska.specs.Rates.{IsTimed}
 use Rattle.ffv1_matroska.specs.Written.{begun_of, open_of}
 use Rattle.ffv1_matroska.specs.WrittenPlaces.{last_place}
 use Rattle.ffv1_matroska.specs.Writers.{Finishes, Makes, Writing as Writer, rate_in, writing_of}
-use Rattle.ffv1_matroska.specs.declared.shown.Shown.{Shown}
+use Rattle.ffv1_matroska.specs.declared.track_entry.TrackEntry.{TrackEntry}
 use Rattle.ffv1_y4m.specs.Header.{header_of}
 use Rattle.ffv1_y4m.specs.Images.{IsImagesIn, ReadsFrom}
 use Rattle.ffv1_y4m.specs.Ppm.{image_header}
@@ -34,16 +34,17 @@ use Rattle.ffv1_engine.specs.Internal.Encoding.{AllKnown, PicturesKnown}
 use Rattle.ffv1_engine.specs.Faults.{Cause, cause_of, of_avi, of_record}
 use Rattle.ffv1_engine.specs.Faults.Cause.{Reading, Writing, Memory, Content}
 use Rattle.ffv1_engine.specs.Grids.{choice_for}
-use Rattle.ffv1_engine.specs.PackMatroska.{EndsClusters, FaultsBefore, FinishFails, HasClusters, PacksMatroska, PacksSome, RefusesMatroska, RefusesMatroskaBy, StandsAfterHead, begun_file, is_matroska_pack_fault, shown_for, whole_file}
+use Rattle.ffv1_engine.specs.PackMatroska.{EndsClusters, FaultsBefore, FinishFails, HasClusters, PacksMatroska, PacksSome, RefusesMatroska, RefusesMatroskaBy, begun_file, is_matroska_pack_fault, details_for, whole_file}
 use Rattle.ffv1_engine.specs.Internal.PackMatroska.{LacksMatroska, LacksMatroskaBy, OpensMatroska}
-use Rattle.ffv1_engine.specs.Packing.{AreReadable, IsFor, bytes_in, configuration_for, frames_for, head_for}
+use Rattle.ffv1_engine.specs.Packing.{AreReadable, IsFor, bytes_in, configuration_for, frames_for, head_for, most_frame, said_for}
+use Rattle.ffv1_codec.specs.Frame.{frame_of}
 use Rattle.ffv1_engine.specs.Video.{Begins, ReadsPictures, ReadsVideo, SaidHead, Video, at_first, is_ppm, video_head}
 use Rattle.ffv1_engine.specs.VideoReads.{LacksKnown, PictureLacks, PictureWants}
 use Rattle.ffv1_engine.specs.Internal.VideoReads.{HeadKnown, HeadRead, HeadRefused, HeadRefusedBy, IsHeadOf, VideoReading}
 use Rattle.ffv1_engine.proofs.KnownTexts.{known_map, known_taken}
 use Rattle.ffv1_engine.proofs.MatroskaFinished.{EndLaws, cut_cues, finished, finished_some, with_cues}
 use Rattle.ffv1_engine.proofs.PicturesRead.{joined}
-use Rattle.ffv1_engine.proofs.VideoEncoded.{content_check, has_head, next_up_to, reads_up_to, video_of}
+use Rattle.ffv1_engine.proofs.VideoEncoded.{after_head, content_check, has_head, lacks_up_to, next_up_to, reads_up_to, video_of, video_then, wants_up_to}
 use Rattle.ffv1_engine.proofs.VideoEnds.{reads_video, some_pictures}
 
 -- that a text which is read to its end is a video
@@ -82,9 +83,6 @@ rejected_before profile (Some text) (Some rest) choice r g k i = inr (inl (recor
   is = refl;
 }))
 
-after_head : (most : ℕ) (old new : Option (List ℕ)) (r : VideoReading) → HeadKnown most old new r.ppm r.head → StandsAfterHead most old new
-after_head most old new r k = known_map old new (λ text rest. (r.ppm ≡ is_ppm text) × (video_head most text ≡ Ok (r.head, rest))) (λ text rest. (h : SaidHead) × (video_head most text ≡ Ok (h, rest))) (λ text rest is. (r.head, is.1)) k
-
 pub no_memory : (profile : Profile) (choice : Choice) (p : Passage) (r : VideoReading) (f : Fault) → HeadRead (greatest_depth profile) p r → f ≡ fault.OutOfMemory → LacksMatroska profile choice p f
 no_memory profile choice p r f h e = rw e (h.kept, has_head (greatest_depth profile) p.old p.new r h.known, after_head (greatest_depth profile) p.old p.new r h.known)
 
@@ -108,35 +106,35 @@ untimed_before profile (Some text) (Some rest) choice r a k for untimed = inr (i
 }))
 
 -- a writer that is not made
-pub not_made : (profile : Profile) (choice : Choice) (p : Passage) (r : VideoReading) (a : Accepted) (head : Head) (shown : Shown) (f : FileFault) → HeadRead (greatest_depth profile) p r → IsFor profile (choice_for profile choice r.head) r.ppm r.head a →
-    head ≡ head_for choice r.ppm r.head a.configuration → Makes head shown (Err f) → LacksMatroska profile choice p (of_avi f) × (is_matroska_pack_fault (of_avi f) ≡ true)
-not_made profile choice p r a head shown file_fault.Rate h for same makes =
+pub not_made : (profile : Profile) (choice : Choice) (p : Passage) (r : VideoReading) (a : Accepted) (head : Head) (details : TrackEntry) (f : FileFault) → HeadRead (greatest_depth profile) p r → IsFor profile (choice_for profile choice r.head) r.ppm r.head a →
+    head ≡ head_for choice r.ppm r.head a.configuration → Makes head details (Err f) → LacksMatroska profile choice p (of_avi f) × (is_matroska_pack_fault (of_avi f) ≡ true)
+not_made profile choice p r a head details file_fault.Rate h for same makes =
     ((h.kept, untimed_before profile p.old p.new choice r a h.known for (subst (λ k. IsTimed (rate_in k) → ⊥) same makes)), refl)
-not_made profile choice p r a head shown file_fault.OutOfMemory h for same makes = ((h.kept, has_head (greatest_depth profile) p.old p.new r h.known, after_head (greatest_depth profile) p.old p.new r h.known), refl)
-not_made profile choice p r a head shown file_fault.TooLarge h for same makes = absurd makes
-not_made profile choice p r a head shown file_fault.Write h for same makes = absurd makes
-not_made profile choice p r a head shown file_fault.NotAvi h for same makes = absurd makes
-not_made profile choice p r a head shown file_fault.NoFfv1 h for same makes = absurd makes
-not_made profile choice p r a head shown file_fault.Truncated h for same makes = absurd makes
-not_made profile choice p r a head shown file_fault.ChunkTooLong h for same makes = absurd makes
-not_made profile choice p r a head shown file_fault.EmptyFrame h for same makes = absurd makes
-not_made profile choice p r a head shown file_fault.Read h for same makes = absurd makes
-not_made profile choice p r a head shown file_fault.NotMatroska h for same makes = absurd makes
-not_made profile choice p r a head shown file_fault.BadElement h for same makes = absurd makes
-not_made profile choice p r a head shown file_fault.NoTracks h for same makes = absurd makes
-not_made profile choice p r a head shown file_fault.Encoded h for same makes = absurd makes
-not_made profile choice p r a head shown file_fault.Laced h for same makes = absurd makes
-not_made profile choice p r a head shown file_fault.Checksum h for same makes = absurd makes
+not_made profile choice p r a head details file_fault.OutOfMemory h for same makes = ((h.kept, has_head (greatest_depth profile) p.old p.new r h.known, after_head (greatest_depth profile) p.old p.new r h.known), refl)
+not_made profile choice p r a head details file_fault.TooLarge h for same makes = absurd makes
+not_made profile choice p r a head details file_fault.Write h for same makes = absurd makes
+not_made profile choice p r a head details file_fault.NotAvi h for same makes = absurd makes
+not_made profile choice p r a head details file_fault.NoFfv1 h for same makes = absurd makes
+not_made profile choice p r a head details file_fault.Truncated h for same makes = absurd makes
+not_made profile choice p r a head details file_fault.ChunkTooLong h for same makes = absurd makes
+not_made profile choice p r a head details file_fault.EmptyFrame h for same makes = absurd makes
+not_made profile choice p r a head details file_fault.Read h for same makes = absurd makes
+not_made profile choice p r a head details file_fault.NotMatroska h for same makes = absurd makes
+not_made profile choice p r a head details file_fault.BadElement h for same makes = absurd makes
+not_made profile choice p r a head details file_fault.NoTracks h for same makes = absurd makes
+not_made profile choice p r a head details file_fault.Encoded h for same makes = absurd makes
+not_made profile choice p r a head details file_fault.Laced h for same makes = absurd makes
+not_made profile choice p r a head details file_fault.Checksum h for same makes = absurd makes
 
 -- a writer that is made
-pub made : (profile : Profile) (choice : Choice) (p : Passage) (r : VideoReading) (a : Accepted) (head : Head) (shown : Shown) (w : Writer) → HeadRead (greatest_depth profile) p r → IsHeadOf r → IsFor profile (choice_for profile choice r.head) r.ppm r.head a →
-    head ≡ head_for choice r.ppm r.head a.configuration → shown ≡ shown_for r.head → Makes head shown (Ok w) → OpensMatroska profile choice p r a w
-made profile choice p r a head shown w read is for same how makes = record {
+pub made : (profile : Profile) (choice : Choice) (p : Passage) (r : VideoReading) (a : Accepted) (head : Head) (details : TrackEntry) (w : Writer) → HeadRead (greatest_depth profile) p r → IsHeadOf r → IsFor profile (choice_for profile choice r.head) r.ppm r.head a →
+    head ≡ head_for choice r.ppm r.head a.configuration → details ≡ details_for choice r.head → Makes head details (Ok w) → OpensMatroska profile choice p r a w
+made profile choice p r a head details w read is for same how makes = record {
   read = read;
   head = is;
   for = for;
   timed = subst (λ k. IsTimed (rate_in k)) same makes.0;
-  fresh = makes.1 ∙ ap (λ k. writing_of k shown []) same ∙ ap (λ s. writing_of (head_for choice r.ppm r.head a.configuration) s []) how;
+  fresh = makes.1 ∙ ap (λ k. writing_of k details []) same ∙ ap (λ s. writing_of (head_for choice r.ppm r.head a.configuration) s []) how;
 }
 
 -- ---- nothing was opened
@@ -151,24 +149,6 @@ pub lacks : (profile : Profile) (choice : Choice) (p : Passage) (o : Option (Lis
 lacks profile choice p o n f h = lacks_by profile (cause_of f) choice p o n f h
 
 -- ---- Clusters were written
-
--- YUV4MPEG2 does not ask which depths a header may say
-pub wants_up_to : (ppm : Bool) (n most : ℕ) (h : SaidHead) (ps : List Planes) (left rest : List ℕ) → (ppm ≡ true → n ≡ most) → PictureWants ppm n h ps left rest → PictureWants ppm most h ps left rest
-wants_up_to true n most h ps left rest e is = subst (λ k. PictureWants true k h ps left rest) (e refl) is
-wants_up_to false n most h ps left rest e is = is
-
-pub lacks_up_to : (ppm : Bool) (n most : ℕ) (h : SaidHead) (ps : List Planes) (left rest : List ℕ) → (ppm ≡ true → n ≡ most) → PictureLacks ppm n h ps left rest → PictureLacks ppm most h ps left rest
-lacks_up_to true n most h ps left rest e is = subst (λ k. PictureLacks true k h ps left rest) (e refl) is
-lacks_up_to false n most h ps left rest e is = is
-
--- after its head these pictures of a text were read, and then so much
-pub video_then : (most : ℕ) (old mid new : Option (List ℕ)) (r : VideoReading) (ps : List Planes) (P Q : List ℕ → List ℕ → Type 0) → ((left rest : List ℕ) → P left rest → Q left rest) → (r.ppm ≡ true → r.most ≡ most) → HeadKnown most old mid r.ppm r.head →
-    Known mid new (λ text rest. (left : List ℕ) × ReadsPictures r.ppm r.most r.head true text ps left × P left rest) → Known old new (λ text rest. (left : List ℕ) × Begins most text (video_of r ps) left × Q left rest)
-video_then most None mid new r ps P Q f later h k = tt
-video_then most (Some text) None new r ps P Q f later h k = absurd h
-video_then most (Some text) (Some behind) None r ps P Q f later h k = k
-video_then most (Some text) (Some behind) (Some rest) r ps P Q f later h (left, reads, is) =
-    (left, record { kind = h.0; behind = behind; head = h.1; pictures = reads_up_to r.ppm r.most most r.head true behind ps left later reads }, f left rest is)
 
 -- and nothing after them
 pub video_known : (most : ℕ) (old mid new : Option (List ℕ)) (r : VideoReading) (ps : List Planes) → (r.ppm ≡ true → r.most ≡ most) → HeadKnown most old mid r.ppm r.head → PicturesKnown mid new r ps → Known old new (λ text rest. Begins most text (video_of r ps) rest)
@@ -185,15 +165,15 @@ no_frame : (a : Accepted) (r : VideoReading) (ps : List Planes) → frames_for a
 no_frame a r [] e = refl
 no_frame a r (p ∷ ps) e = absurd (cc)
 
-none_left : (most : ℕ) (old mid new : Option (List ℕ)) (choice : Choice) (a : Accepted) (r : VideoReading) (ps : List Planes) → ps ≡ [] → (r.ppm ≡ true → r.most ≡ most) → HeadKnown most old mid r.ppm r.head → AllKnown mid new r ps →
-    Known old new (λ text rest. (left : List ℕ) × Begins most text (video_of r ps) left × EndsClusters most choice (video_of r ps) a left rest fault.NoFrames)
-none_left most None mid new choice a r ps e later h k = tt
-none_left most (Some text) None new choice a r ps e later h k = absurd h
-none_left most (Some text) (Some behind) None choice a r ps e later h k = k
-none_left most (Some text) (Some behind) (Some rest) choice a r ps e later h (left, reads, end) = (
+none_left : (profile : Profile) (old mid new : Option (List ℕ)) (choice : Choice) (a : Accepted) (r : VideoReading) (ps : List Planes) → ps ≡ [] → (r.ppm ≡ true → r.most ≡ greatest_depth profile) → HeadKnown (greatest_depth profile) old mid r.ppm r.head → AllKnown mid new r ps →
+    Known old new (λ text rest. (left : List ℕ) × Begins (greatest_depth profile) text (video_of r ps) left × EndsClusters profile choice (video_of r ps) a left rest fault.NoFrames)
+none_left profile None mid new choice a r ps e later h k = tt
+none_left profile (Some text) None new choice a r ps e later h k = absurd h
+none_left profile (Some text) (Some behind) None choice a r ps e later h k = k
+none_left profile (Some text) (Some behind) (Some rest) choice a r ps e later h (left, reads, end) = (
   left,
-  record { kind = h.0; behind = behind; head = h.1; pictures = reads_up_to r.ppm r.most most r.head true behind ps left later reads },
-  inr (inr (sym (next_up_to r.ppm r.most most r.head (at_first ps) left later) ∙ end, e, refl)),
+  record { kind = h.0; behind = behind; head = h.1; pictures = reads_up_to r.ppm r.most (greatest_depth profile) r.head true behind ps left later reads },
+  inr (inr (sym (next_up_to r.ppm r.most (greatest_depth profile) r.head (at_first ps) left later) ∙ end, e, refl)),
 )
 
 module _ (profile : Profile) (choice : Choice) (p : Passage) (r : VideoReading) (a : Accepted) (w : Writer) (opens : OpensMatroska profile choice p r a w) where
@@ -201,12 +181,12 @@ module _ (profile : Profile) (choice : Choice) (p : Passage) (r : VideoReading) 
   head = head_for choice r.ppm r.head a.configuration
 
   abbrev fresh : Writer
-  fresh = writing_of head (shown_for r.head) []
+  fresh = writing_of head (details_for choice r.head) []
 
   clusters : (ps : List Planes) → AreClusters a r fresh ps → HasClusters profile choice (video_of r ps) a
-  clusters ps are = record { head = opens.head; for = opens.for; timed = opens.timed; short = are.short; readable = are.readable; near = are.near }
+  clusters ps are = record { head = opens.head; for = opens.for; timed = opens.timed; short = are.short; readable = subst (λ k. AreReadable k (frames_for a r.head ps)) opens.for.profiled are.readable; near = are.near }
 
-  ends_clusters : (f : Fault) (ps : List Planes) (left rest : List ℕ) → EndsPutting a r fresh f ps left rest → EndsClusters (greatest_depth profile) choice (video_of r ps) a left rest f
+  ends_clusters : (f : Fault) (ps : List Planes) (left rest : List ℕ) → EndsPutting a r fresh f ps left rest → EndsClusters profile choice (video_of r ps) a left rest f
   ends_clusters f ps left rest ends =
       let same = sym (next_up_to r.ppm r.most (greatest_depth profile) r.head (at_first ps) left opens.read.later) in
       elim ends [
@@ -215,8 +195,8 @@ module _ (profile : Profile) (choice : Choice) (p : Passage) (r : VideoReading) 
           | inr long ↦ inr (inl (long.0, same ∙ long.1, inl (long.2, long.3)))
         ]
         | inr other ↦ elim other [
-          | inl long ↦ inr (inl (long.0, same ∙ long.1, inr (inl (long.2, long.3, long.4))))
-          | inr far ↦ inr (inl (far.0, same ∙ far.1, inr (inr (far.2, far.3, far.4, far.5))))
+          | inl long ↦ inr (inl (long.0, same ∙ long.1, inr (inl (long.2, subst (λ k. most_frame k < length (frame_of a long.0 (said_for r.head))) opens.for.profiled long.3, long.4))))
+          | inr far ↦ inr (inl (far.0, same ∙ far.1, inr (inr (far.2, subst (λ k. length (frame_of a far.0 (said_for r.head)) ≤ most_frame k) opens.for.profiled far.3, far.4, far.5))))
         ]
       ]
 
@@ -254,7 +234,7 @@ module _ (profile : Profile) (choice : Choice) (p : Passage) (r : VideoReading) 
         next = s.next;
         reads = video_known (greatest_depth profile) p.old p.new q.new r (s.pictures ++ (s.next ∷ [])) opens.read.later opens.read.known (subst (λ t. PicturesKnown t q.new r (s.pictures ++ (s.next ∷ []))) joins s.reads);
         short = s.short;
-        readable = s.readable;
+        readable = subst (λ k. length (frame_of a s.next (said_for r.head)) ≤ most_frame k) opens.for.profiled s.readable;
         near = s.near;
         writes = s.writes;
       }),
@@ -262,21 +242,21 @@ module _ (profile : Profile) (choice : Choice) (p : Passage) (r : VideoReading) 
     stops_by Content f s = (
       s.0,
       s.1 ∙ (counts ∙ opens.read.kept),
-      inr (some (EndsPutting a r fresh f) (λ v b left rest. EndsClusters (greatest_depth profile) choice v b left rest f) (ends_clusters f) s.2),
+      inr (some (EndsPutting a r fresh f) (λ v b left rest. EndsClusters profile choice v b left rest f) (ends_clusters f) s.2),
     )
 
     pub putting_stops : (f : Fault) → StopsPutting a r w q o f → RefusesMatroska profile choice (joined p q) o f
     putting_stops f s = stops_by (cause_of f) f (subst (λ x. StopsPutting a r x q o f) opens.fresh s)
 
     module _ (v : Writer) (packed : Packed) (h : PutsAll a r w v q o packed) where
-      put : PutAll fresh v h.frames o packed
-      put = subst (λ x. PutAll x v h.frames o packed) opens.fresh h.put
+      put : PutAll a.profile fresh v h.frames o packed
+      put = subst (λ x. PutAll a.profile x v h.frames o packed) opens.fresh h.put
 
       abbrev pictures : List Planes
       pictures = h.all.pictures
 
-      begun_is : begun_of head (shown_for r.head) h.frames ≡ begun_file choice (video_of r pictures) a
-      begun_is = ap (λ fs. begun_of head (shown_for r.head) fs) h.all.are
+      begun_is : begun_of head (details_for choice r.head) h.frames ≡ begun_file choice (video_of r pictures) a
+      begun_is = ap (λ fs. begun_of head (details_for choice r.head) fs) h.all.are
 
       kept : q.after ≡ p.before
       kept = h.all.kept ∙ (counts ∙ opens.read.kept)
@@ -294,8 +274,8 @@ module _ (profile : Profile) (choice : Choice) (p : Passage) (r : VideoReading) 
             inr (record {
               video = video_of r pictures;
               accepted = a;
-              has = clusters pictures (record { short = h.all.short; readable = subst AreReadable h.all.are put.readable; near = λ some. absurd (let e = ap (λ ps. length ps) no in omega (arith, e, some)) });
-              taken = none_left (greatest_depth profile) p.old p.new q.new choice a r pictures no opens.read.later opens.read.known known;
+              has = clusters pictures (record { short = h.all.short; readable = subst (AreReadable a.profile) h.all.are put.readable; near = λ some. absurd (let e = ap (λ ps. length ps) no in omega (arith, e, some)) });
+              taken = none_left profile p.old p.new q.new choice a r pictures no opens.read.later opens.read.known known;
               writes = subst (Appends o.old o.new) begun_is put.writes;
             }),
           )
@@ -318,11 +298,11 @@ module _ (profile : Profile) (choice : Choice) (p : Passage) (r : VideoReading) 
         all_frames_are : 0 < length (frames_for a r.head pictures)
         all_frames_are = subst (λ fs. 0 < length fs) h.all.are some_in
 
-        writer_is : v ≡ writing_of head (shown_for r.head) (frames_for a r.head pictures)
-        writer_is = put.is ∙ ap (λ fs. writing_of head (shown_for r.head) fs) h.all.are
+        writer_is : v ≡ writing_of head (details_for choice r.head) (frames_for a r.head pictures)
+        writer_is = put.is ∙ ap (λ fs. writing_of head (details_for choice r.head) fs) h.all.are
 
         has_all : HasClusters profile choice (video_of r pictures) a
-        has_all = clusters pictures (record { short = h.all.short; readable = subst AreReadable h.all.are put.readable; near = λ some. subst (λ n. n ≤ last_place) (ap (λ (x : Writer). x.at) writer_is) (put.near some_in) })
+        has_all = clusters pictures (record { short = h.all.short; readable = subst (AreReadable a.profile) h.all.are put.readable; near = λ some. subst (λ n. n ≤ last_place) (ap (λ (x : Writer). x.at) writer_is) (put.near some_in) })
 
         begun : Appends o.old z.old (begun_file choice (video_of r pictures) a)
         begun = subst (λ t. Appends o.old t (begun_file choice (video_of r pictures) a)) (sym follows) (subst (Appends o.old o.new) begun_is put.writes)
@@ -333,14 +313,14 @@ module _ (profile : Profile) (choice : Choice) (p : Passage) (r : VideoReading) 
             fails_by : FinishFails profile choice (joined p q) (joined o z) → z.after ≡ one_more z.before → RefusesMatroska profile choice (joined p q) (joined o z) fault.Write
             fails_by fails after = (after ∙ ap one_more (number ∙ put.kept), kept, inr fails)
 
-            fails : (f : FileFault) → Finishes z (writing_of head (shown_for r.head) (frames_for a r.head pictures)) (Err f) → RefusesMatroska profile choice (joined p q) (joined o z) (of_avi f)
+            fails : (f : FileFault) → Finishes z (writing_of head (details_for choice r.head) (frames_for a r.head pictures)) (Err f) → RefusesMatroska profile choice (joined p q) (joined o z) (of_avi f)
             fails file_fault.Write (after, inl cut) = fails_by (record {
               video = video_of r pictures;
               accepted = a;
               reads = read;
               some = some_read;
               has = has_all;
-              writes = inl (cut_cues end_laws head (shown_for r.head) (frames_for a r.head pictures) all_frames_are o.old z.old z.new begun cut);
+              writes = inl (cut_cues end_laws head (details_for choice r.head) (frames_for a r.head pictures) all_frames_are o.old z.old z.new begun cut);
             }) after
             fails file_fault.Write (after, inr (mid, cues, over)) = fails_by (record {
               video = video_of r pictures;
@@ -350,8 +330,8 @@ module _ (profile : Profile) (choice : Choice) (p : Passage) (r : VideoReading) 
               has = has_all;
               writes = inr (
                 mid,
-                with_cues end_laws head (shown_for r.head) (frames_for a r.head pictures) all_frames_are o.old z.old mid begun cues,
-                finished_some end_laws head (shown_for r.head) (frames_for a r.head pictures) all_frames_are mid z.new over,
+                with_cues end_laws head (details_for choice r.head) (frames_for a r.head pictures) all_frames_are o.old z.old mid begun cues,
+                finished_some end_laws head (details_for choice r.head) (frames_for a r.head pictures) all_frames_are mid z.new over,
               );
             }) after
             fails file_fault.TooLarge e = absurd e
@@ -370,16 +350,16 @@ module _ (profile : Profile) (choice : Choice) (p : Passage) (r : VideoReading) 
             fails file_fault.Checksum e = absurd e
             fails file_fault.Rate e = absurd e
 
-        whole_by : (b : Bool) → Finishes z (writing_of head (shown_for r.head) (frames_for a r.head pictures)) (Ok b) → (z.after ≡ z.before) × Appends o.old z.new (whole_file b choice (video_of r pictures) a)
+        whole_by : (b : Bool) → Finishes z (writing_of head (details_for choice r.head) (frames_for a r.head pictures)) (Ok b) → (z.after ≡ z.before) × Appends o.old z.new (whole_file b choice (video_of r pictures) a)
         whole_by true (after, (mid, cues, over)) = (
           after,
-          finished end_laws head (shown_for r.head) (frames_for a r.head pictures) all_frames_are o.old mid z.new
-              (with_cues end_laws head (shown_for r.head) (frames_for a r.head pictures) all_frames_are o.old z.old mid begun cues) over,
+          finished end_laws head (details_for choice r.head) (frames_for a r.head pictures) all_frames_are o.old mid z.new
+              (with_cues end_laws head (details_for choice r.head) (frames_for a r.head pictures) all_frames_are o.old z.old mid begun cues) over,
         )
         whole_by false (after, (mid, cues, keeps)) = (
           after,
-          Appends-kept o.old mid z.new (open_of head (shown_for r.head) (frames_for a r.head pictures))
-              (with_cues end_laws head (shown_for r.head) (frames_for a r.head pictures) all_frames_are o.old z.old mid begun cues) keeps,
+          Appends-kept o.old mid z.new (open_of head (details_for choice r.head) (frames_for a r.head pictures))
+              (with_cues end_laws head (details_for choice r.head) (frames_for a r.head pictures) all_frames_are o.old z.old mid begun cues) keeps,
         )
 
         pub packs : (b : Bool) → Finishes z v (Ok b) →

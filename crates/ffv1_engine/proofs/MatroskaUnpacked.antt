@@ -1,6 +1,7 @@
 -- A video that was packed into Matroska is unpacked.
 use Rattle.std.specs.Prelude.{All, slice_index_or, zero}
-use Rattle.std.proofs.Common.{◌≡◌, refl, ℕ, suc, ◌+◌, ◌*◌, ◌<◌, ◌≤◌, ◌==◌, ◌||◌, Bool, true, false, Ok, inr, List, [], ◌∷◌, ◌++◌, length, map, sym, subst, arith, length-append, codes, cond}
+use Rattle.std.proofs.Common.{◌≡◌, refl, ℕ, suc, ◌+◌, ◌*◌, ◌<◌, ◌≤◌, ◌==◌, ◌||◌, Bool, true, false, Ok, inr, List, [], ◌∷◌, ◌++◌, length, map, sym, subst, arith, length-append, codes, cond, ◌%◌}
+use Rattle.std.proofs.lemmas.List.{length-replicate}
 use Rattle.ffv1_range.specs.Codes.{AreBytes}
 use Rattle.ffv1_record.specs.Accepted.{Accepted, IsAccepted}
 use Rattle.ffv1_record.specs.Record.{record_of}
@@ -14,24 +15,28 @@ use Rattle.ffv1_files.specs.Whole.{IsWhole}
 use Rattle.ffv1_files.specs.declared.container.Scope.TheVariants.{Whole}
 use Rattle.ffv1_matroska.specs.MatroskaFiles.{MatroskaFile}
 use Rattle.ffv1_matroska.specs.Opened as matroska
-use Rattle.ffv1_matroska.specs.Written.{begun_of, checked, display, duration_field, ebml_header, entry_element, entry_fields, finished_of, frame_duration, interlaced_of, long_element, open_of, opening, order_element, short_element, video_content}
+use Rattle.ffv1_matroska.specs.Written.{begun_of, checked, codec_name, display, duration_field, ebml_header, entry_element, entry_fields, finished_of, frame_duration, interlaced_of, long_element, open_of, opening, order_element, private_content, private_end, private_front, short_element, video_content}
 use Rattle.ffv1_matroska.specs.WrittenFiles.{AreWritten, IsWritable}
 use Rattle.ffv1_matroska.specs.Tracks.{codec_id, codec_private, default_duration, entry, pixel_height, pixel_width, track_number, track_type, video}
 use Rattle.ffv1_matroska.specs.WrittenIdents.{display_height, display_unit, display_width, field_order, flag_interlaced, flag_lacing, language, track_uid}
-use Rattle.ffv1_matroska.specs.declared.shown.Shown.{Shown}
+use Rattle.ffv1_matroska.specs.declared.track_entry.TrackEntry.{TrackEntry}
+use Rattle.ffv1_matroska.specs.declared.track_entry.CodecId.{CodecId}
+use Rattle.ffv1_matroska.specs.declared.track_entry.CodecId.TheVariants as codec
 use Rattle.ffv1_matroska.proofs.SpelledLengths.{ident_most, long_long, number_long, short_long}
 use Rattle.ffv1_matroska.proofs.WrittenLengths.{checked_long}
 use Rattle.ffv1_y4m.specs.VideoHead.{IsRatio}
 use Rattle.ffv1_words.specs.declared.order.Choice.{Choice}
 use Rattle.ffv1_engine.specs.MatroskaRoundTrip.{WasPackedMatroska, matroska_file, matroska_video}
 use Rattle.ffv1_engine.specs.Grids.{choice_for}
-use Rattle.ffv1_engine.specs.PackMatroska.{HasClusters, begun_file, shown_for, whole_file}
+use Rattle.ffv1_engine.specs.PackMatroska.{HasClusters, begun_file, details_for, whole_file}
 use Rattle.ffv1_engine.specs.Packing.{AreReadable, packed_frames, packed_head, said_for}
 use Rattle.ffv1_engine.specs.RoundTrip.{IsReadIn}
 use Rattle.ffv1_engine.specs.Video.{IsReadVideo, Video}
 use Rattle.ffv1_engine.specs.declared.profile.Profile.{Profile}
 use Rattle.ffv1_engine.specs.declared.profile.Profile.TheVariants.{Wide}
 use Rattle.ffv1_engine.specs.Profiles.{greatest_depth, record_profile}
+use Rattle.ffv1_record.specs.declared.config.Profile.TheVariants as record_profiles
+use Rattle.ffv1_engine.proofs.ReadableFrames.{readable_wide}
 use Rattle.ffv1_engine.proofs.PackedFrames.{FrameLaws, frame_bytes, frame_some}
 use Rattle.ffv1_engine.proofs.Depths.{all_within}
 use Rattle.ffv1_engine.proofs.PackedIsUnpacked.{Given, reads_is, short_in}
@@ -66,20 +71,20 @@ order_most : (structure : ℕ) → length (order_element structure) ≤ 6
 unfolding order_element
 order_most structure = either_most (structure == 1) _ _ 6 (number_most field_order 1 9) (either_most (structure == 2) _ _ 6 (number_most field_order 1 14) (none_most 6))
 
-display_most : (head : Head) (shown : Shown) → length (display head shown) ≤ 32
+display_most : (head : Head) (details : TrackEntry) → length (display head details) ≤ 32
 unfolding display
-display_most head shown =
-    either_most (shown.sar_num == 0 || shown.sar_den == 0) _ _ 32 (none_most 32)
-    (appended_most _ _ 26 6 (appended_most _ _ 13 13 (number_most display_width 8 (head.width * shown.sar_num)) (number_most display_height 8 (head.height * shown.sar_den))) (number_most display_unit 1 3))
+display_most head details =
+    either_most (details.sar_num == 0 || details.sar_den == 0) _ _ 32 (none_most 32)
+    (appended_most _ _ 26 6 (appended_most _ _ 13 13 (number_most display_width 8 (head.width * details.sar_num)) (number_most display_height 8 (head.height * details.sar_den))) (number_most display_unit 1 3))
 
-content_most : (head : Head) (shown : Shown) → length (video_content head shown) ≤ 62
+content_most : (head : Head) (details : TrackEntry) → length (video_content head details) ≤ 62
 unfolding video_content
-content_most head shown =
+content_most head details =
     appended_most _ _ 30 32
     (appended_most _ _ 24 6
-    (appended_most _ _ 18 6 (appended_most _ _ 9 9 (number_most pixel_width 4 head.width) (number_most pixel_height 4 head.height)) (number_most flag_interlaced 1 (interlaced_of shown.structure)))
-    (order_most shown.structure))
-    (display_most head shown)
+    (appended_most _ _ 18 6 (appended_most _ _ 9 9 (number_most pixel_width 4 head.width) (number_most pixel_height 4 head.height)) (number_most flag_interlaced 1 (interlaced_of details.structure)))
+    (order_most details.structure))
+    (display_most head details)
 
 duration_most : (head : Head) → length (duration_field head) ≤ 13
 unfolding duration_field
@@ -88,37 +93,53 @@ duration_most head = either_most (frame_duration head == 0) _ _ 13 (none_most 13
 text_three : length (codes "und") ≤ 3
 text_three = let e : length (codes "und") ≡ 3 = refl in omega (arith, e)
 
-text_six : length (codes "V_FFV1") ≤ 6
-text_six = let e : length (codes "V_FFV1") ≡ 6 = refl in omega (arith, e)
+name_most : (id : CodecId) → length (codec_name id) ≤ 15
+name_most codec.Native = let e : length (codes "V_FFV1") ≡ 6 = refl in omega (arith, e)
+name_most codec.Vfw = let e : length (codes "V_MS/VFW/FOURCC") ≡ 15 = refl in omega (arith, e)
 
-fields_most : (head : Head) (shown : Shown) → length (entry_fields head shown) ≤ 123
+fields_most : (head : Head) (details : TrackEntry) → length (entry_fields head details) ≤ 132
 unfolding entry_fields
-fields_most head shown =
-    appended_most _ _ 56 67
-    (appended_most _ _ 43 13
-    (appended_most _ _ 32 11
+fields_most head details =
+    appended_most _ _ 65 67
+    (appended_most _ _ 52 13
+    (appended_most _ _ 32 20
     (appended_most _ _ 24 8
     (appended_most _ _ 18 6
     (appended_most _ _ 12 6 (appended_most _ _ 6 6 (number_most track_number 1 1) (number_most track_uid 1 1)) (number_most track_type 1 1))
     (number_most flag_lacing 1 0))
     (short_most language (codes "und") 3 text_three))
-    (short_most codec_id (codes "V_FFV1") 6 text_six))
+    (short_most codec_id (codec_name details.codec_id) 15 (name_most details.codec_id)))
     (duration_most head))
-    (short_most video (video_content head shown) 62 (content_most head shown))
+    (short_most video (video_content head details) 62 (content_most head details))
 
-tracks_short : (head : Head) (shown : Shown) → length head.config_record ≤ 2568 → length (checked (entry_element head shown)) ≤ limit
+-- the header of Video for Windows
+front_long : (head : Head) → length (private_front codec.Vfw head) ≡ 40
+front_long head = refl
+
+private_most : (id : CodecId) (head : Head) → length (private_content id head) ≤ length head.config_record + 41
+private_most codec.Native head = let e = length-append head.config_record [] in omega (arith, e)
+private_most codec.Vfw head =
+    let front = front_long head in
+    let a = length-append (private_front codec.Vfw head) (head.config_record ++ private_end codec.Vfw head) in
+    let b = length-append head.config_record (private_end codec.Vfw head) in
+    let c = length-replicate {A = ℕ} (length head.config_record % 2) 0 in
+    omega (arith, front, a, b, c)
+
+tracks_short : (head : Head) (details : TrackEntry) → length head.config_record ≤ 2568 → length (checked (entry_element head details)) ≤ limit
 unfolding entry_element
-tracks_short head shown few =
-    let config = long_element codec_private head.config_record in
-    let inner = entry_fields head shown ++ config in
-    let fields = fields_most head shown in
-    let a = long_long codec_private head.config_record in
-    let b = length-append (entry_fields head shown) config in
+tracks_short head details few =
+    let private = private_content details.codec_id head in
+    let private_few = private_most details.codec_id head in
+    let config = long_element codec_private private in
+    let inner = entry_fields head details ++ config in
+    let fields = fields_most head details in
+    let a = long_long codec_private private in
+    let b = length-append (entry_fields head details) config in
     let c = long_long entry inner in
     let d = checked_long (long_element entry inner) in
     let e = ident_most codec_private in
     let f = ident_most entry in
-    omega (arith, few, fields, a, b, c, d, e, f)
+    omega (arith, few, fields, private_few, a, b, c, d, e, f)
 
 -- ---- what can be written
 
@@ -130,14 +151,14 @@ byte_at (x ∷ xs) are (suc k) d inside = byte_at xs (λ i. are (suc i)) k d (om
 all_bytes : (xs : List ℕ) → AreBytes xs → All (λ b. b < 256) xs
 all_bytes xs are = λ k d inside. byte_at xs are k d inside
 
-are_written : (laws : FrameLaws) (a : Accepted) (accepted : IsAccepted a.configuration a.table) (said : Said) (ps : List Planes) → AreReadable (map (λ planes. frame_of a planes said) ps) →
+are_written : (laws : FrameLaws) (a : Accepted) (accepted : IsAccepted a.configuration a.table) (said : Said) (ps : List Planes) → AreReadable record_profiles.Wide (map (λ planes. frame_of a planes said) ps) →
     AreWritten (map (λ planes. frame_of a planes said) ps)
 are_written laws a accepted said [] readable = tt
 are_written laws a accepted said (p ∷ ps) readable =
     ((frame_some laws a accepted p said, readable.0, all_bytes (frame_of a p said) (frame_bytes laws a accepted p said)), are_written laws a accepted said ps readable.1)
 
 pub writable : (profile : Profile) (frame_laws : FrameLaws) (records : RecordLaws) (choice : Choice) (v : Video) (a : Accepted) → HasClusters profile choice v a → 0 < length v.pictures →
-    (v.ppm ≡ true → IsRatio 4294967295 choice.rate choice.scale) → IsWritable (packed_head choice v a) (shown_for v.head) (packed_frames v a)
+    (v.ppm ≡ true → IsRatio 4294967295 choice.rate choice.scale) → IsWritable (packed_head choice v a) (details_for choice v.head) (packed_frames v a)
 writable profile frame_laws records choice v a has some rated =
     let sizes = sized v.ppm v.head.head has.head in
     let ratio = (rated_by choice v.ppm v.head a.configuration has.head rated).is in
@@ -148,9 +169,9 @@ writable profile frame_laws records choice v a has some rated =
       scale = let few = ratio.second in omega (arith, few);
       timed = has.timed;
       record_is = all_bytes (record_of a.configuration) (record_are_bytes a.configuration);
-      short = tracks_short (packed_head choice v a) (shown_for v.head)
+      short = tracks_short (packed_head choice v a) (details_for choice v.head)
           (subst (λ c. length (record_of c) ≤ 2568) (sym has.for.configuration) (record_most records.symbols (choice_for profile choice v.head) v.ppm v.head (subst HasLowNumbers has.for.configuration (low_numbers records.numbers a.configuration a.table has.for.accepted))));
-      written = are_written frame_laws a has.for.accepted (said_for v.head) v.pictures has.readable;
+      written = are_written frame_laws a has.for.accepted (said_for v.head) v.pictures (readable_wide (record_profile profile) (packed_frames v a) has.readable);
       near = has.near some;
     }
 
@@ -158,48 +179,48 @@ writable profile frame_laws records choice v a has some rated =
 
 -- what is known of files
 pub record MatroskaLaws : Type 0 where
-  pub finished : (head : Head) (shown : Shown) (frames : List (List ℕ)) → IsWritable head shown frames → MatroskaFile (finished_of head shown frames) head frames × (matroska.file_read (finished_of head shown frames) ≡ Ok ((head, frames), []))
-  pub opened : (head : Head) (shown : Shown) (frames : List (List ℕ)) → IsWritable head shown frames → MatroskaFile (open_of head shown frames) head frames × (matroska.file_read (open_of head shown frames) ≡ Ok ((head, frames), []))
-  pub begun : (head : Head) (shown : Shown) (frames : List (List ℕ)) → 0 < length frames → IsWritable head shown frames →
-      MatroskaFile (begun_of head shown frames) head frames × (matroska.file_read (begun_of head shown frames) ≡ Ok ((head, frames), []))
+  pub finished : (head : Head) (details : TrackEntry) (frames : List (List ℕ)) → IsWritable head details frames → MatroskaFile (finished_of head details frames) head frames × (matroska.file_read (finished_of head details frames) ≡ Ok ((head, frames), []))
+  pub opened : (head : Head) (details : TrackEntry) (frames : List (List ℕ)) → IsWritable head details frames → MatroskaFile (open_of head details frames) head frames × (matroska.file_read (open_of head details frames) ≡ Ok ((head, frames), []))
+  pub begun : (head : Head) (details : TrackEntry) (frames : List (List ℕ)) → 0 < length frames → IsWritable head details frames →
+      MatroskaFile (begun_of head details frames) head frames × (matroska.file_read (begun_of head details frames) ≡ Ok ((head, frames), []))
   pub is_file : (file : List ℕ) (head : Head) (frames : List (List ℕ)) (rest : List ℕ) → matroska.file_read file ≡ Ok ((head, frames), rest) → (is : MatroskaFile file head frames) × (is.rest ≡ rest)
   pub is_whole : (file : List ℕ) (head : Head) (frames : List (List ℕ)) (rest : List ℕ) → IsWhole file head frames rest → file_read Whole file ≡ Ok ((head, frames), rest)
 
 -- its first byte
-open_first : (head : Head) (shown : Shown) (frames : List (List ℕ)) → is_matroska (open_of head shown frames) ≡ true
+open_first : (head : Head) (details : TrackEntry) (frames : List (List ℕ)) → is_matroska (open_of head details frames) ≡ true
 unfolding opening ebml_header ident_length
-open_first head shown frames = refl
+open_first head details frames = refl
 
-finished_first : (head : Head) (shown : Shown) (frames : List (List ℕ)) → is_matroska (finished_of head shown frames) ≡ true
+finished_first : (head : Head) (details : TrackEntry) (frames : List (List ℕ)) → is_matroska (finished_of head details frames) ≡ true
 unfolding opening ebml_header ident_length
-finished_first head shown frames = refl
+finished_first head details frames = refl
 
-begun_first : (head : Head) (shown : Shown) (frames : List (List ℕ)) → 0 < length frames → is_matroska (begun_of head shown frames) ≡ true
+begun_first : (head : Head) (details : TrackEntry) (frames : List (List ℕ)) → 0 < length frames → is_matroska (begun_of head details frames) ≡ true
 unfolding opening ebml_header ident_length
-begun_first head shown [] some = absurd (omega (arith, some))
-begun_first head shown (f ∷ fs) some = refl
+begun_first head details [] some = absurd (omega (arith, some))
+begun_first head details (f ∷ fs) some = refl
 
 module _ (laws : MatroskaLaws) where
   read_whole : (file : List ℕ) (head : Head) (frames : List (List ℕ)) → is_matroska file ≡ true → matroska.file_read file ≡ Ok ((head, frames), []) → file_read Whole file ≡ Ok ((head, frames), [])
   read_whole file head frames first e = laws.is_whole file head frames [] (inr (first, laws.is_file file head frames [] e))
 
   -- what is read of the whole file
-  pub whole_read : (b : Bool) (choice : Choice) (v : Video) (a : Accepted) → IsWritable (packed_head choice v a) (shown_for v.head) (packed_frames v a) →
+  pub whole_read : (b : Bool) (choice : Choice) (v : Video) (a : Accepted) → IsWritable (packed_head choice v a) (details_for choice v.head) (packed_frames v a) →
       MatroskaFile (whole_file b choice v a) (packed_head choice v a) (packed_frames v a) × (file_read Whole (whole_file b choice v a) ≡ Ok ((packed_head choice v a, packed_frames v a), []))
   whole_read true choice v a can =
-      let both = laws.finished (packed_head choice v a) (shown_for v.head) (packed_frames v a) can in
-      (both.0, read_whole _ (packed_head choice v a) (packed_frames v a) (finished_first (packed_head choice v a) (shown_for v.head) (packed_frames v a)) both.1)
+      let both = laws.finished (packed_head choice v a) (details_for choice v.head) (packed_frames v a) can in
+      (both.0, read_whole _ (packed_head choice v a) (packed_frames v a) (finished_first (packed_head choice v a) (details_for choice v.head) (packed_frames v a)) both.1)
   whole_read false choice v a can =
-      let both = laws.opened (packed_head choice v a) (shown_for v.head) (packed_frames v a) can in
-      (both.0, read_whole _ (packed_head choice v a) (packed_frames v a) (open_first (packed_head choice v a) (shown_for v.head) (packed_frames v a)) both.1)
+      let both = laws.opened (packed_head choice v a) (details_for choice v.head) (packed_frames v a) can in
+      (both.0, read_whole _ (packed_head choice v a) (packed_frames v a) (open_first (packed_head choice v a) (details_for choice v.head) (packed_frames v a)) both.1)
 
   -- and of one that is begun
-  pub begun_read : (choice : Choice) (v : Video) (a : Accepted) → 0 < length v.pictures → IsWritable (packed_head choice v a) (shown_for v.head) (packed_frames v a) →
+  pub begun_read : (choice : Choice) (v : Video) (a : Accepted) → 0 < length v.pictures → IsWritable (packed_head choice v a) (details_for choice v.head) (packed_frames v a) →
       file_read Whole (begun_file choice v a) ≡ Ok ((packed_head choice v a, packed_frames v a), [])
   begun_read choice v a some can =
       let many = some_frames v.pictures some in
-      let both = laws.begun (packed_head choice v a) (shown_for v.head) (packed_frames v a) many can in
-      read_whole (begun_file choice v a) (packed_head choice v a) (packed_frames v a) (begun_first (packed_head choice v a) (shown_for v.head) (packed_frames v a) many) both.1
+      let both = laws.begun (packed_head choice v a) (details_for choice v.head) (packed_frames v a) many can in
+      read_whole (begun_file choice v a) (packed_head choice v a) (packed_frames v a) (begun_first (packed_head choice v a) (details_for choice v.head) (packed_frames v a) many) both.1
     where
       some_frames : (ps : List Planes) → 0 < length ps → 0 < length (map (λ planes. frame_of a planes (said_for v.head)) ps)
       some_frames [] some = some
@@ -220,16 +241,20 @@ given packing choice text w = record {
   most = greatest_depth packing;
   is = reads_is (greatest_depth packing) text w.input.old w.input.new w.packs.video w.known w.packs.reads;
   bytes = w.bytes;
-  for = record { configuration = w.packs.has.for.configuration; accepted = w.packs.has.for.accepted; passes = w.packs.has.for.accepted.passes };
+  for = record { configuration = w.packs.has.for.configuration; accepted = w.packs.has.for.accepted; passes = w.packs.has.for.accepted.passes; profiled = refl };
   some = w.packs.some;
   short = short_in Wide w.packs.accepted w.packs.video.head w.packs.video.pictures w.packs.has.short;
-  readable = w.packs.has.readable;
+  readable = readable_wide (record_profile packing) (packed_frames (matroska_video w) w.packs.accepted) w.packs.has.readable;
   rated = w.rated;
 }
 
 -- and it is read
-pub read_wide : (packing : Profile) (choice : Choice) (text : List ℕ) (w : WasPackedMatroska packing choice text) → IsReadIn Wide (matroska_video w) w.packs.accepted.configuration
-read_wide packing choice text w = record { deep = all_within packing w.packs.video.head.depth w.packs.deep; passes = w.packs.has.for.accepted.passes }
+pub read_wide : (packing : Profile) (choice : Choice) (text : List ℕ) (w : WasPackedMatroska packing choice text) → IsReadIn Wide (matroska_video w) w.packs.accepted
+read_wide packing choice text w = record {
+  deep = all_within packing w.packs.video.head.depth w.packs.deep;
+  passes = w.packs.has.for.accepted.passes;
+  readable = readable_wide (record_profile packing) (packed_frames (matroska_video w) w.packs.accepted) w.packs.has.readable;
+}
 
 module _ (packing : Profile) (frame_laws : FrameLaws) (records : RecordLaws) (laws : MatroskaLaws) (choice : Choice) (text : List ℕ) (w : WasPackedMatroska packing choice text) where
   reads : MatroskaFile (matroska_file w) (packed_head choice (matroska_video w) (w.packs.accepted)) (packed_frames (matroska_video w) (w.packs.accepted))

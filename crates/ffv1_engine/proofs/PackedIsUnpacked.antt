@@ -14,7 +14,7 @@ use Rattle.ffv1_codec.specs.Picture.{Planes}
 use Rattle.ffv1_codec.specs.declared.fault.FrameFault.{FrameFault}
 use Rattle.ffv1_files.specs.declared.container.Scope.TheVariants.{FirstMovi, Whole}
 use Rattle.ffv1_files.specs.Whole.{IsWhole}
-use Rattle.ffv1_files.specs.Places.{Place, container_of}
+use Rattle.ffv1_files.specs.Places.{Place, container_of, extent_in}
 use Rattle.ffv1_avi.specs.Chunks.{AviFile, IsWritable}
 use Rattle.ffv1_files.specs.Files.{file_read, frame_read, frames_read, more_frames, open_read}
 use Rattle.ffv1_reads.specs.Head.{Head}
@@ -31,6 +31,7 @@ use Rattle.ffv1_y4m.specs.declared.head.VideoHead.{VideoHead}
 use Rattle.ffv1_engine.specs.declared.profile.Profile.{Profile}
 use Rattle.ffv1_engine.specs.declared.profile.Profile.TheVariants.{Strict, Wide}
 use Rattle.ffv1_engine.specs.Profiles.{greatest_depth, scope_in, record_profile}
+use Rattle.ffv1_engine.proofs.ReadableFrames.{readable_wide}
 use Rattle.ffv1_engine.specs.declared.fault.Fault.{Fault}
 use Rattle.ffv1_engine.specs.declared.fault.Fault.TheVariants as fault
 use Rattle.ffv1_engine.specs.declared.frame_line.FrameLine.TheVariants as line
@@ -48,7 +49,7 @@ use Rattle.ffv1_engine.specs.Opens.{LacksOpeningBy}
 use Rattle.ffv1_engine.specs.Play.{End, EndsWith, FaultsRead, IsFaulty, LacksStream, Played}
 use Rattle.ffv1_engine.specs.Plays.{FileThen, GoesBy, NextEnds, NextStays, PlayStopsBy}
 use Rattle.ffv1_engine.specs.Play.End.{File, Payload, Over}
-use Rattle.ffv1_engine.specs.RoundTrip.{configuration_in, HoldsBy, IsFileIn, IsNoContent, IsReadIn, IsUnpacked, WasPacked, canonical_by, canonical_of, video_in}
+use Rattle.ffv1_engine.specs.RoundTrip.{accepted_in, HoldsBy, IsFileIn, IsNoContent, IsReadIn, IsUnpacked, WasPacked, canonical_by, canonical_of, video_in}
 use Rattle.ffv1_engine.specs.Stream.{AreFrames, Frame, IsFrame, IsRead, IsStream, ReadsFile, ReadsFrames, Stream, frame_payload, payloads}
 use Rattle.ffv1_codec.specs.Outcome.{FaultsOf}
 use Rattle.ffv1_engine.specs.Unpack.{LacksTextIn, UnpackDone, UnpackStops}
@@ -65,8 +66,8 @@ use Rattle.ffv1_record.specs.Configuration.{Configuration}
 
 -- what is known of files and of texts
 pub record FileLaws (profile : Profile) : Type 0 where
-  pub file : (head : Head) (frames : List (List ℕ)) → IsWritable head frames → IsFileIn profile (file_of head frames) head frames
-  pub read : (head : Head) (frames : List (List ℕ)) → IsWritable head frames → file_read (scope_in profile) (file_of head frames) ≡ Ok ((head, frames), [])
+  pub file : (head : Head) (frames : List (List ℕ)) → IsWritable (extent_in (scope_in profile)) head frames → IsFileIn profile (file_of head frames) head frames
+  pub read : (head : Head) (frames : List (List ℕ)) → IsWritable (extent_in (scope_in profile)) head frames → file_read (scope_in profile) (file_of head frames) ≡ Ok ((head, frames), [])
   pub is_read : (file : List ℕ) (head : Head) (frames : List (List ℕ)) (is : AviFile file head frames) → file_read FirstMovi file ≡ Ok ((head, frames), is.rest)
   pub is_whole : (file : List ℕ) (head : Head) (frames : List (List ℕ)) (rest : List ℕ) → IsWhole file head frames rest → file_read Whole file ≡ Ok ((head, frames), rest)
   pub next : (place : Place) (text : List ℕ) → frames_read place text ≡ avi.read_on (frame_read place text) (more_frames frames_read)
@@ -107,7 +108,7 @@ no_content fault.Read h = inr (inl refl)
 no_content fault.Write h = inr (inr refl)
 no_content f h = absurd (h refl)
 
--- where the file is known, it was read to its end
+-- if the file is known, it was read to its end
 record ReadsWhole (profile : Profile) (file : List ℕ) (new : Option (List ℕ)) (s : Stream) (frames : List Frame) : Type 0 where
   rest : List ℕ
   is : file_read (scope_in profile) file ≡ Ok ((s.head, payloads frames), rest)
@@ -122,7 +123,7 @@ module _ (profile : Profile) (files : FileLaws profile) where
   whole_of file None s frames h = absurd h
   whole_of file (Some rest) s frames h = whole_by profile file rest s frames h
 
--- where the file is known, it begins so
+-- if the file is known, it begins so
 record Begun (profile : Profile) (file : List ℕ) (s : Stream) (frames : List Frame) : Type 0 where
   from : Place
   behind : List ℕ
@@ -147,7 +148,7 @@ pub record Given (profile : Profile) (choice : Choice) (text : List ℕ) (v : Vi
   pub for : IsFor profile choice v.ppm v.head a
   pub some : 0 < length v.pictures
   pub short : AllShort a v.head v.pictures
-  pub readable : AreReadable (packed_frames v a)
+  pub readable : AreReadable (record_profile profile) (packed_frames v a)
   pub rated : v.ppm ≡ true → IsRatio 4294967295 choice.rate choice.scale
 
 module _ (profile : Profile) (files : FileLaws profile) (frame_laws : FrameLaws) (records : RecordLaws) (choice : Choice) (text : List ℕ) (v : Video) (a : Accepted) (profiled : a.profile ≡ record_profile profile)
@@ -167,7 +168,7 @@ module _ (profile : Profile) (files : FileLaws profile) (frame_laws : FrameLaws)
   pub coded : AllCoded a (said_for v.head) v.pictures
   coded = all_coded frame_laws a g.for.accepted choice v.ppm v.head for head said v.pictures (pictures_given g.most v.ppm text v.head v.pictures g.is g.bytes) g.short
 
-  pub can_write : riff_size (packed_head choice v a) (packed_frames v a) ≤ most → IsWritable (packed_head choice v a) (packed_frames v a)
+  pub can_write : riff_size (packed_head choice v a) (packed_frames v a) ≤ most → IsWritable (extent_in (scope_in profile)) (packed_head choice v a) (packed_frames v a)
   can_write small = writable profile records choice v.ppm v.head a for g.for.accepted g.for.passes profiled head read g.rated v.pictures coded g.readable small
 
   stream : Stream
@@ -242,7 +243,7 @@ module _ (profile : Profile) (files : FileLaws profile) (frame_laws : FrameLaws)
         let here : frame_of a p (said_for v.head) ≡ payload = cc in
         no_fault frame_laws a g.for.accepted (said_for v.head) p f tally coded.0 (subst (λ bytes. FaultsOf a bytes f tally) (sym here) faulty)
 
-    -- where the file begins with frames, the others are read after them
+    -- if the file begins with frames, the others are read after them
     module _ (s : Stream) (frames : List Frame) (b : Begun profile file s frames) where
       first : (s.head ≡ packed_head choice v a) × Others b.to b.at (payloads frames) (packed_frames v a) []
       first =
@@ -388,22 +389,22 @@ reads_is most text old new v known h = is_video new (subst (λ o. ReadsVideo mos
     is_video (Some rest) k = k.0
 
 -- what was accepted, in the profile that the file is read in
-abbrev pub accepted_in : {packing : Profile} → {choice : Choice} → {text : List ℕ} → Profile → WasPacked packing choice text → Accepted
-accepted_in profile w = record { configuration = w.packs.accepted.configuration; table = w.packs.accepted.table; profile = record_profile profile }
+abbrev pub accepted_as : {packing : Profile} → {choice : Choice} → {text : List ℕ} → Profile → WasPacked packing choice text → Accepted
+accepted_as profile w = record { configuration = w.packs.accepted.configuration; table = w.packs.accepted.table; profile = record_profile profile }
 
 pub short_in : (profile : Profile) (a : Accepted) (h : SaidHead) (ps : List Planes) → AllShort a h ps → AllShort (record { configuration = a.configuration; table = a.table; profile = record_profile profile }) h ps
 short_in profile a h [] short = tt
 short_in profile a h (p ∷ ps) short = (λ long. short.0 (record { slice = long.slice; inside = long.inside; long = long.long }), short_in profile a h ps short.1)
 
-pub given : (packing profile : Profile) (choice : Choice) (text : List ℕ) (w : WasPacked packing choice text) → IsReadIn profile (video_in w) (configuration_in w) → Given profile choice text (video_in w) (accepted_in profile w)
+pub given : (packing profile : Profile) (choice : Choice) (text : List ℕ) (w : WasPacked packing choice text) → IsReadIn profile (video_in w) (accepted_in w) → Given profile choice text (video_in w) (accepted_as profile w)
 given packing profile choice text w read = record {
   most = greatest_depth packing;
   is = reads_is (greatest_depth packing) text w.input.old w.input.new w.packs.video w.known w.packs.reads;
   bytes = w.bytes;
-  for = record { configuration = w.packs.packable.for.configuration; accepted = w.packs.packable.for.accepted; passes = read.passes };
+  for = record { configuration = w.packs.packable.for.configuration; accepted = w.packs.packable.for.accepted; passes = read.passes; profiled = refl };
   some = w.packs.packable.some;
   short = short_in profile w.packs.accepted w.packs.video.head w.packs.video.pictures w.packs.packable.short;
-  readable = w.readable;
+  readable = read.readable;
   rated = w.rated;
 }
 
@@ -417,7 +418,7 @@ same_video files packing choice text w = same_by files (greatest_depth packing) 
 pub same_ppm : (packing : Profile) (choice : Choice) (text : List ℕ) (w : WasPacked packing choice text) → IsVideo text (video_in w) → (video_in w).ppm ≡ true → canonical_of (video_in w) ≡ text
 same_ppm packing choice text w is = ppm_by w.packs.video.ppm text w.packs.video.head w.packs.video.pictures is
 
--- headers of PPM are three lines where depths up to 8 are read
+-- headers of PPM are three lines if depths up to 8 are read
 pub lined_by : (lined : (text : List ℕ) (most depth width height : ℕ) (images : List Planes) → most ≤ 8 → IsImagesIn most text depth width height images → IsImages text depth width height images) →
     (most : ℕ) (ppm : Bool) (text : List ℕ) (h : SaidHead) (ps : List Planes) → most ≤ 8 → IsReadVideoBy most ppm text h ps → IsVideoBy ppm text h ps
 lined_by lined deepest true text h ps few v = (v.0, lined text deepest h.depth h.head.width h.head.height ps few v.1)
@@ -429,21 +430,35 @@ passes_by of_record.Strict c passes edges =
     (passes.0, (passes.1.0, (passes.1.1.0, (passes.1.1.1.0, (passes.1.1.1.1.0, (passes.1.1.1.1.1.0, (edges, tt)))))))
 passes_by of_record.Wide c passes edges = passes
 
--- it is read in each profile that reads its depth and accepts its edges
-pub read_in : (packing profile : Profile) (choice : Choice) (text : List ℕ) (w : WasPacked packing choice text) → IsReadIn packing (video_in w) (configuration_in w) × IsReadIn Wide (video_in w) (configuration_in w) × ((video_in w).head.depth ≡ 8 → PassesEdges (record_profile profile) (configuration_in w) → IsReadIn profile (video_in w) (configuration_in w))
+-- its frames are read in the profile that it was packed in
+frames_are_read : (packing : Profile) (choice : Choice) (text : List ℕ) (w : WasPacked packing choice text) → AreReadable (record_profile packing) (packed_frames (video_in w) (accepted_in w))
+frames_are_read Strict choice text w = w.readable refl
+frames_are_read Wide choice text w = w.packs.packable.readable refl
+
+-- it is read in each profile that reads its depth and its frames, and accepts its edges
+pub read_in : (packing profile : Profile) (choice : Choice) (text : List ℕ) (w : WasPacked packing choice text) → IsReadIn packing (video_in w) (accepted_in w) × IsReadIn Wide (video_in w) (accepted_in w)
+    × ((video_in w).head.depth ≡ 8 → PassesEdges (record_profile profile) (accepted_in w).configuration → AreReadable (record_profile profile) (packed_frames (video_in w) (accepted_in w)) → IsReadIn profile (video_in w) (accepted_in w))
 read_in packing profile choice text w = (
-  record { deep = w.packs.packable.deep; passes = w.packs.packable.for.passes },
-  record { deep = all_within packing w.packs.video.head.depth w.packs.packable.deep; passes = w.packs.packable.for.accepted.passes },
-  λ eight edges. record { deep = eight_within profile w.packs.video.head.depth eight; passes = passes_by (record_profile profile) (configuration_in w) w.packs.packable.for.accepted.passes edges },
+  record { deep = w.packs.packable.deep; passes = w.packs.packable.for.passes; readable = frames_are_read packing choice text w },
+  record {
+    deep = all_within packing w.packs.video.head.depth w.packs.packable.deep;
+    passes = w.packs.packable.for.accepted.passes;
+    readable = readable_wide (record_profile packing) (packed_frames (video_in w) (accepted_in w)) (frames_are_read packing choice text w);
+  },
+  λ eight edges readable. record {
+    deep = eight_within profile w.packs.video.head.depth eight;
+    passes = passes_by (record_profile profile) (accepted_in w).configuration w.packs.packable.for.accepted.passes edges;
+    readable = readable;
+  },
 )
 
 -- the AVI of such a text
-module _ (packing profile : Profile) (files : FileLaws profile) (frame_laws : FrameLaws) (records : RecordLaws) (choice : Choice) (text : List ℕ) (w : WasPacked packing choice text) (read : IsReadIn profile (video_in w) (configuration_in w)) where
-  avi_writable : IsWritable (packed_head choice (video_in w) (accepted_in profile w)) (packed_frames (video_in w) (accepted_in profile w))
-  avi_writable = can_write profile files frame_laws records choice text (video_in w) (accepted_in profile w) refl read.deep (given packing profile choice text w read) w.packs.packable.small
+module _ (packing profile : Profile) (files : FileLaws profile) (frame_laws : FrameLaws) (records : RecordLaws) (choice : Choice) (text : List ℕ) (w : WasPacked packing choice text) (read : IsReadIn profile (video_in w) (accepted_in w)) where
+  avi_writable : IsWritable (extent_in (scope_in profile)) (packed_head choice (video_in w) (accepted_as profile w)) (packed_frames (video_in w) (accepted_as profile w))
+  avi_writable = can_write profile files frame_laws records choice text (video_in w) (accepted_as profile w) refl read.deep (given packing profile choice text w read) w.packs.packable.small
 
-  pub avi_reads : file_read (scope_in profile) (packed_file choice (video_in w) (accepted_in profile w)) ≡ Ok ((packed_head choice (video_in w) (accepted_in profile w), packed_frames (video_in w) (accepted_in profile w)), [])
-  avi_reads = files.read (packed_head choice (video_in w) (accepted_in profile w)) (packed_frames (video_in w) (accepted_in profile w)) avi_writable
+  pub avi_reads : file_read (scope_in profile) (packed_file choice (video_in w) (accepted_as profile w)) ≡ Ok ((packed_head choice (video_in w) (accepted_as profile w), packed_frames (video_in w) (accepted_as profile w)), [])
+  avi_reads = files.read (packed_head choice (video_in w) (accepted_as profile w)) (packed_frames (video_in w) (accepted_as profile w)) avi_writable
 
-  pub avi_is : IsFileIn profile (packed_file choice (video_in w) (accepted_in profile w)) (packed_head choice (video_in w) (accepted_in profile w)) (packed_frames (video_in w) (accepted_in profile w))
-  avi_is = files.file (packed_head choice (video_in w) (accepted_in profile w)) (packed_frames (video_in w) (accepted_in profile w)) avi_writable
+  pub avi_is : IsFileIn profile (packed_file choice (video_in w) (accepted_as profile w)) (packed_head choice (video_in w) (accepted_as profile w)) (packed_frames (video_in w) (accepted_as profile w))
+  avi_is = files.file (packed_head choice (video_in w) (accepted_as profile w)) (packed_frames (video_in w) (accepted_as profile w)) avi_writable

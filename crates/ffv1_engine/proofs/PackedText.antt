@@ -10,6 +10,8 @@ use Rattle.ffv1_record.specs.declared.fault.RecordFault.{RecordFault}
 use Rattle.ffv1_codec.specs.Picture.{Planes}
 use Rattle.ffv1_codec.specs.SliceList.{Said}
 use Rattle.ffv1_avi.specs.Chunks.{AreSized, IsWritable}
+use Rattle.ffv1_avi.specs.Names.{most_in}
+use Rattle.ffv1_files.specs.Places.{extent_in}
 use Rattle.ffv1_reads.specs.Head.{Head, limit}
 use Rattle.ffv1_avi.specs.Written.{most, riff_size}
 use Rattle.ffv1_codec.specs.Frame.{frame_of}
@@ -20,8 +22,9 @@ use Rattle.ffv1_y4m.specs.declared.head.VideoHead.{VideoHead}
 use Rattle.ffv1_words.specs.declared.order.Choice.{Choice}
 use Rattle.ffv1_record.specs.declared.config.Profile.{Profile as RecordProfile}
 use Rattle.ffv1_engine.specs.declared.profile.Profile.{Profile}
-use Rattle.ffv1_engine.specs.Profiles.{greatest_depth, record_profile}
-use Rattle.ffv1_engine.specs.Packing.{AreReadable, configuration_for, head_for, said_for}
+use Rattle.ffv1_engine.specs.Profiles.{greatest_depth, record_profile, scope_in}
+use Rattle.ffv1_engine.specs.declared.profile.Profile.TheVariants.{Strict, Wide}
+use Rattle.ffv1_engine.specs.Packing.{AreReadable, configuration_for, head_for, most_frame, said_for}
 use Rattle.ffv1_engine.specs.RoundTrip.{canonical_by}
 use Rattle.ffv1_engine.specs.Stream.{Frame, IsStream, Stream}
 use Rattle.ffv1_engine.specs.Unpacked.{AllSay, AreAlike, HasText, pictures, text_of, video_of}
@@ -55,15 +58,20 @@ rated_by choice true h c is rated = record { is = rated refl }
 rated_by choice false h c is rated = record { is = is.rate }
 
 -- frames that can be read
-sized_frames : (a : Accepted) (said : Said) (ps : List Planes) → AllCoded a said ps → AreReadable (map (λ planes. frame_of a planes said) ps) → AreSized (map (λ planes. frame_of a planes said) ps)
-sized_frames a said [] coded readable = tt
-sized_frames a said (p ∷ ps) coded readable = (coded.0.some, readable.0, sized_frames a said ps coded.1 readable.1)
+sized_frames : (k : RecordProfile) (a : Accepted) (said : Said) (ps : List Planes) → AllCoded a said ps → AreReadable k (map (λ planes. frame_of a planes said) ps) → AreSized (most_frame k) (map (λ planes. frame_of a planes said) ps)
+sized_frames k a said [] coded readable = tt
+sized_frames k a said (p ∷ ps) coded readable = (coded.0.some, readable.0, sized_frames k a said ps coded.1 readable.1)
+
+-- a profile of records reads as long frames as a reader does that reads so far
+most_is : (profile : Profile) → most_frame (record_profile profile) ≡ most_in (extent_in (scope_in profile))
+most_is Strict = refl
+most_is Wide = refl
 
 module _ (profile : Profile) (laws : RecordLaws) (choice : Choice) (ppm : Bool) (h : SaidHead) (a : Accepted) (for : a.configuration ≡ configuration_for choice ppm h) (accepted : IsAccepted a.configuration a.table)
     (passes : PassesAll (record_profile profile) checks a.configuration) (profiled : a.profile ≡ record_profile profile) (is : IsHeadBy ppm h.head) (least : h.depth ≤ greatest_depth profile) where
-  pub writable : (rated : ppm ≡ true → IsRatio 4294967295 choice.rate choice.scale) (ps : List Planes) → AllCoded a (said_for h) ps → AreReadable (map (λ planes. frame_of a planes (said_for h)) ps) →
+  pub writable : (rated : ppm ≡ true → IsRatio 4294967295 choice.rate choice.scale) (ps : List Planes) → AllCoded a (said_for h) ps → AreReadable (record_profile profile) (map (λ planes. frame_of a planes (said_for h)) ps) →
       riff_size (head_for choice ppm h a.configuration) (map (λ planes. frame_of a planes (said_for h)) ps) ≤ most →
-      IsWritable (head_for choice ppm h a.configuration) (map (λ planes. frame_of a planes (said_for h)) ps)
+      IsWritable (extent_in (scope_in profile)) (head_for choice ppm h a.configuration) (map (λ planes. frame_of a planes (said_for h)) ps)
   writable rated ps coded readable small =
       let sizes = sized ppm h.head is in
       let ratio = (rated_by choice ppm h a.configuration is rated).is in
@@ -74,7 +82,7 @@ module _ (profile : Profile) (laws : RecordLaws) (choice : Choice) (ppm : Bool) 
         scale = let few = ratio.second in omega (arith, few);
         both = ratio.both;
         short = subst (λ c. 40 + length (record_of c) ≤ limit) (sym for) (record_short laws.symbols choice ppm h (subst HasLowNumbers for (low_numbers laws.numbers a.configuration a.table accepted)));
-        sized = sized_frames a (said_for h) ps coded readable;
+        sized = subst (λ n. AreSized n (map (λ planes. frame_of a planes (said_for h)) ps)) (most_is profile) (sized_frames (record_profile profile) a (said_for h) ps coded readable);
         small = small;
       }
 

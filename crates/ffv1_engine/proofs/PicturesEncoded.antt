@@ -10,7 +10,7 @@ use Rattle.ffv1_codec.specs.SliceList.{Said}
 use Rattle.ffv1_avi.specs.Written.{frames_of}
 use Rattle.ffv1_engine.specs.declared.fault.Fault.{Fault}
 use Rattle.ffv1_engine.specs.declared.fault.Fault.TheVariants as fault
-use Rattle.ffv1_engine.specs.Internal.Encoding.{EncodesNext, EncodesOne, StopsBy, StopsNext}
+use Rattle.ffv1_engine.specs.Internal.Encoding.{EncodesOne, StopsBy, StopsNext}
 use Rattle.ffv1_engine.specs.Faults.{Cause, cause_of}
 use Rattle.ffv1_engine.specs.Faults.Cause.{Reading, Writing, Memory, Content}
 use Rattle.ffv1_engine.specs.Packing.{said_for}
@@ -32,15 +32,6 @@ encoded_one p a r s planes picture info frame read same said short bytes = (
   subst (λ i. HasLongSlice a planes i → ⊥) said (subst (λ q. HasLongSlice a q info → ⊥) same short),
   bytes ∙ (ap (λ q. frame_of a q info) same ∙ ap (λ i. frame_of a planes i) said),
 )
-
--- it stands after others
-pub encoded_after : (p : Passage) (a : Accepted) (r s : VideoReading) (frames : List (List ℕ)) (frame : List ℕ) → EncodesOne p a r s (Some frame) → EncodesNext p a r s frames (frames ++ (frame ∷ [])) true
-encoded_after p a r s frames frame (planes, read, short, is) = (planes, read, short, ap (λ z. frames ++ (z ∷ [])) is)
-
-pub encoded_next : {A : Type 0} (p : Passage) (a : Accepted) (r s : VideoReading) (old new : List (Vec ℕ A)) (frame : Vec ℕ A) → EncodesOne p a r s (Some frame.items) → new ≡ old ++ (frame ∷ [])
-    → EncodesNext p a r s (frames_of old) (frames_of new) true
-encoded_next p a r s old new frame one behind =
-    subst (λ fs. EncodesNext p a r s (frames_of old) fs true) (sym (ap frames_of behind ∙ frames_behind old frame)) (encoded_after p a r s (frames_of old) frame.items one)
 
 -- ---- why none was
 

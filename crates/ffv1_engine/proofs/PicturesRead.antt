@@ -117,7 +117,7 @@ module _ (p q : Passage) (r s : VideoReading) (pictures : List Planes) (e : Read
       same_next s.ppm s.most s.begun (at_first pictures) s.head e.begun text ∙ ap (λ b. picture_next b s.most s.head (at_first pictures) text) e.ppm
       ∙ ap (λ n. picture_next r.ppm n s.head (at_first pictures) text) e.most ∙ ap (λ h. picture_next r.ppm r.most h (at_first pictures) text) e.head
 
-  -- the next picture was read, where the text is known
+  -- the next picture was read, if the text is known
   pub known_next : (t : VideoReading) (planes : Planes) → NextRead q s (Some planes) t → PicturesKnown p.old q.new r (pictures ++ (planes ∷ []))
   known_next t planes n = known_more p.old p.new q.new r s pictures planes same e.known (subst (λ o. NextKnown o q.new s (Some planes)) joins n.known)
 

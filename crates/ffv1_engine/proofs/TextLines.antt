@@ -22,10 +22,10 @@ use Rattle.ffv1_engine.specs.VideoReads.{PictureLacks, PictureWants}
 use Rattle.ffv1_engine.specs.Internal.VideoReads.{HeadRead, HeadRefused, HeadRefusedBy, IsHeadOf, NextRead, VideoReading}
 use Rattle.ffv1_engine.proofs.FramesInTurn.{silent, take_past}
 use Rattle.ffv1_engine.proofs.KnownTexts.{known_map, known_taken}
-use Rattle.ffv1_engine.proofs.MatroskaPacked.{ImagesOnly, TextsOnly, lacks_up_to, video_known, video_then, wants_up_to}
+use Rattle.ffv1_engine.proofs.MatroskaPacked.{ImagesOnly, TextsOnly, video_known}
 use Rattle.ffv1_engine.proofs.Md5sSoFar.{text_grows}
 use Rattle.ffv1_engine.proofs.PicturesRead.{ReadSo, joined, known_next, lacks_after, memory_kept, read_all, stops_after, wants_after}
-use Rattle.ffv1_engine.proofs.VideoEncoded.{next_up_to, video_of}
+use Rattle.ffv1_engine.proofs.VideoEncoded.{lacks_up_to, next_up_to, video_of, video_then, wants_up_to}
 use Rattle.ffv1_engine.proofs.VideoEnds.{reads_video}
 
 same_picture : (r s : VideoReading) (n : ℕ) (planes : Planes) → s.ppm ≡ r.ppm → s.head ≡ r.head → picture_md5 s n planes ≡ picture_md5 r n planes

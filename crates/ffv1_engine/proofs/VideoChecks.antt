@@ -77,11 +77,11 @@ own_check k choice ppm h g of is (inr (a, inr (b, inr (d, inr (e, inr (f, inl p)
 own_check k choice ppm h g of is (inr (a, inr (b, inr (d, inr (e, inr (f, inr (i, inl p))))))) = rw p.1 refl
 own_check k choice ppm h g of is (inr (a, inr (b, inr (d, inr (e, inr (f, inr (i, inr (j, p)))))))) = absurd p
 
--- or, where that depth is read, for RCT of 16 bits
+-- or, if that depth is read, for RCT of 16 bits
 own_by : (k : RecordProfile) (b : Bool) (choice : Choice) (ppm : Bool) (h : SaidHead) (g : RecordFault) → IsTableOf (replicate 255 (pos 0)) standard → IsHeadBy ppm h.head → IsFirstWhere k b (configuration_for choice ppm h) g → IsPackFault Wide (of_record g)
 own_by k true choice ppm h g of is first = inl (own_check k choice ppm h g of is first)
 own_by k false choice ppm h g of is (inl size) = absurd (size.0 (sized choice ppm h (head_sized ppm h.head is)))
-own_by k false choice ppm h g of is (inr deep) = inr (refl, ap of_record deep.1)
+own_by k false choice ppm h g of is (inr deep) = inr (refl, inl (ap of_record deep.1))
 
 pub own_in : (profile : Profile) (choice : Choice) (ppm : Bool) (h : SaidHead) (g : RecordFault) → IsTableOf (replicate 255 (pos 0)) standard → IsHeadBy ppm h.head → 8 ≤ h.depth → h.depth ≤ greatest_depth profile →
     IsFirstUpTo (record_profile profile) (greatest_depth profile) (configuration_for choice ppm h) g → IsPackFault profile (of_record g)

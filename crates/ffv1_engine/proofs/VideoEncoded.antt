@@ -1,5 +1,5 @@
 -- A video that is read and encoded.
-use Rattle.std.specs.Prelude.{◌≡◌, ◌⊎◌, ℕ, Bool, true, false, List, [], ◌∷◌, Option, Some, None}
+use Rattle.std.specs.Prelude.{◌≡◌, ◌⊎◌, ℕ, Bool, true, false, List, [], ◌∷◌, Option, Some, None, Ok}
 use Rattle.std.proofs.Common.{refl, sym, ◌∙◌, ap, subst, inl, inr}
 use Rattle.ffv1_wire.specs.Passage.{Passage}
 use Rattle.ffv1_wire.specs.Failures.{one_more}
@@ -11,19 +11,23 @@ use Rattle.ffv1_engine.specs.Video.{SaidHead}
 use Rattle.ffv1_words.specs.declared.order.Choice.{Choice}
 use Rattle.ffv1_engine.specs.declared.fault.Fault.{Fault}
 use Rattle.ffv1_engine.specs.declared.fault.Fault.TheVariants as fault
-use Rattle.ffv1_engine.specs.Internal.Encoding.{AllKnown, EncodesAll, EndsAt, EndsKnown, StopsEncoding, StopsEncodingBy}
+use Rattle.ffv1_engine.specs.Internal.Encoding.{AllKnown, EncodesAll, EncodesUpTo, EndsOne, StopsEncoding, StopsEncodingBy}
 use Rattle.ffv1_engine.specs.Faults.{Cause, cause_of, of_record}
 use Rattle.ffv1_engine.specs.Faults.Cause.{Reading, Writing, Memory, Content}
-use Rattle.ffv1_engine.specs.Pack.{EndsBehind, FaultsPacked, HasHead}
+use Rattle.ffv1_engine.specs.Pack.{EncodesSome, Ends, EndsBehind, FaultsPacked, HasHead, IsRejected, LacksHead, StandsAfterHead}
 use Rattle.ffv1_engine.specs.Internal.Pack.{StopsVideo, StopsVideoBy}
-use Rattle.ffv1_engine.specs.Packing.{AllShort, IsFor, configuration_for, frames_for}
-use Rattle.ffv1_engine.specs.Video.{ReadsPictures, Video, at_first, picture_next}
-use Rattle.ffv1_engine.specs.VideoReads.{LacksKnown}
+use Rattle.ffv1_engine.specs.Packing.{AllShort, AreReadable, AreReadableIn, IsFor, IsLongIn, configuration_for, frames_for, said_for}
+use Rattle.ffv1_engine.specs.Video.{Begins, ReadsPictures, Video, at_first, is_ppm, picture_next, video_head}
+use Rattle.ffv1_engine.specs.VideoReads.{LacksKnown, PictureLacks, PictureWants}
+use Rattle.ffv1_codec.specs.Frame.{frame_of}
+use Rattle.ffv1_reads.specs.Known.{Known}
+use Rattle.ffv1_y4m.specs.Reads.{Wants}
 use Rattle.ffv1_engine.specs.Internal.VideoReads.{HeadKnown, HeadRead, HeadRefused, HeadRefusedBy, VideoReading}
 use Rattle.ffv1_record.specs.declared.config.Profile.{Profile as RecordProfile}
 use Rattle.ffv1_engine.specs.declared.profile.Profile.{Profile}
 use Rattle.ffv1_engine.specs.Profiles.{greatest_depth, record_profile}
 use Rattle.ffv1_engine.proofs.Depths.{first_or_depth}
+use Rattle.ffv1_engine.proofs.KnownTexts.{known_map, known_taken}
 use Rattle.ffv1_engine.proofs.PicturesRead.{joined}
 
 -- the faults of a configuration are no want of memory
@@ -49,7 +53,7 @@ lacks_packed profile (Some text) None choice f k = k
 lacks_packed profile (Some text) (Some rest) choice f k = inl k
 
 no_head_by : (profile : Profile) (c : Cause) (choice : Choice) (p : Passage) (f : Fault) → HeadRefusedBy (greatest_depth profile) c p f → StopsVideoBy profile c choice p f
-no_head_by profile Reading choice p f h = h.0
+no_head_by profile Reading choice p f h = (h.0, inl (known_taken p.old p.new (Wants (video_head (greatest_depth profile))) (Wants (video_head (greatest_depth profile))) (λ bytes is. is) h.1))
 no_head_by profile Writing choice p f h = absurd h
 no_head_by profile Memory choice p f h = absurd h
 no_head_by profile Content choice p f h = (h.0, lacks_packed profile p.old p.new choice f h.1)
@@ -72,6 +76,9 @@ has_head most None new r k = tt
 has_head most (Some text) None r k = absurd k
 has_head most (Some text) (Some rest) r k = (r.head, rest, k.1)
 
+pub after_head : (most : ℕ) (old new : Option (List ℕ)) (r : VideoReading) → HeadKnown most old new r.ppm r.head → StandsAfterHead most old new
+after_head most old new r k = known_map old new (λ text rest. (r.ppm ≡ is_ppm text) × (video_head most text ≡ Ok (r.head, rest))) (λ text rest. (h : SaidHead) × (video_head most text ≡ Ok (h, rest))) (λ text rest is. (r.head, is.1)) k
+
 rejected_by : (profile : Profile) (old new : Option (List ℕ)) (choice : Choice) (r : VideoReading) (g : RecordFault) → HeadKnown (greatest_depth profile) old new r.ppm r.head → IsFirstUpTo (record_profile profile) (greatest_depth profile) (configuration_for choice r.ppm r.head) g → FaultsPacked profile choice old new (of_record g)
 rejected_by profile None new choice r g k i = tt
 rejected_by profile (Some text) None choice r g k i = k
@@ -85,7 +92,7 @@ rejected_by profile (Some text) (Some rest) choice r g k i = inr (inl (record {
 
 -- after its head memory is refused, or the configuration is
 pub wants_memory : (profile : Profile) (choice : Choice) (p : Passage) (r : VideoReading) (f : Fault) → HeadRead (greatest_depth profile) p r → f ≡ fault.OutOfMemory → StopsVideo profile choice p f
-wants_memory profile choice p r f h e = rw e (h.kept, has_head (greatest_depth profile) p.old p.new r h.known)
+wants_memory profile choice p r f h e = rw e (h.kept, has_head (greatest_depth profile) p.old p.new r h.known, inl (after_head (greatest_depth profile) p.old p.new r h.known))
 
 pub rejected : (profile : Profile) (choice : Choice) (p : Passage) (r : VideoReading) (f : Fault) → HeadRead (greatest_depth profile) p r → (f ≡ fault.OutOfMemory) ⊎ ((g : RecordFault) × IsFirstUpTo (record_profile profile) (greatest_depth profile) (configuration_for choice r.ppm r.head) g × (f ≡ of_record g)) → StopsVideo profile choice p f
 rejected profile choice p r f h (inl e) = wants_memory profile choice p r f h e
@@ -96,34 +103,90 @@ rejected profile choice p r f h (inr (g, i, e)) =
 abbrev pub video_of : VideoReading → List Planes → Video
 video_of r pictures = record { ppm = r.ppm; head = r.head; pictures = pictures }
 
-ends_behind : (most : ℕ) (choice : Choice) (a : Accepted) (r : VideoReading) (ps : List Planes) (left rest : List ℕ) (f : Fault) → (r.ppm ≡ true → r.most ≡ most) → EndsAt a r ps left rest f → EndsBehind most choice (video_of r ps) a left rest f
-ends_behind most choice a r ps left rest f later (inl e) = inl (e.0, sym (next_up_to r.ppm r.most most r.head (at_first ps) left later) ∙ e.1, e.2)
-ends_behind most choice a r ps left rest f later (inr e) = inr (inl (e.0, sym (next_up_to r.ppm r.most most r.head (at_first ps) left later) ∙ e.1, e.2, e.3))
+-- YUV4MPEG2 does not ask which depths a header may say
+pub wants_up_to : (ppm : Bool) (n most : ℕ) (h : SaidHead) (ps : List Planes) (left rest : List ℕ) → (ppm ≡ true → n ≡ most) → PictureWants ppm n h ps left rest → PictureWants ppm most h ps left rest
+wants_up_to true n most h ps left rest e is = subst (λ k. PictureWants true k h ps left rest) (e refl) is
+wants_up_to false n most h ps left rest e is = is
 
-ends_known : (profile : Profile) (old mid new : Option (List ℕ)) (choice : Choice) (a : Accepted) (r : VideoReading) (ps : List Planes) (f : Fault) → (r.ppm ≡ true → r.most ≡ (greatest_depth profile)) → IsFor profile choice r.ppm r.head a → AllShort a r.head ps → HeadKnown (greatest_depth profile) old mid r.ppm r.head → EndsKnown mid new a r ps f → FaultsPacked profile choice old new f
-ends_known profile None mid new choice a r ps f later for short h e = tt
-ends_known profile (Some text) None new choice a r ps f later for short h e = absurd h
-ends_known profile (Some text) (Some behind) None choice a r ps f later for short h e = e
-ends_known profile (Some text) (Some behind) (Some rest) choice a r ps f later for short h (left, reads, ends) = inr (inr (record {
-  video = video_of r ps;
-  accepted = a;
-  left = left;
-  begins = record { kind = h.0; behind = behind; head = h.1; pictures = reads_up_to r.ppm r.most (greatest_depth profile) r.head true behind ps left later reads };
-  for = for;
-  short = short;
-  ends = ends_behind (greatest_depth profile) choice a r ps left rest f later ends;
-}))
+pub lacks_up_to : (ppm : Bool) (n most : ℕ) (h : SaidHead) (ps : List Planes) (left rest : List ℕ) → (ppm ≡ true → n ≡ most) → PictureLacks ppm n h ps left rest → PictureLacks ppm most h ps left rest
+lacks_up_to true n most h ps left rest e is = subst (λ k. PictureLacks true k h ps left rest) (e refl) is
+lacks_up_to false n most h ps left rest e is = is
 
-stops_by : (profile : Profile) (c : Cause) (choice : Choice) (p q : Passage) (a : Accepted) (r : VideoReading) (f : Fault) → q.old ≡ p.new → q.before ≡ p.after → HeadRead (greatest_depth profile) p r → IsFor profile choice r.ppm r.head a → StopsEncodingBy c q a r f → StopsVideoBy profile c choice (joined p q) f
-stops_by profile Reading choice p q a r f joins counts h for s = s ∙ ap one_more (counts ∙ h.kept)
-stops_by profile Writing choice p q a r f joins counts h for s = s
-stops_by profile Memory choice p q a r f joins counts h for s = (s ∙ (counts ∙ h.kept), has_head (greatest_depth profile) p.old p.new r h.known)
-stops_by profile Content choice p q a r f joins counts h for s =
-    (s.kept ∙ (counts ∙ h.kept), ends_known profile p.old p.new q.new choice a r s.pictures f h.later for s.short h.known (subst (λ o. EndsKnown o q.new a r s.pictures f) joins s.known))
+-- after its head these pictures of a text were read, and then so much
+pub video_then : (most : ℕ) (old mid new : Option (List ℕ)) (r : VideoReading) (ps : List Planes) (P Q : List ℕ → List ℕ → Type 0) → ((left rest : List ℕ) → P left rest → Q left rest) → (r.ppm ≡ true → r.most ≡ most) → HeadKnown most old mid r.ppm r.head →
+    Known mid new (λ text rest. (left : List ℕ) × ReadsPictures r.ppm r.most r.head true text ps left × P left rest) → Known old new (λ text rest. (left : List ℕ) × Begins most text (video_of r ps) left × Q left rest)
+video_then most None mid new r ps P Q f later h k = tt
+video_then most (Some text) None new r ps P Q f later h k = absurd h
+video_then most (Some text) (Some behind) None r ps P Q f later h k = k
+video_then most (Some text) (Some behind) (Some rest) r ps P Q f later h (left, reads, is) =
+    (left, record { kind = h.0; behind = behind; head = h.1; pictures = reads_up_to r.ppm r.most most r.head true behind ps left later reads }, f left rest is)
 
--- a picture after it stops
-pub stops : (profile : Profile) (choice : Choice) (p q : Passage) (a : Accepted) (r : VideoReading) (f : Fault) → q.old ≡ p.new → q.before ≡ p.after → HeadRead (greatest_depth profile) p r → IsFor profile choice r.ppm r.head a → StopsEncoding q a r f → StopsVideo profile choice (joined p q) f
-stops profile choice p q a r f joins counts h for s = stops_by profile (cause_of f) choice p q a r f joins counts h for s
+-- the pictures of an AVI, after its head
+module _ (profile : Profile) (choice : Choice) (p q : Passage) (a : Accepted) (r : VideoReading) (joins : q.old ≡ p.new) (counts : q.before ≡ p.after) (h : HeadRead (greatest_depth profile) p r) (for : IsFor profile choice r.ppm r.head a) where
+  abbrev most : ℕ
+  most = greatest_depth profile
+
+  ends_behind : (ps : List Planes) (left rest : List ℕ) (f : Fault) → EndsOne a r f ps left rest → EndsBehind profile choice (video_of r ps) a left rest f
+  ends_behind ps left rest f ends =
+      let same = sym (next_up_to r.ppm r.most most r.head (at_first ps) left h.later) in
+      elim ends [
+        | inl at ↦ elim at [
+          | inl faulty ↦ inl (faulty.0, same ∙ faulty.1, faulty.2)
+          | inr long ↦ inr (inl (long.0, same ∙ long.1, inl (long.2, long.3)))
+        ]
+        | inr long ↦ inr (inl (long.0, same ∙ long.1, inr (long.2, subst (λ k. IsLongIn k (frame_of a long.0 (said_for r.head))) for.profiled long.3, long.4)))
+      ]
+
+  -- of so many the frames are not too long
+  pub short_in : (ps : List Planes) → AreReadableIn a.profile (frames_for a r.head ps) → AreReadableIn (record_profile profile) (frames_for a r.head ps)
+  short_in ps are = subst (λ k. AreReadableIn k (frames_for a r.head ps)) for.profiled are
+
+  then : (Next After : List Planes → List ℕ → List ℕ → Type 0) → ((ps : List Planes) (left rest : List ℕ) → Next ps left rest → After ps left rest) → (s : EncodesUpTo Next q a r) →
+      Known p.old q.new (λ text rest. (left : List ℕ) × Begins most text (video_of r s.pictures) left × After s.pictures left rest)
+  then Next After f s = video_then most p.old p.new q.new r s.pictures (Next s.pictures) (After s.pictures) (f s.pictures) h.later h.known
+      (subst (λ t. Known t q.new (λ text rest. (left : List ℕ) × ReadsPictures r.ppm r.most r.head true text s.pictures left × Next s.pictures left rest)) joins s.taken)
+
+  some : (Next : List Planes → List ℕ → List ℕ → Type 0) (After : Video → List ℕ → List ℕ → Type 0) → ((ps : List Planes) (left rest : List ℕ) → Next ps left rest → After (video_of r ps) left rest) → EncodesUpTo Next q a r → EncodesSome profile After choice (joined p q)
+  some Next After f s = record {
+    video = video_of r s.pictures;
+    accepted = a;
+    for = for;
+    short = s.short;
+    readable = short_in s.pictures s.readable;
+    taken = then Next (λ ps. After (video_of r ps)) f s;
+  }
+
+  abbrev Ended : Fault → List ℕ → List ℕ → Type 0
+  Ended f text rest = LacksHead most text rest f ⊎ IsRejected profile choice text rest f ⊎ Ends profile choice text rest f
+
+  ends_text : (f : Fault) → EncodesUpTo (EndsOne a r f) q a r → FaultsPacked profile choice p.old q.new f
+  ends_text f s = known_map p.old q.new _ (Ended f) (λ text rest is. inr (inr (record {
+    video = video_of r s.pictures;
+    accepted = a;
+    left = is.0;
+    begins = is.1;
+    for = for;
+    short = s.short;
+    readable = short_in s.pictures s.readable;
+    ends = is.2;
+  }))) (then (EndsOne a r f) (λ ps left rest. EndsBehind profile choice (video_of r ps) a left rest f) (λ ps left rest. ends_behind ps left rest f) s)
+
+  stops_by : (c : Cause) (f : Fault) → StopsEncodingBy c q a r f → StopsVideoBy profile c choice (joined p q) f
+  stops_by Reading f s = (
+    s.0 ∙ ap one_more (counts ∙ h.kept),
+    inr (some (PictureWants r.ppm r.most r.head) (λ v. PictureWants v.ppm most v.head v.pictures) (λ ps left rest is. wants_up_to r.ppm r.most most r.head ps left rest h.later is) s.1),
+  )
+  stops_by Writing f s = s
+  stops_by Memory f s = (
+    s.0 ∙ (counts ∙ h.kept),
+    has_head most p.old p.new r h.known,
+    inr (some (PictureLacks r.ppm r.most r.head) (λ v. PictureLacks v.ppm most v.head v.pictures) (λ ps left rest is. lacks_up_to r.ppm r.most most r.head ps left rest h.later is) s.1),
+  )
+  stops_by Content f s = (s.0 ∙ (counts ∙ h.kept), ends_text f s.1)
+
+  -- a picture after it stops
+  pub stops : (f : Fault) → StopsEncoding q a r f → StopsVideo profile choice (joined p q) f
+  stops f s = stops_by (cause_of f) f s
 
 no_pictures : (a : Accepted) (r : VideoReading) (ps : List Planes) → frames_for a r.head ps ≡ [] → ps ≡ []
 no_pictures a r [] e = refl
@@ -140,6 +203,7 @@ none_known profile (Some text) (Some behind) (Some rest) choice a r ps e later f
   begins = record { kind = h.0; behind = behind; head = h.1; pictures = reads_up_to r.ppm r.most (greatest_depth profile) r.head true behind ps left later reads };
   for = for;
   short = short;
+  readable = λ wide. subst (λ z. AreReadable (record_profile profile) (frames_for a r.head z)) (sym e) tt;
   ends = inr (inr (sym (next_up_to r.ppm r.most (greatest_depth profile) r.head (at_first ps) left later) ∙ end, inl (e, refl)));
 }))
 

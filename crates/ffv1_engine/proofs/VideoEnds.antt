@@ -22,12 +22,12 @@ use Rattle.ffv1_y4m.specs.Header.{header_of}
 use Rattle.ffv1_words.specs.declared.order.Choice.{Choice}
 use Rattle.ffv1_engine.specs.Internal.Encoding.{AllKnown, EncodesAll}
 use Rattle.ffv1_engine.specs.Internal.Pack.{EncodesVideo, EndsVideo}
-use Rattle.ffv1_engine.specs.Packing.{IsFor, frames_for, head_for}
+use Rattle.ffv1_engine.specs.Packing.{AreReadable, AreReadableIn, IsFor, frames_for, head_for}
 use Rattle.ffv1_engine.specs.Video.{IsReadVideoBy, ReadsPictures, ReadsVideo, at_first, is_ppm, picture_next, seen_as, video_head}
 use Rattle.ffv1_engine.specs.VideoReads.{IsHeadBy}
 use Rattle.ffv1_engine.specs.Internal.VideoReads.{HeadKnown, HeadRead, IsHeadOf, VideoReading}
 use Rattle.ffv1_engine.proofs.PicturesRead.{joined}
-use Rattle.ffv1_engine.proofs.VideoEncoded.{next_up_to, reads_up_to, video_of}
+use Rattle.ffv1_engine.proofs.VideoEncoded.{next_up_to, reads_up_to, short_in, video_of}
 
 -- an outcome is no false, unless it is a fault
 abbrev IsBegun : Outcome Bool → Type 0
@@ -173,9 +173,9 @@ module _ (texts_only : (text : List ℕ) (most depth : ℕ) (h : VideoHead) (res
       let over = sym (next_up_to r.ppm r.most most r.head (at_first ps) left later) ∙ end in
       (by_kind r.ppm most r.head text behind left rest ps h.0 h.1 reads_all over some is, video_end r.ppm most r.head (at_first ps) left rest over)
 
-  pub encodes_video : (profile : Profile) (choice : Choice) (p q : Passage) (a : Accepted) (r : VideoReading) (head : Head) (frames : List (List ℕ)) → q.old ≡ p.new → q.before ≡ p.after → HeadRead (greatest_depth profile) p r → IsHeadOf r → IsFor profile choice r.ppm r.head a → EncodesAll q a r frames → 0 < length frames →
+  pub encodes_video : (profile : Profile) (choice : Choice) (p q : Passage) (a : Accepted) (r : VideoReading) (head : Head) (frames : List (List ℕ)) → q.old ≡ p.new → q.before ≡ p.after → HeadRead (greatest_depth profile) p r → IsHeadOf r → IsFor profile choice r.ppm r.head a → EncodesAll q a r frames → AreReadableIn a.profile frames → 0 < length frames →
       head ≡ head_for choice r.ppm r.head a.configuration → EncodesVideo profile choice (joined p q) head frames
-  encodes_video profile choice p q a r head frames joins counts h is for all some e =
+  encodes_video profile choice p q a r head frames joins counts h is for all readable some e =
       let many = some_pictures a r all.pictures frames all.are some in
       let known = subst (λ o. AllKnown o q.new r all.pictures) joins all.known in record {
         video = video_of r all.pictures;
@@ -186,6 +186,7 @@ module _ (texts_only : (text : List ℕ) (most depth : ℕ) (h : VideoHead) (res
         for = for;
         some = many;
         short = all.short;
+        readable = short_in profile choice p q a r joins counts h for all.pictures (λ wide. subst (AreReadable a.profile) all.are (readable wide));
         head_is = e;
         frames_are = all.are;
         kept = all.kept ∙ (counts ∙ h.kept);

@@ -20,7 +20,7 @@ use Rattle.ffv1_engine.specs.FrameLines.{frame_line, place_text}
 
 -- ---- payloads that are judged
 
--- a payload codes a frame; or it has this first fault, where so much was decided
+-- a payload codes a frame; or it has this first fault, after so much was decided
 pub data Judged : Type 0 where
   Decoded : Frame → Judged
   Refused : List ℕ → FrameFault → Tally → Judged

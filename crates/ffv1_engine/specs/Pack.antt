@@ -8,7 +8,7 @@ use Rattle.ffv1_wire.specs.Writes.{AppendsBeginning}
 use Rattle.ffv1_record.specs.Accepted.{Accepted, IsFirstUpTo}
 use Rattle.ffv1_record.specs.declared.fault.RecordFault.{RecordFault}
 use Rattle.ffv1_codec.specs.Picture.{Planes}
-use Rattle.ffv1_codec.specs.Frame.{HasLongSlice}
+use Rattle.ffv1_codec.specs.Frame.{frame_of, HasLongSlice}
 use Rattle.ffv1_avi.specs.Written.{most as most_bytes, riff_size}
 use Rattle.ffv1_y4m.specs.declared.fault.Fault.{Fault as Y4mFault}
 use Rattle.ffv1_engine.specs.Video.{SaidHead}
@@ -25,17 +25,22 @@ use Rattle.ffv1_engine.specs.Trial.{Silent}
 use Rattle.ffv1_engine.specs.Video.{Video, Begins, ReadsVideo, at_first, is_ppm, picture_next}
 use Rattle.ffv1_engine.specs.Video.{video_head}
 use Rattle.ffv1_engine.specs.Profiles.{greatest_depth, record_profile}
-use Rattle.ffv1_engine.specs.Packing.{AllShort, IsFor, bytes_in, configuration_for, packed_file}
-use Rattle.ffv1_engine.specs.Packing.{packed_frames, packed_head, said_for}
+use Rattle.ffv1_engine.specs.Packing.{AllShort, AreReadableIn, IsFor, IsLongIn, bytes_in}
+use Rattle.ffv1_engine.specs.Packing.{configuration_for, packed_file, packed_frames, packed_head}
+use Rattle.ffv1_engine.specs.Packing.{said_for}
+use Rattle.ffv1_engine.specs.VideoReads.{PictureLacks, PictureWants, Taken}
+use Rattle.ffv1_y4m.specs.Reads.{Wants}
+use Rattle.ffv1_y4m.specs.Sequence.{Reading as TextReading}
 
 -- a video of at least one picture, of a depth and a grid that a profile packs, whose file may be
--- written: each frame, and the file, is short enough
+-- written: each slice, and the file, is short enough; in `Wide` each frame, too
 pub record IsPackable (profile : Profile) (choice : Choice) (v : Video) (a : Accepted)
     : Type 0 where
   pub deep : v.head.depth ≤ greatest_depth profile
   pub for : IsFor profile choice v.ppm v.head a
   pub some : 0 < length v.pictures
   pub short : AllShort a v.head v.pictures
+  pub readable : AreReadableIn (record_profile profile) (packed_frames v a)
   pub small : riff_size (packed_head choice v a) (packed_frames v a) ≤ most_bytes
 
 -- the video was read, its file was written, and what was counted
@@ -75,16 +80,26 @@ pub record IsRejected (profile : Profile) (choice : Choice) (text rest : List �
       (configuration_for choice (is_ppm text) head) refusal
   pub is : f ≡ of_record refusal
 
--- why packing ends after the pictures of a video: the next one has a fault, or a slice that is too
--- long; or there is no more, and there was none, or their file would be too large
-abbrev pub EndsBehind : ℕ → Choice → Video → Accepted → List ℕ → List ℕ → Fault → Type 0
-EndsBehind most choice v a left rest f =
-    ((g : Y4mFault) × (picture_next v.ppm most v.head (at_first v.pictures) left ≡ Err (g, rest))
-    × (f ≡ of_y4m g))
-    ⊎ ((p : Planes)
-    × (picture_next v.ppm most v.head (at_first v.pictures) left ≡ Ok (Some p, rest))
-    × HasLongSlice a p (said_for v.head) × (f ≡ fault.SliceTooLong))
-    ⊎ ((picture_next v.ppm most v.head (at_first v.pictures) left ≡ Ok (None, rest))
+-- the next picture has no frame: a slice of it is too long; or, in `Wide`, its frame is too long to
+-- be read
+abbrev pub LacksFrame : Profile → Video → Accepted → Planes → Fault → Type 0
+LacksFrame profile v a p f =
+    (HasLongSlice a p (said_for v.head) × (f ≡ fault.SliceTooLong))
+    ⊎ ((HasLongSlice a p (said_for v.head) → ⊥)
+    × IsLongIn (record_profile profile) (frame_of a p (said_for v.head))
+    × (f ≡ fault.ChunkTooLong))
+
+-- the next picture of a text in a profile, after those of a video
+abbrev pub next_in : Profile → Video → TextReading (Option Planes)
+next_in profile v = picture_next v.ppm (greatest_depth profile) v.head (at_first v.pictures)
+
+-- why packing ends after the pictures of a video: the next one has a fault, or no frame; or there
+-- is no more, and there was none, or their file would be too large
+abbrev pub EndsBehind : Profile → Choice → Video → Accepted → List ℕ → List ℕ → Fault → Type 0
+EndsBehind profile choice v a left rest f =
+    ((g : Y4mFault) × (next_in profile v left ≡ Err (g, rest)) × (f ≡ of_y4m g))
+    ⊎ ((p : Planes) × (next_in profile v left ≡ Ok (Some p, rest)) × LacksFrame profile v a p f)
+    ⊎ ((next_in profile v left ≡ Ok (None, rest))
     × (((v.pictures ≡ []) × (f ≡ fault.NoFrames))
     ⊎ ((0 < length v.pictures)
     × (most_bytes < riff_size (packed_head choice v a) (packed_frames v a))
@@ -99,7 +114,8 @@ pub record Ends (profile : Profile) (choice : Choice) (text rest : List ℕ) (f 
   pub begins : Begins (greatest_depth profile) text video left
   pub for : IsFor profile choice video.ppm video.head accepted
   pub short : AllShort accepted video.head video.pictures
-  pub ends : EndsBehind (greatest_depth profile) choice video accepted left rest f
+  pub readable : AreReadableIn (record_profile profile) (packed_frames video accepted)
+  pub ends : EndsBehind profile choice video accepted left rest f
 
 -- the first fault of a text that is packed, if that is known, with this left
 abbrev pub FaultsPacked : Profile → Choice → Option (List ℕ) → Option (List ℕ) → Fault → Type 0
@@ -113,17 +129,53 @@ HasHead most None = ⊤
 HasHead most (Some text) =
     (h : SaidHead) × (rest : List ℕ) × (video_head most text ≡ Ok (h, rest))
 
+-- the pictures of a video are encoded, and of the text, if it is known, this video was read, and
+-- then so much as this says
+pub record EncodesSome (profile : Profile) (Next : Video → List ℕ → List ℕ → Type 0)
+    (choice : Choice) (input : Passage) : Type 0 where
+  pub video : Video
+  pub accepted : Accepted
+  pub for : IsFor profile choice video.ppm video.head accepted
+  pub short : AllShort accepted video.head video.pictures
+  pub readable : AreReadableIn (record_profile profile) (packed_frames video accepted)
+  pub taken : Known input.old input.new (λ text rest.
+      (left : List ℕ) × Begins (greatest_depth profile) text video left × Next video left rest)
+
+-- and then a read failed, if the next picture wants one more byte
+abbrev pub EncodingReadFails : Profile → Choice → Passage → Type 0
+EncodingReadFails profile choice input = EncodesSome profile
+    (λ v. PictureWants v.ppm (greatest_depth profile) v.head v.pictures) choice input
+
+-- and then memory was refused for the next picture, or for the frame of it
+abbrev pub EncodingLacks : Profile → Choice → Passage → Type 0
+EncodingLacks profile choice input = EncodesSome profile
+    (λ v. PictureLacks v.ppm (greatest_depth profile) v.head v.pictures) choice input
+
+-- if the text is known, its head was read, and nothing after it
+abbrev pub StandsAfterHead : ℕ → Option (List ℕ) → Option (List ℕ) → Type 0
+StandsAfterHead most old new = Known old new (λ text rest.
+    (h : SaidHead) × (video_head most text ≡ Ok (h, rest)))
+
+-- the head of a text, if that is known, wants one more byte
+abbrev pub HeadWants : ℕ → Option (List ℕ) → Option (List ℕ) → Type 0
+HeadWants most old new = Known old new (Taken (Wants (video_head most)))
+
 -- why packing is refused, by what the fault comes from: a write that failed, which was counted,
 -- after a beginning of the file; and else with nothing written a read that failed, which was
--- counted, memory after a head, or the first fault of the text
+-- counted, if the head or the next picture wants one more byte; memory after a head, or for the
+-- next picture; or the first fault of the text
 abbrev pub RefusesBy : Profile → Cause → Choice → Passage → Passage → Fault → Type 0
 RefusesBy profile Writing choice input output f =
     PacksBeginning profile choice input output × (output.after ≡ one_more output.before)
     × (input.after ≡ input.before)
 RefusesBy profile Reading choice input output f =
     Silent output × (input.after ≡ one_more input.before)
+    × (HeadWants (greatest_depth profile) input.old input.new
+    ⊎ EncodingReadFails profile choice input)
 RefusesBy profile Memory choice input output f =
     Silent output × (input.after ≡ input.before) × HasHead (greatest_depth profile) input.old
+    × (StandsAfterHead (greatest_depth profile) input.old input.new
+    ⊎ EncodingLacks profile choice input)
 RefusesBy profile Content choice input output f =
     Silent output × (input.after ≡ input.before)
     × FaultsPacked profile choice input.old input.new f
@@ -150,6 +202,7 @@ is_pack_fault fault.NoFrames = true
 is_pack_fault fault.FormatChanged = true
 is_pack_fault f = false
 
--- with the one of a depth that is read and not accepted
+-- with those of `Wide`: of a depth that is read and not accepted, and of a frame that is too long
 abbrev pub IsPackFault : Profile → Fault → Type 0
-IsPackFault profile f = (is_pack_fault f ≡ true) ⊎ ((profile ≡ Wide) × (f ≡ fault.Depth))
+IsPackFault profile f = (is_pack_fault f ≡ true)
+    ⊎ ((profile ≡ Wide) × ((f ≡ fault.Depth) ⊎ (f ≡ fault.ChunkTooLong)))

@@ -10,17 +10,20 @@ use Rattle.ffv1_record.specs.declared.fault.RecordFault.{RecordFault}
 use Rattle.ffv1_codec.specs.Picture.{Planes}
 use Rattle.ffv1_codec.specs.Frame.{frame_of, HasLongSlice}
 use Rattle.ffv1_reads.specs.Known.{Known}
-use Rattle.ffv1_reads.specs.Head.{limit}
 use Rattle.ffv1_matroska.specs.Rates.{IsTimed}
 use Rattle.ffv1_matroska.specs.Writers.{rate_in}
 use Rattle.ffv1_matroska.specs.Written.{begun_of, end_place, finish_of, finished_of, open_of}
 use Rattle.ffv1_matroska.specs.Written.{opening}
 use Rattle.ffv1_matroska.specs.WrittenPlaces.{cluster_bytes, last_place}
-use Rattle.ffv1_matroska.specs.declared.shown.Shown.{Shown}
+use Rattle.ffv1_matroska.specs.declared.track_entry.TrackEntry.{TrackEntry}
 use Rattle.ffv1_y4m.specs.Reads.{Wants}
 use Rattle.ffv1_y4m.specs.declared.fault.Fault.{Fault as Y4mFault}
 use Rattle.ffv1_engine.specs.Video.{SaidHead}
 use Rattle.ffv1_words.specs.declared.order.Choice.{Choice}
+use Rattle.ffv1_words.specs.declared.order.CodecIdChoice.{CodecIdChoice}
+use Rattle.ffv1_words.specs.declared.order.CodecIdChoice.TheVariants as choice_of
+use Rattle.ffv1_matroska.specs.declared.track_entry.CodecId.{CodecId}
+use Rattle.ffv1_matroska.specs.declared.track_entry.CodecId.TheVariants as codec_id
 use Rattle.ffv1_engine.specs.declared.profile.Profile.{Profile}
 use Rattle.ffv1_engine.specs.declared.profile.Profile.TheVariants.{Wide}
 use Rattle.ffv1_engine.specs.declared.fault.Fault.{Fault}
@@ -29,9 +32,10 @@ use Rattle.ffv1_engine.specs.declared.matroska_packing.PackedMatroska.{PackedMat
 use Rattle.ffv1_engine.specs.Faults.{Cause, cause_of, of_record, of_y4m}
 use Rattle.ffv1_engine.specs.Faults.Cause.{Reading, Writing, Memory, Content}
 use Rattle.ffv1_engine.specs.Grids.{choice_for}
-use Rattle.ffv1_engine.specs.Pack.{HasHead, LacksHead, is_pack_fault}
+use Rattle.ffv1_engine.specs.Pack.{HasHead, HeadWants, LacksHead, StandsAfterHead, is_pack_fault}
+use Rattle.ffv1_engine.specs.Pack.{next_in}
 use Rattle.ffv1_engine.specs.Packing.{AllShort, AreReadable, IsFor, bytes_in, configuration_for}
-use Rattle.ffv1_engine.specs.Packing.{head_for}
+use Rattle.ffv1_engine.specs.Packing.{head_for, most_frame}
 use Rattle.ffv1_engine.specs.Packing.{packed_frames, packed_head, said_for}
 use Rattle.ffv1_engine.specs.Profiles.{greatest_depth, record_profile}
 use Rattle.ffv1_engine.specs.Play.{WritesUpTo}
@@ -40,9 +44,16 @@ use Rattle.ffv1_engine.specs.Video.{video_head}
 use Rattle.ffv1_engine.specs.VideoReads.{IsHeadBy, PictureLacks}
 use Rattle.ffv1_engine.specs.VideoReads.{PictureWants, Taken}
 
--- how the pictures of a video are shown
-abbrev pub shown_for : SaidHead → Shown
-shown_for h = record {
+-- what a choice calls the codec
+abbrev pub codec_id_for : CodecIdChoice → CodecId
+codec_id_for choice_of.Native = codec_id.Native
+codec_id_for choice_of.Vfw = codec_id.Vfw
+
+-- what the TrackEntry of a video says beside the head of its file: the codec's ID of the choice,
+-- and how the pictures are shown
+abbrev pub details_for : Choice → SaidHead → TrackEntry
+details_for choice h = record {
+  codec_id = codec_id_for choice.codec_id;
   structure = h.head.structure;
   sar_num = h.head.sar_num;
   sar_den = h.head.sar_den;
@@ -51,14 +62,16 @@ shown_for h = record {
 -- the file of a video: while pictures may still come; with all of them, if it cannot be written
 -- over; and finished
 abbrev pub begun_file : Choice → Video → Accepted → List ℕ
-begun_file choice v a = begun_of (packed_head choice v a) (shown_for v.head) (packed_frames v a)
+begun_file choice v a =
+    begun_of (packed_head choice v a) (details_for choice v.head) (packed_frames v a)
 
 abbrev pub open_file : Choice → Video → Accepted → List ℕ
-open_file choice v a = open_of (packed_head choice v a) (shown_for v.head) (packed_frames v a)
+open_file choice v a =
+    open_of (packed_head choice v a) (details_for choice v.head) (packed_frames v a)
 
 abbrev pub finished_file : Choice → Video → Accepted → List ℕ
 finished_file choice v a =
-    finished_of (packed_head choice v a) (shown_for v.head) (packed_frames v a)
+    finished_of (packed_head choice v a) (details_for choice v.head) (packed_frames v a)
 
 -- by whether it was written over
 abbrev pub whole_file : Bool → Choice → Video → Accepted → List ℕ
@@ -68,12 +81,12 @@ whole_file false choice v a = open_file choice v a
 -- what stands before Tracks of the finished one
 abbrev pub finished_opening_of : Choice → Video → Accepted → List ℕ
 finished_opening_of choice v a = opening (packed_head choice v a)
-    (Some (finish_of (packed_head choice v a) (shown_for v.head) (packed_frames v a)))
+    (Some (finish_of (packed_head choice v a) (details_for choice v.head) (packed_frames v a)))
 
 -- where the Clusters of a video end
 abbrev pub clusters_end : Choice → Video → Accepted → ℕ
 clusters_end choice v a =
-    end_place (packed_head choice v a) (shown_for v.head) (packed_frames v a)
+    end_place (packed_head choice v a) (details_for choice v.head) (packed_frames v a)
 
 -- a video whose pictures have Clusters: its configuration has the grid of the choice, or the
 -- default one; whole nanoseconds say its rate, no slice is too long, no frame is too long to be
@@ -84,7 +97,7 @@ pub record HasClusters (profile : Profile) (choice : Choice) (v : Video) (a : Ac
   pub for : IsFor profile (choice_for profile choice v.head) v.ppm v.head a
   pub timed : IsTimed (rate_in (packed_head choice v a))
   pub short : AllShort a v.head v.pictures
-  pub readable : AreReadable (packed_frames v a)
+  pub readable : AreReadable (record_profile profile) (packed_frames v a)
   pub near : 0 < length v.pictures → clusters_end choice v a ≤ last_place
 
 -- the video was read, its file was written, and what was counted
@@ -130,28 +143,26 @@ FaultsBefore profile choice old new f = Known old new (λ text rest.
 
 -- the next picture has no Cluster: a slice of it is too long, or its frame is too long to be read,
 -- or its Cluster would end too far
-abbrev pub LacksCluster : Choice → Video → Accepted → Planes → Fault → Type 0
-LacksCluster choice v a p f =
+abbrev pub LacksCluster : Profile → Choice → Video → Accepted → Planes → Fault → Type 0
+LacksCluster profile choice v a p f =
     (HasLongSlice a p (said_for v.head) × (f ≡ fault.SliceTooLong))
     ⊎ ((HasLongSlice a p (said_for v.head) → ⊥)
-    × (limit < length (frame_of a p (said_for v.head)))
+    × (most_frame (record_profile profile) < length (frame_of a p (said_for v.head)))
     × (f ≡ fault.ChunkTooLong))
     ⊎ ((HasLongSlice a p (said_for v.head) → ⊥)
-    × (length (frame_of a p (said_for v.head)) ≤ limit)
+    × (length (frame_of a p (said_for v.head)) ≤ most_frame (record_profile profile))
     × (last_place
     < clusters_end choice v a + cluster_bytes + length (frame_of a p (said_for v.head)))
     × (f ≡ fault.TooLarge))
 
 -- why packing ends after the pictures of a video: the next one has a fault, or no Cluster; or there
 -- is no more, and there was none
-abbrev pub EndsClusters : ℕ → Choice → Video → Accepted → List ℕ → List ℕ → Fault → Type 0
-EndsClusters most choice v a left rest f =
-    ((g : Y4mFault) × (picture_next v.ppm most v.head (at_first v.pictures) left ≡ Err (g, rest))
-    × (f ≡ of_y4m g))
-    ⊎ ((p : Planes)
-    × (picture_next v.ppm most v.head (at_first v.pictures) left ≡ Ok (Some p, rest))
-    × LacksCluster choice v a p f)
-    ⊎ ((picture_next v.ppm most v.head (at_first v.pictures) left ≡ Ok (None, rest))
+abbrev pub EndsClusters : Profile → Choice → Video → Accepted → List ℕ → List ℕ → Fault → Type 0
+EndsClusters profile choice v a left rest f =
+    ((g : Y4mFault) × (next_in profile v left ≡ Err (g, rest)) × (f ≡ of_y4m g))
+    ⊎ ((p : Planes) × (next_in profile v left ≡ Ok (Some p, rest))
+    × LacksCluster profile choice v a p f)
+    ⊎ ((next_in profile v left ≡ Ok (None, rest))
     × (v.pictures ≡ []) × (f ≡ fault.NoFrames))
 
 -- the Clusters of a video were written, and of the text, if it is known, this video was read,
@@ -170,7 +181,7 @@ pub record PacksSome (profile : Profile) (Next : Video → Accepted → List ℕ
 abbrev pub EndsMatroska : Profile → Choice → Passage → Passage → Fault → Type 0
 EndsMatroska profile choice input output f =
     PacksSome profile
-    (λ v a left rest. EndsClusters (greatest_depth profile) choice v a left rest f)
+    (λ v a left rest. EndsClusters profile choice v a left rest f)
     choice input output
 
 -- and then a read failed, if the next picture wants one more byte
@@ -200,7 +211,8 @@ pub record ClusterFails (profile : Profile) (choice : Choice) (input output : Pa
   pub reads : Known input.old input.new (λ text rest.
       Begins (greatest_depth profile) text (with_picture video next) rest)
   pub short : HasLongSlice accepted next (said_for video.head) → ⊥
-  pub readable : length (frame_of accepted next (said_for video.head)) ≤ limit
+  pub readable : length (frame_of accepted next (said_for video.head))
+      ≤ most_frame (record_profile profile)
   pub near : clusters_end choice video accepted + cluster_bytes
       + length (frame_of accepted next (said_for video.head)) ≤ last_place
   pub writes : WritesUpTo output.old output.new (length (begun_file choice video accepted))
@@ -221,11 +233,6 @@ pub record FinishFails (profile : Profile) (choice : Choice) (input output : Pas
       × PatchesBeginning mid output.new (length (open_file choice video accepted))
       (finished_opening_of choice video accepted))
 
--- if the text is known, its head was read, and nothing after it
-abbrev pub StandsAfterHead : ℕ → Option (List ℕ) → Option (List ℕ) → Type 0
-StandsAfterHead most old new = Known old new (λ text rest.
-    (h : SaidHead) × (video_head most text ≡ Ok (h, rest)))
-
 -- why packing is refused, by what the fault comes from: a write that failed, which was counted; a
 -- read that failed, which was counted, if the head wants one more byte, with nothing written, or
 -- the picture after those whose Clusters are written; memory after a head, with nothing written, or
@@ -238,7 +245,7 @@ RefusesMatroskaBy profile Writing choice input output f =
 RefusesMatroskaBy profile Reading choice input output f =
     (output.after ≡ output.before) × (input.after ≡ one_more input.before)
     × ((Keeps output.old output.new
-    × Known input.old input.new (Taken (Wants (video_head (greatest_depth profile)))))
+    × HeadWants (greatest_depth profile) input.old input.new)
     ⊎ PackReadFails profile choice input output)
 RefusesMatroskaBy profile Memory choice input output f =
     (output.after ≡ output.before) × (input.after ≡ input.before)

@@ -1,6 +1,6 @@
 -- What a video is packed as: its configuration, the frames of its pictures, and the file.
 use Rattle.std.specs.Prelude.{◌≡◌, ℕ, Bool, true, if◌then◌else◌, List, [], ◌∷◌, length, map}
-use Rattle.std.specs.Prelude.{◌+◌, ◌≤◌, pos, replicate}
+use Rattle.std.specs.Prelude.{◌+◌, ◌<◌, ◌≤◌, pos, replicate}
 use Rattle.ffv1_plane.specs.Quantisation.{Set, small_set, large_set}
 use Rattle.ffv1_record.specs.Configuration.{Configuration}
 use Rattle.ffv1_record.specs.Accepted.{Accepted, IsAccepted, PassesAll, checks}
@@ -12,11 +12,13 @@ use Rattle.ffv1_record.specs.declared.config.Colour.TheVariants as colour
 use Rattle.ffv1_codec.specs.Picture.{Planes}
 use Rattle.ffv1_codec.specs.SliceList.{Said}
 use Rattle.ffv1_codec.specs.Frame.{frame_of, HasLongSlice}
-use Rattle.ffv1_reads.specs.Head.{Head, limit}
+use Rattle.ffv1_reads.specs.Head.{Head, frame_limit, limit}
 use Rattle.ffv1_avi.specs.Written.{file_of}
 use Rattle.ffv1_engine.specs.Video.{SaidHead}
 use Rattle.ffv1_words.specs.declared.order.Choice.{Choice}
 use Rattle.ffv1_engine.specs.declared.profile.Profile.{Profile}
+use Rattle.ffv1_record.specs.declared.config.Profile.{Profile as RecordProfile}
+use Rattle.ffv1_record.specs.declared.config.Profile.TheVariants as record_profiles
 use Rattle.ffv1_engine.specs.Profiles.{record_profile}
 use Rattle.ffv1_words.specs.declared.order.CoderChoice.{CoderChoice}
 use Rattle.ffv1_words.specs.declared.order.CoderChoice.TheVariants as coder_choice
@@ -77,6 +79,7 @@ pub record IsFor (profile : Profile) (choice : Choice) (ppm : Bool) (h : SaidHea
   pub configuration : a.configuration ≡ configuration_for choice ppm h
   pub accepted : IsAccepted a.configuration a.table
   pub passes : PassesAll (record_profile profile) checks a.configuration
+  pub profiled : a.profile ≡ record_profile profile
 
 -- the frames of pictures
 abbrev pub frames_for : Accepted → SaidHead → List Planes → List (List ℕ)
@@ -87,10 +90,23 @@ abbrev pub AllShort : Accepted → SaidHead → List Planes → Type 0
 AllShort a h [] = Unit {0}
 AllShort a h (p ∷ ps) = (HasLongSlice a p (said_for h) → ⊥) × AllShort a h ps
 
--- none of these frames is longer than a reader of files takes: 67108864 bytes
-abbrev pub AreReadable : List (List ℕ) → Type 0
-AreReadable [] = Unit {0}
-AreReadable (f ∷ fs) = (length f ≤ limit) × AreReadable fs
+-- the most bytes of a frame that is read in a profile: 67108864, and 1073741824
+abbrev pub most_frame : RecordProfile → ℕ
+most_frame record_profiles.Strict = limit
+most_frame record_profiles.Wide = frame_limit
+
+-- none of these frames is longer
+abbrev pub AreReadable : RecordProfile → List (List ℕ) → Type 0
+AreReadable p [] = Unit {0}
+AreReadable p (f ∷ fs) = (length f ≤ most_frame p) × AreReadable p fs
+
+-- none of these frames of an AVI is: only `Wide` refuses to pack longer ones into it
+abbrev pub AreReadableIn : RecordProfile → List (List ℕ) → Type 0
+AreReadableIn p frames = p ≡ record_profiles.Wide → AreReadable p frames
+
+-- a frame of an AVI is longer
+abbrev pub IsLongIn : RecordProfile → List ℕ → Type 0
+IsLongIn p frame = (p ≡ record_profiles.Wide) × (most_frame p < length frame)
 
 -- the head and the frames of the file, and all its bytes
 abbrev pub packed_head : Choice → Video → Accepted → Head

@@ -45,7 +45,7 @@ abbrev pub LacksStream : Profile → Option (List ℕ) → Option (List ℕ) →
 LacksStream profile old new f = Known old new (λ file rest.
     FaultsRead (open_read (scope_in profile)) file rest f ⊎ LacksRecord profile file rest f)
 
--- why there is no further frame: the file has a fault, or the next payload has one, where so much
+-- why there is no further frame: the file has a fault, or the next payload has one, after so much
 -- was decided, or there is none
 pub data End : Type 0 where
   File : Fault → End

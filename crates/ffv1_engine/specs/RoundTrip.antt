@@ -6,8 +6,7 @@ use Rattle.std.specs.Io.KnownBytes.{Appends}
 use Rattle.ffv1_wire.specs.Passage.{Passage}
 use Rattle.ffv1_range.specs.Codes.{AreBytes}
 use Rattle.ffv1_range.specs.Counts.{saturated}
-use Rattle.ffv1_record.specs.Accepted.{PassesAll, checks}
-use Rattle.ffv1_record.specs.Configuration.{Configuration}
+use Rattle.ffv1_record.specs.Accepted.{Accepted, PassesAll, checks}
 use Rattle.ffv1_codec.specs.Picture.{Planes}
 use Rattle.ffv1_avi.specs.Chunks.{AviFile}
 use Rattle.ffv1_reads.specs.Head.{Head}
@@ -30,9 +29,10 @@ use Rattle.ffv1_engine.specs.Stream.{Frame, Stream, payloads}
 use Rattle.ffv1_engine.specs.Unpacked.{AllSay, AreAlike, HasText, pictures, text_of}
 use Rattle.ffv1_engine.specs.Video.{Video}
 
--- a text of bytes that was packed in a profile, with no frame that is too long to be read. PPM has
--- the rate and the scale of the choice: numbers of 32 bits, both zero or neither, since the file
--- has 32 bits for each, and its reader refuses a rate without a scale and a scale without a rate
+-- a text of bytes that was packed in a profile, in `Strict` with no frame that is too long to be
+-- read there: `Wide` packs none that it does not read. PPM has the rate and the scale of the
+-- choice: numbers of 32 bits, both zero or neither, since the file has 32 bits for each, and its
+-- reader refuses a rate without a scale and a scale without a rate
 pub record WasPacked (packing : Profile) (choice : Choice) (text : List ℕ) : Type 0 where
   pub input : Passage
   pub output : Passage
@@ -40,7 +40,8 @@ pub record WasPacked (packing : Profile) (choice : Choice) (text : List ℕ) : T
   pub packs : Packs packing choice input output packed
   pub known : input.old ≡ Some text
   pub bytes : AreBytes text
-  pub readable : AreReadable (packed_frames packs.video packs.accepted)
+  pub readable : packing ≡ Strict →
+      AreReadable (record_profile packing) (packed_frames packs.video packs.accepted)
   pub rated : packs.video.ppm ≡ true → IsRatio 4294967295 choice.rate choice.scale
 
 -- the video of the text, and the file that was written of it
@@ -52,15 +53,17 @@ abbrev pub file_in : {packing : Profile} → {choice : Choice} → {text : List 
     WasPacked packing choice text → List ℕ
 file_in {choice = choice} w = packed_file choice w.packs.video w.packs.accepted
 
--- and the configuration of its pictures
-abbrev pub configuration_in : {packing : Profile} → {choice : Choice} → {text : List ℕ} →
-    WasPacked packing choice text → Configuration
-configuration_in w = w.packs.accepted.configuration
+-- and what was accepted for its pictures
+abbrev pub accepted_in : {packing : Profile} → {choice : Choice} → {text : List ℕ} →
+    WasPacked packing choice text → Accepted
+accepted_in w = w.packs.accepted
 
--- a profile reads samples of the depth of a video, and accepts the configuration of its pictures
-pub record IsReadIn (profile : Profile) (v : Video) (c : Configuration) : Type 0 where
+-- a profile reads samples of the depth of a video, accepts the configuration of its pictures, and
+-- reads frames as long as theirs
+pub record IsReadIn (profile : Profile) (v : Video) (a : Accepted) : Type 0 where
   pub deep : v.head.depth ≤ greatest_depth profile
-  pub passes : PassesAll (record_profile profile) checks c
+  pub passes : PassesAll (record_profile profile) checks a.configuration
+  pub readable : AreReadable (record_profile profile) (packed_frames v a)
 
 -- the canonical text of a video: of YUV4MPEG2 the header with each tag but X, in one order, and
 -- each picture after `FRAME`; of PPM each image after its header

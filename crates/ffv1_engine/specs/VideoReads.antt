@@ -1,4 +1,4 @@
--- Heads of a video as readers give them, and where its text is refused or wants more.
+-- Heads of a video as readers give them, and when its text is refused or wants more.
 use Rattle.std.specs.Prelude.{◌≡◌, ◌⊎◌, ℕ, ◌++◌, Bool, true, false, List, Option, Some}
 use Rattle.std.specs.Prelude.{Ok, Err}
 use Rattle.ffv1_y4m.specs.Pictures.{GrowsInPicture}

@@ -1,6 +1,7 @@
 //! Encodes the pictures of a video.
 
-ghost use Rattle.std.specs.Prelude.{◌≡◌, ◌⊎◌, ◌≤◌, Bool, IfOk, IfErr, OnOk, None, true, [], ◌∷◌};
+ghost use Rattle.std.specs.Prelude.{◌≡◌, ◌⊎◌, ◌≤◌, ◌↔◌, IfOk, IfErr, IsTrue, OnOk, None, true, []};
+ghost use Rattle.std.specs.Prelude.{◌∷◌};
 ghost use Rattle.ffv1_wire.specs.Passage.{passage};
 ghost use Rattle.ffv1_record.specs.Accepted.{IsFirstUpTo};
 ghost use Rattle.ffv1_record.specs.Configuration.{at_depth, configuration_of};
@@ -9,12 +10,13 @@ ghost use Rattle.ffv1_reads.specs.Head.{head_of};
 ghost use Rattle.ffv1_avi.specs.Written.{frames_of};
 ghost use Rattle.ffv1_engine.specs.declared.fault.Fault.TheVariants as fault;
 ghost use Rattle.ffv1_engine.specs.Faults.{of_record};
-ghost use Rattle.ffv1_engine.specs.Internal.Encoding.{EncodesAll, EncodesNext, EncodesOne};
-ghost use Rattle.ffv1_engine.specs.Internal.Encoding.{StopsEncoding};
+ghost use Rattle.ffv1_engine.specs.Internal.Encoding.{EncodesAll, EncodesOne, StopsEncoding};
 ghost use Rattle.ffv1_engine.specs.Internal.Encoding.{StopsNext, frame_in};
 ghost use Rattle.ffv1_engine.specs.Pack.{IsPackFault, is_pack_fault};
-ghost use Rattle.ffv1_engine.specs.Packing.{IsFor, coder_for, colour_for, configuration_for};
-ghost use Rattle.ffv1_engine.specs.Packing.{head_for, said_for, set_for};
+ghost use Rattle.ffv1_engine.specs.Packing.{AreReadableIn, IsFor, IsLongIn, coder_for, colour_for};
+ghost use Rattle.ffv1_engine.specs.Packing.{configuration_for, head_for, most_frame, said_for};
+ghost use Rattle.ffv1_engine.specs.Packing.{set_for};
+ghost use Rattle.ffv1_record.specs.declared.config.Profile.TheVariants as record_profiles;
 ghost use Rattle.ffv1_engine.specs.Profiles.{greatest_depth, record_profile};
 ghost use Rattle.ffv1_engine.specs.Internal.VideoReads.{IsHeadOf, reading_of};
 
@@ -25,8 +27,11 @@ use crate::video::VideoReader;
 use ffv1_codec::{Info, Picture};
 use ffv1_plane::QuantSet;
 use ffv1_range::laws as range_laws;
-use ffv1_reads::FileHead;
-use ffv1_record::{Checked, Coder, Colour, Config, Sets, laws as record_laws, write_record};
+use ffv1_reads::{FRAME_LIMIT, FileHead, LIMIT};
+use ffv1_record::{
+    Checked, Coder, Colour, Config, Profile as RecordProfile, Sets, laws as record_laws,
+    write_record,
+};
 use ffv1_wire::ByteIn;
 use ffv1_words::{Choice, CoderChoice};
 use std::alloc::Allocator;
@@ -208,35 +213,24 @@ pub(crate) fn encode_picture<R: ByteIn, A: Allocator + Copy>(
     Ok(Some(frame))
 }
 
-/// Encodes the next picture, whose frame comes after the others; false at the end. The planes lend
-/// their memory.
-fn encode_next<R: ByteIn, A: Allocator + Copy>(
-    alloc: A,
-    reader: &mut VideoReader<A>,
-    input: &mut R,
-    encoder: &mut VerifyingEncoder<A>,
-    planes: &mut Vec<Vec<u8, A>, A>,
-    frames: &mut Vec<Vec<u8, A>, A>,
-) -> Result<bool, Fault>
-    requires working { (reading_of reader.old).failed ≡ None }
-    requires suits { (profile : Profile) × (choice : Choice) × IsFor profile choice
-        (reading_of reader.old).ppm (reading_of reader.old).head encoder.old.accepted }
-    ensures same { encoder.new.accepted ≡ encoder.old.accepted }
-    ensures ok { IfOk result (EncodesNext (passage R.remaining R.failures input.old input.new)
-        encoder.old.accepted (reading_of reader.old) (reading_of reader.new)
-        (frames_of frames.old.items) (frames_of frames.new.items)) }
-    ensures err { IfErr result (StopsNext (passage R.remaining R.failures input.old input.new)
-        encoder.old.accepted (reading_of reader.old)) }
-    ensures own { IfErr result (λ f. is_pack_fault f ≡ true) }
+/// The most bytes of a frame that is read in a profile.
+pub(crate) fn most_frame(profile: RecordProfile) -> usize
+    ensures { result ≡ most_frame profile }
 {
-    let Some(frame) = encode_picture(alloc, reader, input, encoder, planes)? else {
-        return Ok(false);
-    };
-    frames.push(frame)?;
-    Ok(true)
+    match profile {
+        RecordProfile::Strict => LIMIT as usize,
+        RecordProfile::Wide => FRAME_LIMIT as usize,
+    }
 }
 
-/// Encodes all pictures.
+/// Whether a frame is too long for an AVI that is packed in a profile.
+fn is_long_in(profile: RecordProfile, frame: &[u8]) -> bool
+    ensures { IsTrue result ↔ IsLongIn profile frame.now }
+{
+    profile == RecordProfile::Wide && frame.len() > most_frame(profile)
+}
+
+/// Encodes all pictures for an AVI.
 pub(crate) fn encode_pictures<R: ByteIn, A: Allocator + Copy>(
     alloc: A,
     reader: &mut VideoReader<A>,
@@ -251,11 +245,20 @@ pub(crate) fn encode_pictures<R: ByteIn, A: Allocator + Copy>(
     requires none { frames.old.items ≡ [] }
     ensures ok { OnOk result (EncodesAll (passage R.remaining R.failures input.old input.new)
         encoder.old.accepted (reading_of reader.old) (frames_of frames.new.items)) }
+    ensures readable { OnOk result
+        (AreReadableIn encoder.old.accepted.profile (frames_of frames.new.items)) }
     ensures err { IfErr result (StopsEncoding (passage R.remaining R.failures input.old input.new)
         encoder.old.accepted (reading_of reader.old)) }
-    ensures own { IfErr result (λ f. is_pack_fault f ≡ true) }
+    ensures own { IfErr result (λ f. (is_pack_fault f ≡ true)
+        ⊎ ((encoder.old.accepted.profile ≡ record_profiles.Wide) × (f ≡ fault.ChunkTooLong))) }
 {
+    let profile = encoder.config().profile();
     let mut planes = Vec::new(alloc);
-    while encode_next(alloc, reader, input, encoder, &mut planes, frames)? {}
+    while let Some(frame) = encode_picture(alloc, reader, input, encoder, &mut planes)? {
+        if is_long_in(profile, frame.as_slice()) {
+            return Err(Fault::ChunkTooLong);
+        }
+        frames.push(frame)?;
+    }
     Ok(())
 }

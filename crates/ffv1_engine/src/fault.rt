@@ -144,7 +144,8 @@ pub enum Fault {
     /// has fewer frames than its `dmlh` says.
     #[error("52 Truncated")]
     Truncated,
-    /// A frame, the format of a stream, the header of EBML or Tracks is longer than 67108864 bytes.
+    /// The format of a stream, the header of EBML or Tracks is longer than 67108864 bytes; or a
+    /// frame is, at `Strict`, or longer than 1073741824, at `Wide`.
     #[error("53 ChunkTooLong")]
     ChunkTooLong,
     /// A frame has no bytes.

@@ -50,7 +50,7 @@ mod video;
 
 pub use checking::{check, check_all};
 pub use fault::Fault;
-pub use ffv1_words::{Choice, CoderChoice, ContainerChoice, Order, words};
+pub use ffv1_words::{Choice, CodecIdChoice, CoderChoice, ContainerChoice, Order, words};
 pub use hashing::framemd5;
 pub use matroska_packing::{PackedMatroska, pack_matroska};
 pub use mono_trial::trial;

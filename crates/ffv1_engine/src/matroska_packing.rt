@@ -14,26 +14,23 @@ ghost use Rattle.ffv1_engine.specs.Faults.{of_record};
 ghost use Rattle.ffv1_engine.specs.Grids.{choice_for};
 ghost use Rattle.ffv1_engine.specs.Pack.{IsPackFault};
 ghost use Rattle.ffv1_engine.specs.PackMatroska.{IsMatroskaPackFault, is_matroska_pack_fault};
-ghost use Rattle.ffv1_engine.specs.PackMatroska.{shown_for};
+ghost use Rattle.ffv1_engine.specs.PackMatroska.{codec_id_for, details_for};
 ghost use Rattle.ffv1_engine.specs.Packing.{IsFor, configuration_for};
 ghost use Rattle.ffv1_engine.specs.Profiles.{greatest_depth, record_profile};
 ghost use Rattle.ffv1_engine.specs.Internal.VideoReads.{reading_of};
 
 use crate::default_grid::grid_for;
-use crate::encoding::{encode_picture, encoder_for, file_head};
+use crate::encoding::{encode_picture, encoder_for, file_head, most_frame};
 use crate::fault::Fault;
 use crate::packing::Packed;
 use crate::profile::Profile;
 use crate::verifying::VerifyingEncoder;
 use crate::video::VideoReader;
-use ffv1_matroska::{MatroskaWriter, Shown, written_laws};
+use ffv1_matroska::{CodecId, MatroskaWriter, TrackEntry, written_laws};
 use ffv1_wire::{ByteIn, ByteOut, PatchOut};
-use ffv1_words::Choice;
+use ffv1_words::{Choice, CodecIdChoice};
 use ffv1_y4m::laws as y4m_laws;
 use std::alloc::{Allocator, Global};
-
-/// The most bytes of a frame that a reader of files takes.
-const LIMIT: usize = ffv1_reads::LIMIT as usize;
 
 /// What was packed into Matroska.
 #[derive(Clone, Copy, Debug, PartialEq, Eq)]
@@ -55,12 +52,23 @@ struct Opened<A: Allocator = Global> {
     writer: MatroskaWriter<A>,
 }
 
-/// How the pictures of a video are shown.
-fn shown_for<A: Allocator + Copy>(reader: &VideoReader<A>) -> Shown
-    ensures { result ≡ shown_for (reading_of reader.now).head }
+/// What a choice calls the codec.
+fn codec_id_for(choice: CodecIdChoice) -> CodecId
+    ensures { result ≡ codec_id_for choice }
+{
+    match choice {
+        CodecIdChoice::Native => CodecId::Native,
+        CodecIdChoice::Vfw => CodecId::Vfw,
+    }
+}
+
+/// What the TrackEntry of a video says beside the head of its file.
+fn details_for<A: Allocator + Copy>(choice: &Choice, reader: &VideoReader<A>) -> TrackEntry
+    ensures { result ≡ details_for choice.now (reading_of reader.now).head }
 {
     let head = reader.head();
-    Shown {
+    TrackEntry {
+        codec_id: codec_id_for(choice.codec_id),
         structure: head.structure,
         sar_num: head.sar_num,
         sar_den: head.sar_den,
@@ -122,7 +130,7 @@ fn open_video<R: ByteIn, A: Allocator + Copy>(
     let reader = VideoReader::open(alloc, profile, input)?;
     let encoder = encoder_in_grid(alloc, profile, choice, &reader)?;
     let head = file_head(alloc, choice, &reader, encoder.config())?;
-    let writer = MatroskaWriter::new(alloc, &head, shown_for(&reader))?;
+    let writer = MatroskaWriter::new(alloc, &head, details_for(choice, &reader))?;
     Ok(Opened {
         reader,
         encoder,
@@ -144,7 +152,7 @@ fn put_pictures<R: ByteIn, W: ByteOut, A: Allocator + Copy>(
     requires begun { (reading_of reader.old).begun ≡ true }
     requires suits { (profile : Profile) × (choice : Choice) × IsFor profile choice
         (reading_of reader.old).ppm (reading_of reader.old).head encoder.old.accepted }
-    requires fresh { writer.old ≡ writing_of writer.old.head writer.old.shown [] }
+    requires fresh { writer.old ≡ writing_of writer.old.head writer.old.details [] }
     ensures ok { IfOk result (PutsAll encoder.old.accepted (reading_of reader.old)
         writer.old writer.new (passage R.remaining R.failures input.old input.new)
         (passage W.contents W.failures output.old output.new)) }
@@ -154,6 +162,7 @@ fn put_pictures<R: ByteIn, W: ByteOut, A: Allocator + Copy>(
     ensures own { IfErr result (λ f. is_matroska_pack_fault f ≡ true) }
 {
     written_laws::writes_make_up_the_file();
+    let most = most_frame(encoder.config().profile());
     let mut planes = Vec::new(alloc);
     let mut packed = Packed {
         frames: 0,
@@ -161,7 +170,7 @@ fn put_pictures<R: ByteIn, W: ByteOut, A: Allocator + Copy>(
     };
     while let Some(frame) = encode_picture(alloc, reader, input, encoder, &mut planes)? {
         let size = frame.as_slice().len();
-        if size > LIMIT {
+        if size > most {
             return Err(Fault::ChunkTooLong);
         }
         writer.put(output, frame.as_slice())?;
@@ -183,6 +192,9 @@ fn put_pictures<R: ByteIn, W: ByteOut, A: Allocator + Copy>(
 /// chroma sample. If there is none, it has, in `Wide`, the first whose slices may share one; else
 /// the first of any columns and rows whose slices share none; else one slice.
 ///
+/// The codec's ID is that of the choice: `V_FFV1`, as RFC 9043, 4.3.3, asks for, or
+/// `V_MS/VFW/FOURCC` with a header of Video for Windows before the record (RFC 9559, 8).
+///
 /// Before the first Cluster comes all that stands before the Clusters, of a Segment of unknown
 /// size; after the last one come Cues, and then what stands before Tracks is written over, so that
 /// the file is finished. If the output cannot be written over, the Segment's size stays unknown,
@@ -199,8 +211,8 @@ fn put_pictures<R: ByteIn, W: ByteOut, A: Allocator + Copy>(
 /// suit its sizes, as `pack` says; `Rate` if no whole nanoseconds a frame say its rate, as
 /// `ffv1_matroska::rate_of` reads them; nothing is written then. For each picture `FrameLine`,
 /// `FrameTruncated`, `SampleTooLarge`, for a later image `Header` and `FormatChanged`,
-/// `SliceTooLong` if a slice takes more than 16777215 bytes, `ChunkTooLong` if its frame
-/// takes more than 67108864 bytes, which no reader here takes, and `TooLarge` if its Cluster
+/// `SliceTooLong` if a slice takes more than 16777215 bytes, `ChunkTooLong` if its frame takes
+/// more than 67108864 bytes at `Strict` or 1073741824 at `Wide`, and `TooLarge` if its Cluster
 /// would end more than 2^56 - 2^20 bytes after the first byte of the Segment's content; `NoFrames`
 /// if there is no picture. Then the Clusters of the pictures before are written, which can be
 /// read, and nothing if there is none.

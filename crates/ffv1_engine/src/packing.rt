@@ -94,9 +94,12 @@ fn bytes_in<A: Allocator>(frames: &[Vec<u8, A>]) -> u64
 /// `Strict`, if an inner edge is no multiple of its chroma factor, in `Wide`, if a column or a line
 /// of chroma would lie in no slice; for each picture `FrameLine`, `FrameTruncated`,
 /// `SampleTooLarge` if a sample is 2^depth or more, for a later image `Header` and `FormatChanged`,
-/// and `SliceTooLong` if a slice takes more than 16777215 bytes; `NoFrames` if there is no picture;
-/// `TooLarge` if the size of RIFF would pass 2147483647. `Read` if a read failed, and
-/// `OutOfMemory`, which comes after the head alone. Nothing is written then. `Write` if a write
+/// `SliceTooLong` if a slice takes more than 16777215 bytes, and, in `Wide`, `ChunkTooLong` if its
+/// frame takes more than 1073741824, which is not read; `NoFrames` if there is no picture;
+/// `TooLarge` if the size of RIFF would pass 2147483647. `Read` if a read failed, where the head or
+/// the next picture wants one more byte. `OutOfMemory`, which comes after the head alone: before
+/// the first picture is read, for what is read of the next one, or for its frame once it was read
+/// whole. Nothing is written then. `Write` if a write
 /// failed: a beginning of the file is then written, and not all of it.
 pub fn pack<R: ByteIn, W: ByteOut, A: Allocator + Copy>(
     alloc: A,

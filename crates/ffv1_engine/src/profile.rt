@@ -18,7 +18,7 @@ pub enum Profile {
     /// streams, whose record ends where `biSize` says. And Matroska: its frames are those of the
     /// first track that is FFV1 video. A sample aspect of which just one number is 0 is unknown, as
     /// 0:0 is. A sample has 8, 9, 10, 12, 14 or 16 bits. Slices may share a column or a line of
-    /// chroma, where each column and each line of it lies in a slice.
+    /// chroma, if each column and each line of it lies in a slice.
     Wide,
 }
 

@@ -17,10 +17,10 @@ ghost use Rattle.ffv1_engine.specs.declared.profile.Profile.TheVariants.{Strict,
 ghost use Rattle.ffv1_engine.specs.MatroskaRoundTrip.{HoldsMatroska, WasPackedMatroska};
 ghost use Rattle.ffv1_engine.specs.MatroskaRoundTrip.{matroska_file, matroska_video};
 ghost use Rattle.ffv1_engine.specs.PackMatroska.{HasClusters, begun_file};
-ghost use Rattle.ffv1_engine.specs.Packing.{packed_frames, packed_head};
+ghost use Rattle.ffv1_engine.specs.Packing.{AreReadable, packed_frames, packed_head};
 ghost use Rattle.ffv1_engine.specs.RoundTrip.{IsReadIn};
 ghost use Rattle.ffv1_engine.specs.RoundTrip.{Holds, IsNoContent, IsUnpacked, WasPacked};
-ghost use Rattle.ffv1_engine.specs.RoundTrip.{canonical_of, configuration_in, file_in, video_in};
+ghost use Rattle.ffv1_engine.specs.RoundTrip.{accepted_in, canonical_of, file_in, video_in};
 ghost use Rattle.ffv1_engine.specs.Unpack.{UnpackDone, UnpackStops};
 ghost use Rattle.ffv1_engine.specs.Profiles.{greatest_depth, record_profile};
 ghost use Rattle.ffv1_record.specs.Accepted.{PassesEdges};
@@ -42,47 +42,50 @@ pub fn named_rate_fits_a_file()
         IsRatio 4294967295 c.rate c.scale }
 {}
 
-/// A text that `pack` has packed, no frame of it longer than 67108864 bytes, is unpacked again. Its
-/// file holds a stream of frames that code its pictures. If `unpack` is Ok on that file, at
-/// either profile that reads samples of its depth, it has read all of it and written the canonical
-/// text of the video: a text of the same video, and for PPM whose headers are three lines each, as
-/// they are at `Strict`, the very text that was packed. If `unpack`, `check` or `show` is
-/// refused on it, at such a profile, that is for `OutOfMemory` (2), `Read` (56) or `Write` (57),
-/// and for no fault of the file.
+/// A text that `pack` has packed is unpacked again, if it was packed in `Wide`, or has no frame
+/// longer than 67108864 bytes. Its file holds a stream of frames that code its pictures. If
+/// `unpack` is Ok on that file, at either profile that reads samples of its depth, it has read all
+/// of it and written the canonical text of the video: a text of the same video, and for PPM whose
+/// headers are three lines each, as they are at `Strict`, the very text that was packed. If
+/// `unpack`, `check` or `show` is refused on it, at such a profile, that is for `OutOfMemory` (2),
+/// `Read` (56) or `Write` (57), and for no fault of the file.
 ///
-/// The profile that a text was packed in reads its depth and its grid, `Wide` reads those of each
-/// text that was packed, and `Strict` those of 8 bits whose slices share no chroma sample: each
-/// inner edge is a multiple of the chroma factor.
+/// The profile that a text was packed in reads its depth, its grid and its frames. `Wide` reads
+/// those of each text that was packed. `Strict` reads those of 8 bits whose slices share no chroma
+/// sample, each inner edge being a multiple of the chroma factor, and whose frames have at most
+/// 67108864 bytes.
 ///
 /// The same holds, at `Wide`, of any text that `pack_matroska` has packed, whether its file is
-/// finished or open: it writes no longer frame. A file that is begun, of some first pictures, is
-/// read as their frames, and to its last byte.
+/// finished or open: it writes no frame that is not read. A file that is begun, of some first
+/// pictures, is read as their frames, and to its last byte.
 pub fn packed_is_unpacked()
     ensures read { (packing profile : Profile) (choice : Choice) (text : List ℕ)
         (w : WasPacked packing choice text) →
-        IsReadIn packing (video_in w) (configuration_in w)
-        × IsReadIn Wide (video_in w) (configuration_in w)
-        × ((video_in w).head.depth ≡ 8 → PassesEdges (record_profile profile) (configuration_in w) →
-        IsReadIn profile (video_in w) (configuration_in w)) }
+        IsReadIn packing (video_in w) (accepted_in w)
+        × IsReadIn Wide (video_in w) (accepted_in w)
+        × ((video_in w).head.depth ≡ 8 →
+        PassesEdges (record_profile profile) (accepted_in w).configuration →
+        AreReadable (record_profile profile) (packed_frames (video_in w) (accepted_in w)) →
+        IsReadIn profile (video_in w) (accepted_in w)) }
     ensures holds { (packing profile : Profile) (choice : Choice) (text : List ℕ)
-        (w : WasPacked packing choice text) → IsReadIn profile (video_in w) (configuration_in w) →
+        (w : WasPacked packing choice text) → IsReadIn profile (video_in w) (accepted_in w) →
         Holds profile (file_in w) (video_in w) }
     ensures written { (packing profile : Profile) (choice : Choice) (text : List ℕ)
         (w : WasPacked packing choice text) (input output : Passage) (count : ℕ) →
-        IsReadIn profile (video_in w) (configuration_in w) →
+        IsReadIn profile (video_in w) (accepted_in w) →
         input.old ≡ Some (file_in w) → UnpackDone profile input output count →
         IsUnpacked (video_in w) input output count }
     ensures refused { (packing profile : Profile) (choice : Choice) (text : List ℕ)
         (w : WasPacked packing choice text) (input output : Passage) (f : Fault) →
-        IsReadIn profile (video_in w) (configuration_in w) →
+        IsReadIn profile (video_in w) (accepted_in w) →
         input.old ≡ Some (file_in w) → UnpackStops profile input output f → IsNoContent f }
     ensures checked { (packing profile : Profile) (choice : Choice) (text : List ℕ)
         (w : WasPacked packing choice text) (place : Bool) (input output : Passage) (f : Fault) →
-        IsReadIn profile (video_in w) (configuration_in w) →
+        IsReadIn profile (video_in w) (accepted_in w) →
         input.old ≡ Some (file_in w) → CheckStops profile place input output f → IsNoContent f }
     ensures shown { (packing profile : Profile) (choice : Choice) (text : List ℕ)
         (w : WasPacked packing choice text) (cost : Bool) (input output : Passage) (f : Fault) →
-        IsReadIn profile (video_in w) (configuration_in w) →
+        IsReadIn profile (video_in w) (accepted_in w) →
         input.old ≡ Some (file_in w) → ShowStops profile input output cost f → IsNoContent f }
     ensures same { (packing : Profile) (choice : Choice) (text : List ℕ)
         (w : WasPacked packing choice text) →

@@ -16,7 +16,7 @@ use Rattle.ffv1_matroska.specs.declared.place.Place.{Place as MatroskaPlace}
 use Rattle.ffv1_files.specs.declared.container.Scope.{Scope}
 use Rattle.ffv1_files.specs.declared.container.Scope.TheVariants as scope
 use Rattle.ffv1_files.specs.Files.{avi_opened, avi_place, file_read, frame_read, frames_read, is_matroska, matroska_opened, matroska_place, more_frames, open_read}
-use Rattle.ffv1_files.specs.Places.{InAvi, InMatroska, Place}
+use Rattle.ffv1_files.specs.Places.{InAvi, InMatroska, Place, extent_in}
 use Rattle.ffv1_files.specs.Whole.{IsWhole}
 use Rattle.ffv1_matroska.specs.declared.track.TrackNumbers.{TrackNumbers}
 
@@ -121,9 +121,9 @@ module _ (every : (file : List ℕ) (head : Head) (frames : List (List ℕ)) →
   whole_read file head frames rest (inl h) = whole_avi file (riff_first file head frames h.0) ∙ every file head frames h.0 ∙ ap (λ z. Ok ((head, frames), z)) (sym h.1)
   whole_read file head frames rest (inr h) = whole_matroska file h.0 ∙ elements file head frames h.1.0 ∙ ap (λ z. Ok ((head, frames), z)) h.1.1
 
-module _ (first : (head : Head) (frames : List (List ℕ)) → IsWritable head frames → avi.file_read FirstMovi (file_of head frames) ≡ Ok ((head, frames), []))
-    (riff : (head : Head) (frames : List (List ℕ)) → IsWritable head frames → RiffFile (file_of head frames) head frames)
-    (every : (head : Head) (frames : List (List ℕ)) → IsWritable head frames → avi.file_read EveryRiff (file_of head frames) ≡ Ok ((head, frames), [])) where
-  pub written_read : (s : Scope) (head : Head) (frames : List (List ℕ)) → IsWritable head frames → file_read s (file_of head frames) ≡ Ok ((head, frames), [])
+module _ (first : (head : Head) (frames : List (List ℕ)) → IsWritable FirstMovi head frames → avi.file_read FirstMovi (file_of head frames) ≡ Ok ((head, frames), []))
+    (riff : (head : Head) (frames : List (List ℕ)) → IsWritable EveryRiff head frames → RiffFile (file_of head frames) head frames)
+    (every : (head : Head) (frames : List (List ℕ)) → IsWritable EveryRiff head frames → avi.file_read EveryRiff (file_of head frames) ≡ Ok ((head, frames), [])) where
+  pub written_read : (s : Scope) (head : Head) (frames : List (List ℕ)) → IsWritable (extent_in s) head frames → file_read s (file_of head frames) ≡ Ok ((head, frames), [])
   written_read scope.FirstMovi head frames can = first_same (file_of head frames) ∙ first head frames can
   written_read scope.Whole head frames can = whole_avi (file_of head frames) (riff_first (file_of head frames) head frames (riff head frames can)) ∙ every head frames can

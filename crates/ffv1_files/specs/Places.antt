@@ -3,6 +3,8 @@ use Rattle.std.specs.Prelude.{ℕ, Bool, true, false, Option}
 use Rattle.ffv1_avi.specs.declared.place.Extent.{Extent}
 use Rattle.ffv1_avi.specs.declared.place.Extent.TheVariants.{FirstMovi, EveryRiff}
 use Rattle.ffv1_avi.specs.declared.place.Place.{Place as AviPlace}
+use Rattle.ffv1_reads.specs.Head.{frame_limit}
+use Rattle.ffv1_avi.specs.Names as names
 use Rattle.ffv1_avi.specs.Places as avi
 use Rattle.ffv1_files.specs.declared.container.Container.{Container}
 use Rattle.ffv1_files.specs.declared.container.Container.TheVariants as container
@@ -40,3 +42,16 @@ may_end (InMatroska segment track place) = true
 abbrev pub opening_may_end : Scope → Bool
 opening_may_end scope.FirstMovi = false
 opening_may_end scope.Whole = true
+
+-- how far an AVI is read
+abbrev pub extent_in : Scope → Extent
+extent_in scope.FirstMovi = FirstMovi
+extent_in scope.Whole = EveryRiff
+
+-- the most bytes of a frame that are read: from a position on, and of a file
+abbrev pub most_bytes : Place → ℕ
+most_bytes (InAvi place) = names.most_bytes place.names
+most_bytes (InMatroska segment track place) = frame_limit
+
+abbrev pub most_in : Scope → ℕ
+most_in scope = names.most_in (extent_in scope)

@@ -10,7 +10,7 @@ ghost use Rattle.ffv1_files.specs.declared.container.Scope.TheVariants as scope;
 ghost use Rattle.ffv1_files.specs.declared.container.Scope.{Scope};
 ghost use Rattle.ffv1_files.specs.Files.{file_read, frame_read, frames_read, more_frames};
 ghost use Rattle.ffv1_files.specs.Whole.{IsWhole};
-ghost use Rattle.ffv1_files.specs.Places.{Place};
+ghost use Rattle.ffv1_files.specs.Places.{Place, extent_in};
 
 use ffv1_avi::laws as avi_laws;
 use ffv1_matroska::laws as matroska_laws;
@@ -52,9 +52,10 @@ pub fn file_is_read_as_its_frames()
     matroska_laws::file_is_read_as_its_frames();
 }
 
-/// An AVI that was written is read back, however far.
+/// An AVI that was written to be read so far is read back.
 pub fn written_avi_is_read_back()
-    ensures { (scope : Scope) (head : Head) (frames : List (List ℕ)) → IsWritable head frames →
+    ensures { (scope : Scope) (head : Head) (frames : List (List ℕ)) →
+        IsWritable (extent_in scope) head frames →
         file_read scope (file_of head frames) ≡ Ok ((head, frames), []) }
 {
     avi_laws::written_file_is_read_back();

@@ -14,7 +14,8 @@ ghost use Rattle.ffv1_files.specs.declared.container.Scope.TheVariants.{FirstMov
 ghost use Rattle.ffv1_files.specs.Answers.{FileAnswers};
 ghost use Rattle.ffv1_files.specs.Files.{frame_read, open_read};
 ghost use Rattle.ffv1_files.specs.Offsets.{LocatedNext, Reached, StopsAt};
-ghost use Rattle.ffv1_files.specs.Places.{amount, container_of, may_end, opening_may_end};
+ghost use Rattle.ffv1_files.specs.Places.{amount, container_of, may_end, most_bytes, most_in};
+ghost use Rattle.ffv1_files.specs.Places.{opening_may_end};
 ghost use Rattle.ffv1_files.specs.Readers.{StandsAfter, is_frame_fault, is_opening_fault, next_of};
 ghost use Rattle.ffv1_files.specs.Readers.{opened_at};
 
@@ -67,6 +68,7 @@ impl<A: Allocator + Copy> FileReader<A> {
         ensures sound { IfOk result (λ r. r.fault ≡ None) }
         ensures avi { scope ≡ FirstMovi →
             IfOk result (λ r. container_of r.place ≡ container.Avi) }
+        ensures most { IfOk result (λ r. most_bytes r.place ≡ most_in scope) }
         ensures own { IfErr result (λ f. is_opening_fault scope f ≡ true) }
         ensures room { IfOk result (λ r. RoomRead (R.remaining input.old) (R.remaining input.new) 0
             r.room) }
@@ -90,6 +92,7 @@ impl<A: Allocator + Copy> FileReader<A> {
         ensures sound { IfOk result (λ r. r.fault ≡ None) }
         ensures avi { scope ≡ FirstMovi →
             IfOk result (λ r. container_of r.place ≡ container.Avi) }
+        ensures most { IfOk result (λ r. most_bytes r.place ≡ most_in scope) }
         ensures own { IfErr result (λ f. is_opening_fault scope f ≡ true) }
         ensures room { IfOk result (λ r. RoomRead (R.remaining input.old) (R.remaining input.new) 0
             r.room) }
@@ -130,6 +133,7 @@ fn open_whole<R: ByteIn, A: Allocator + Copy>(
     ensures answer { FileAnswers true opened_at (open_read Whole)
         (passage R.remaining R.failures input.old input.new) result }
     ensures sound { IfOk result (λ r. r.fault ≡ None) }
+    ensures most { IfOk result (λ r. most_bytes r.place ≡ most_in Whole) }
     ensures own { IfErr result (λ f. is_opening_fault Whole f ≡ true) }
     ensures room { IfOk result (λ r. RoomRead (R.remaining input.old) (R.remaining input.new) 0
         r.room) }
@@ -206,11 +210,12 @@ impl<A: Allocator> FileReader<A> {
             (passage R.remaining R.failures input.old input.new) result }
         ensures stands { StandsAfter self.old result self.new }
         ensures sized { IfOk result (λ more. more ≡ true → (0 < length frame.new.items)
-            × (length frame.new.items ≤ 67108864)) }
+            × (length frame.new.items ≤ most_bytes self.old.place)) }
         ensures end { IfOk result (λ more. more ≡ false → frame.new.items ≡ []) }
         ensures less { IfOk result
             (λ more. more ≡ true → amount self.new.place < amount self.old.place) }
         ensures same { container_of self.new.place ≡ container_of self.old.place }
+        ensures most { most_bytes self.new.place ≤ most_bytes self.old.place }
         ensures own { self.old.fault ≡ None →
             IfErr result (λ f. is_frame_fault self.old.place f ≡ true) }
         ensures room { HasRoom (vec_capacity frame.old) (vec_capacity frame.new)

@@ -37,7 +37,7 @@ FileCut size head frames a =
 early_open : (a : List ℕ) (head : Head) (frames : List (List ℕ)) → EndsEarly open_read a → StopsEarly a head frames
 early_open a head frames h = (h.0, [], frames, refl, inl (h.1, refl))
 
--- what stands after the headers of EBML and of the Segment, in a file of other content
+-- what comes after the headers of EBML and of the Segment, in a file of other content
 begins_with : (file content other : List ℕ) (size : Option ℕ) (is : FileBegins file size content) → FileBegins (heads_text file content size is ++ other) size other
 begins_with file content other size is =
     record {

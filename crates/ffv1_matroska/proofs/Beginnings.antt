@@ -25,7 +25,7 @@ pub end_refused : (on : On) (place : Place) (text : List ℕ) → element_or_beg
 unfolding begun_at
 end_refused on place text = refl
 
--- where a track has no frames
+-- if a track has no frames
 abbrev pub Over : Track × Place → Type 0
 Over p = p.1 ≡ ended
 

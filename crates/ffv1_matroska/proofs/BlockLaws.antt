@@ -60,7 +60,7 @@ other_complete track place number bytes rest is few differ named sound =
     ∙ rw (test, named) (passed_complete now bytes rest (size - length number) left there)
     ∙ ap (λ s. Ok (Some (step_to (summed_at place s)), rest)) sums
 
--- one of a number that no track has is refused behind that
+-- one of a number that no track has is refused after that
 pub unknown_refused : (track : TrackNumbers) (size : ℕ) (place : Place) (number rest : List ℕ) → IsVint number → length number ≤ 8 → length number ≤ size → (data_of number ≡ track.number → ⊥) → is_unknown track.known (data_of number) ≡ true →
     block_read track size place (number ++ rest) ≡ Err (Met fault.BadElement rest)
 unfolding block_read

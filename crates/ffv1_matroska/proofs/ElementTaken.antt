@@ -23,7 +23,7 @@ use Rattle.ffv1_matroska.specs.Places.{amount, closed, cluster_at, group_at, is_
 use Rattle.ffv1_matroska.specs.Segments.{block, block_group, child_by, cluster, cluster_child, cluster_read, cluster_rest, crc_read, first_child, group_child, group_read, group_rest, header_read, is_filler, is_of_cluster, is_section, known_child, other_read, segment_child, segment_read, segment_rest, simple_block, step_read, is_outside}
 use Rattle.ffv1_matroska.specs.declared.place.Place.{Place}
 use Rattle.ffv1_matroska.specs.declared.place.Step.{Step}
-use Rattle.ffv1_reads.specs.Head.{limit}
+use Rattle.ffv1_reads.specs.Head.{frame_limit}
 use Rattle.ffv1_matroska.specs.Segments.{is_beside}
 use Rattle.ffv1_matroska.specs.declared.track.TrackNumbers.{TrackNumbers}
 
@@ -89,7 +89,7 @@ on_takes place size now = takes_then (passed_summed size now.sum) _ (passed_take
 frame_takes : (place : Place) (flags size : ℕ) (now : Place) → Takes Any (size + amount now) (left_after place) (frame_judged flags size now)
 frame_takes place flags size now =
     takes_if (lacing_of flags == 0) _ (refused fault.Laced)
-    (λ _. takes_if (nat_lt limit size) (refused fault.ChunkTooLong) _ (λ _. takes_refused fault.ChunkTooLong)
+    (λ _. takes_if (nat_lt frame_limit size) (refused fault.ChunkTooLong) _ (λ _. takes_refused fault.ChunkTooLong)
     (λ _. takes_if (size == 0) (refused fault.EmptyFrame) _ (λ _. takes_refused fault.EmptyFrame) (λ _. takes_given _ tt refl)))
     (λ _. takes_refused fault.Laced)
 

@@ -16,7 +16,7 @@ use Rattle.ffv1_matroska.specs.declared.place.Place.{Place}
 use Rattle.ffv1_matroska.specs.declared.place.Step.{Step}
 use Rattle.ffv1_matroska.proofs.StepBounds.{Gives, Lessens, gives_any, gives_given, gives_if, gives_refused, gives_then, step_less}
 use Rattle.ffv1_matroska.proofs.FrameTurns.{Turn, kept_by, step_kept, turn_read}
-use Rattle.ffv1_reads.specs.Head.{limit}
+use Rattle.ffv1_reads.specs.Head.{frame_limit}
 use Rattle.ffv1_matroska.specs.Segments.{is_beside}
 use Rattle.ffv1_matroska.specs.declared.track.TrackNumbers.{TrackNumbers}
 
@@ -42,7 +42,7 @@ block_stays track size place = gives_any {X = Data × Sum} P (data_read size pla
     judged : (flags size : ℕ) (s : Sum) → Gives P (frame_judged flags size (summed_at place s))
     judged flags size s =
         gives_if P (lacing_of flags == 0) _ (refused fault.Laced)
-        (gives_if P (nat_lt limit size) (refused fault.ChunkTooLong) _ (gives_refused P fault.ChunkTooLong)
+        (gives_if P (nat_lt frame_limit size) (refused fault.ChunkTooLong) _ (gives_refused P fault.ChunkTooLong)
         (gives_if P (size == 0) (refused fault.EmptyFrame) _ (gives_refused P fault.EmptyFrame) (gives_given P (Some (frame_at size (summed_at place s))) refl)))
         (gives_refused P fault.Laced)
 

@@ -67,7 +67,7 @@ gives_refused file head frames why (inr (o, rest, opened, is, on)) =
     ap (λ z. read_on z (λ (o : Opened). (frames_read o.track.numbers o.place >>= λ frames. given (o.track.head, frames)))) opened
     ∙ ap (λ z. read_on z (λ frames. given (o.track.head, frames))) (then_refused o.track.numbers frames o.place rest why on)
 
--- a file is opened where the same frames are to come; or it is not, and there are none
+-- a file is opened if the same frames are to come; or it is not, and there are none
 abbrev pub BegunRun : Track → Result ((Track × Place) × List ℕ) Stop → Run → Type 0
 BegunRun track z r =
     ((p : Place) × (more : List ℕ) × (z ≡ Ok ((track, p), more)) × (run track.numbers p more ≡ r))

@@ -8,7 +8,7 @@ use Rattle.ffv1_matroska.specs.Written.{cluster_element, clusters_from, end_plac
 use Rattle.ffv1_matroska.specs.WrittenPlaces.{every, every_after, places_from, stride_from, stride_of}
 use Rattle.ffv1_matroska.specs.Internal.Keeping.{Keeping}
 use Rattle.ffv1_matroska.specs.Writers.{Grows, Writing, writing_of}
-use Rattle.ffv1_matroska.specs.declared.shown.Shown.{Shown}
+use Rattle.ffv1_matroska.specs.declared.track_entry.TrackEntry.{TrackEntry}
 use Rattle.ffv1_matroska.proofs.PlaceSteps.{every_count, every_next, every_other, every_second, left_after, seconds_count}
 use Rattle.ffv1_matroska.proofs.StrideSteps.{stride_doubles, stride_stays}
 use Rattle.ffv1_matroska.proofs.WrittenLengths.{cluster_long}
@@ -37,8 +37,8 @@ places_snoc place n (f ∷ fs) frame =
     let same : place + 41 + length f + length all ≡ place + length (one ++ all) = omega (arith, length-append one all, cluster_long n f) in
     ap (λ z. place ∷ z) (places_snoc (place + 41 + length f) (suc n) fs frame ∙ ap (λ k. places_from (place + 41 + length f) fs ++ k ∷ []) same)
 
-pub end_more : (head : Head) (shown : Shown) (frames : List (List ℕ)) (frame : List ℕ) → end_place head shown (frames ++ frame ∷ []) ≡ end_place head shown frames + 41 + length frame
-end_more head shown frames frame =
+pub end_more : (head : Head) (details : TrackEntry) (frames : List (List ℕ)) (frame : List ℕ) → end_place head details (frames ++ frame ∷ []) ≡ end_place head details frames + 41 + length frame
+end_more head details frames frame =
     let all = clusters_from 0 frames in
     let one = cluster_element (0 + length frames) frame in
     let long = ap length (clusters_snoc 0 frames frame) ∙ length-append all one in
@@ -109,11 +109,11 @@ next_of n s place ps few kept stride_is long = elim (cases_eq n (s * length (eve
 ]
 
 -- a writer of these parts, of which no write has failed
-abbrev pub writing : Head → Shown → ℕ → ℕ → ℕ → List ℕ → Writing
-writing head shown count at stride places = record { head = head; shown = shown; count = count; at = at; stride = stride; places = places; failed = false }
+abbrev pub writing : Head → TrackEntry → ℕ → ℕ → ℕ → List ℕ → Writing
+writing head details count at stride places = record { head = head; details = details; count = count; at = at; stride = stride; places = places; failed = false }
 
-same_writing : (head : Head) (shown : Shown) (a b c d e f : ℕ) (xs ys : List ℕ) → a ≡ b → c ≡ d → e ≡ f → xs ≡ ys → writing head shown a c e xs ≡ writing head shown b d f ys
-same_writing head shown a b c d e f xs ys p q r s = rw (p, q, r, s) refl
+same_writing : (head : Head) (details : TrackEntry) (a b c d e f : ℕ) (xs ys : List ℕ) → a ≡ b → c ≡ d → e ≡ f → xs ≡ ys → writing head details a c e xs ≡ writing head details b d f ys
+same_writing head details a b c d e f xs ys p q r s = rw (p, q, r, s) refl
 
 same_kept : (a b c d : ℕ) (xs ys : List ℕ) → a ≡ b → c ≡ d → xs ≡ ys → Kept a c xs → Kept b d ys
 same_kept a b c d xs ys p q r k = rw (← p, ← q, ← r) k
@@ -124,34 +124,34 @@ same_stride a b c d xs ys p q r = rw (p, q, r) refl
 same_places : (a b c d e f : ℕ) (xs ys : List ℕ) → a ≡ b → c ≡ d → e ≡ f → xs ≡ ys → with_place a c e xs ≡ with_place b d f ys
 same_places a b c d e f xs ys p q r s = rw (p, q, r, s) refl
 
-pub grown_by : (head : Head) (shown : Shown) (frames : List (List ℕ)) (frame : List ℕ) (count at stride next : ℕ) (places more : List ℕ) →
-    count ≡ length frames → at ≡ end_place head shown frames → stride ≡ stride_of (length frames) → places ≡ every (stride_of (length frames)) (places_from (first_place head shown) frames) →
+pub grown_by : (head : Head) (details : TrackEntry) (frames : List (List ℕ)) (frame : List ℕ) (count at stride next : ℕ) (places more : List ℕ) →
+    count ≡ length frames → at ≡ end_place head details frames → stride ≡ stride_of (length frames) → places ≡ every (stride_of (length frames)) (places_from (first_place head details) frames) →
     count < 2 ^ 56 → Kept count stride places → next ≡ stride_after count stride places → more ≡ with_place count stride at places →
-    writing head shown (count + 1) (at + (41 + length frame)) next more ≡ writing_of head shown (frames ++ frame ∷ [])
-grown_by head shown frames frame count at stride next places more count_is at_is stride_is places_is few kept next_is more_is =
+    writing head details (count + 1) (at + (41 + length frame)) next more ≡ writing_of head details (frames ++ frame ∷ [])
+grown_by head details frames frame count at stride next places more count_is at_is stride_is places_is few kept next_is more_is =
     let n = length frames in
     let s = stride_of n in
-    let first = first_place head shown in
+    let first = first_place head details in
     let ps = places_from first frames in
-    let here = end_place head shown frames in
+    let here = end_place head details frames in
     let k = same_kept count n stride s places (every s ps) count_is stride_is places_is kept in
     let small : n < 2 ^ 56 = omega (arith, count_is, few) in
     let step = next_of n s here ps small k refl (sym (places_count first frames)) in
     let long = count_more frames frame in
     let all : ps ++ here ∷ [] ≡ places_from first (frames ++ frame ∷ []) = sym (places_snoc first 0 frames frame) in
     let a : count + 1 ≡ length (frames ++ frame ∷ []) = omega (arith, count_is, long) in
-    let b : at + (41 + length frame) ≡ end_place head shown (frames ++ frame ∷ []) = omega (arith, at_is, end_more head shown frames frame) in
+    let b : at + (41 + length frame) ≡ end_place head details (frames ++ frame ∷ []) = omega (arith, at_is, end_more head details frames frame) in
     let c : next ≡ stride_of (length (frames ++ frame ∷ [])) = next_is ∙ same_stride count n stride s places (every s ps) count_is stride_is places_is ∙ step.stride ∙ ap stride_of (sym long) in
     let d : more ≡ every (stride_of (length (frames ++ frame ∷ []))) (places_from first (frames ++ frame ∷ [])) = more_is ∙ same_places count n stride s at here places (every s ps) count_is stride_is at_is places_is ∙ step.places ∙ same_every (n + 1) (length (frames ++ frame ∷ [])) (ps ++ here ∷ []) (places_from first (frames ++ frame ∷ [])) (sym long) all in
-    same_writing head shown _ _ _ _ _ _ _ _ a b c d
+    same_writing head details _ _ _ _ _ _ _ _ a b c d
   where
     same_every : (a b : ℕ) (xs ys : List ℕ) → a ≡ b → xs ≡ ys → every (stride_of a) xs ≡ every (stride_of b) ys
     same_every a b xs ys p q = rw (p, q) refl
 
 -- what a writer keeps once a frame more was written
-pub keeping_more : (head : Head) (shown : Shown) (count at stride next room size : ℕ) (places more : List ℕ) → Keeping (writing head shown count at stride places) room → Kept (count + 1) next more → at + 41 + size ≤ 2 ^ 56 - 2 ^ 20 →
-    Keeping (writing head shown (count + 1) (at + (41 + size)) next more) 8192
-keeping_more head shown count at stride next room size places more keeping kept near =
+pub keeping_more : (head : Head) (details : TrackEntry) (count at stride next room size : ℕ) (places more : List ℕ) → Keeping (writing head details count at stride places) room → Kept (count + 1) next more → at + 41 + size ≤ 2 ^ 56 - 2 ^ 20 →
+    Keeping (writing head details (count + 1) (at + (41 + size)) next more) 8192
+keeping_more head details count at stride next room size places more keeping kept near =
     let counted = keeping.counted in
     let begins = keeping.begins in
     record {
@@ -165,38 +165,38 @@ keeping_more head shown count at stride next room size places more keeping kept 
     }
 
 -- how many Clusters there are
-pub few_of : (head : Head) (shown : Shown) (count at stride room : ℕ) (places : List ℕ) → Keeping (writing head shown count at stride places) room → count < 2 ^ 56
-few_of head shown count at stride room places keeping = elim (cases_lt 0 count) [
+pub few_of : (head : Head) (details : TrackEntry) (count at stride room : ℕ) (places : List ℕ) → Keeping (writing head details count at stride places) room → count < 2 ^ 56
+few_of head details count at stride room places keeping = elim (cases_lt 0 count) [
   | inl some ↦ let counted = keeping.counted in let ends : at ≤ 2 ^ 56 - 2 ^ 20 = keeping.ends some in omega (arith, counted, ends)
   | inr none ↦ omega (arith, none)
 ]
 
 -- the writer that has one frame more
-pub grows_by : (head : Head) (shown : Shown) (frame : List ℕ) (count at stride next room : ℕ) (places more : List ℕ) →
-    Keeping (writing head shown count at stride places) room → next ≡ stride_after count stride places → more ≡ with_place count stride at places →
-    Grows (writing head shown count at stride places) frame (writing head shown (count + 1) (at + (41 + length frame)) next more)
-grows_by head shown frame count at stride next room places more keeping next_is more_is =
-    let few = few_of head shown count at stride room places keeping in
+pub grows_by : (head : Head) (details : TrackEntry) (frame : List ℕ) (count at stride next room : ℕ) (places more : List ℕ) →
+    Keeping (writing head details count at stride places) room → next ≡ stride_after count stride places → more ≡ with_place count stride at places →
+    Grows (writing head details count at stride places) frame (writing head details (count + 1) (at + (41 + length frame)) next more)
+grows_by head details frame count at stride next room places more keeping next_is more_is =
+    let few = few_of head details count at stride room places keeping in
     record {
       head_is = refl;
-      shown_is = refl;
+      details_is = refl;
       counted = refl;
       ends = omega arith;
       lives = refl;
-      grown = λ frames is. grown_by head shown frames frame count at stride next places more
+      grown = λ frames is. grown_by head details frames frame count at stride next places more
           (ap (λ (w : Writing). w.count) is) (ap (λ (w : Writing). w.at) is) (ap (λ (w : Writing). w.stride) is) (ap (λ (w : Writing). w.places) is)
           few keeping.kept next_is more_is;
     }
 
 -- a new writer
-pub new_by : (head kept : Head) (shown : Shown) (at : ℕ) (places : List ℕ) → kept ≡ head → at ≡ first_place head shown → places ≡ [] → writing kept shown 0 at 1 places ≡ writing_of head shown []
+pub new_by : (head kept : Head) (details : TrackEntry) (at : ℕ) (places : List ℕ) → kept ≡ head → at ≡ first_place head details → places ≡ [] → writing kept details 0 at 1 places ≡ writing_of head details []
 unfolding clusters_from every_after places_from stride_from
-new_by head kept shown at places kept_is at_is places_is =
-    let none : first_place head shown + 0 ≡ first_place head shown = omega arith in
+new_by head kept details at places kept_is at_is places_is =
+    let none : first_place head details + 0 ≡ first_place head details = omega arith in
     rw (kept_is, at_is, places_is, none) refl
 
-pub keeping_new : (head kept : Head) (shown : Shown) (at : ℕ) (places : List ℕ) → kept ≡ head → at ≡ first_place head shown → at < 2 ^ 63 + 2 ^ 20 → places ≡ [] → Keeping (writing kept shown 0 at 1 places) 8192
-keeping_new head kept shown at places kept_is at_is fits places_is =
+pub keeping_new : (head kept : Head) (details : TrackEntry) (at : ℕ) (places : List ℕ) → kept ≡ head → at ≡ first_place head details → at < 2 ^ 63 + 2 ^ 20 → places ≡ [] → Keeping (writing kept details 0 at 1 places) 8192
+keeping_new head kept details at places kept_is at_is fits places_is =
     let none : length places ≡ 0 = ap length places_is in
     record {
       kept = record { some = omega arith; few = omega (arith, none); reach = omega arith; near = omega (arith, none); low = omega arith };

@@ -1,10 +1,10 @@
 -- The numbers of tracks, in one number.
-use Rattle.std.proofs.Common.{◌≡◌, ◌≤◌, ◌<◌, ◌+◌, ◌-◌, ◌*◌, ◌/◌, ◌%◌, ◌^◌, ◌==◌, ◌&&◌, ◌∙◌, ℕ, suc, Bool, true, false, nat_le, inl, inr, ap, refl, arith}
+use Rattle.std.proofs.Common.{◌≡◌, ◌≤◌, ◌<◌, ◌+◌, ◌-◌, ◌*◌, ◌/◌, ◌%◌, ◌^◌, ◌==◌, ◌∙◌, ℕ, suc, Bool, true, false, nat_le, inl, inr, ap, refl, arith}
 use Rattle.std.proofs.Math.Nat.{pow-succ', mul-le-mul_left}
 use Rattle.std.proofs.Math.Pow.{pow_pos}
 use Rattle.std.proofs.lemmas.Bool.{cases_lt, eqb-true, leb-true, ne_eqb}
 use Rattle.std.proofs.lemmas.Nat.{pow-add, div_below, le-div}
-use Rattle.ffv1_matroska.specs.Blocks.{is_unknown}
+use Rattle.ffv1_matroska.specs.Blocks.{bit_of, is_unknown}
 use Rattle.ffv1_matroska.specs.Tracks.{with_number}
 
 -- how often a number is in another one
@@ -53,17 +53,12 @@ one_more s d pos =
 odd_next : (q : ℕ) → q % 2 ≡ 0 → ((q + 1) % 2 == 0) ≡ false
 odd_next q even = ne_eqb _ _ (λ e. omega (arith, even, e))
 
-both_are : (a b : Bool) → (a && b) ≡ true → (a ≡ true) × (b ≡ true)
-both_are true true h = (refl, refl)
-both_are true false h = absurd (cc)
-both_are false b h = absurd (cc)
-
 -- one that no track had and is there now is known
-now_known : (known number : ℕ) → is_unknown known number ≡ true → is_unknown (known + 2 ^ number) number ≡ false
+now_known : (known number : ℕ) → is_unknown known number ≡ true → is_unknown (known + 2 ^ bit_of number) number ≡ false
 unfolding is_unknown
 now_known known number unknown =
-    let parts = both_are (nat_le number 127) (known / 2 ^ number % 2 == 0) unknown in
-    rw (parts.0, one_more known (2 ^ number) (pow_pos number), odd_next (known / 2 ^ number) (eqb-true _ _ parts.1)) refl
+    let e = bit_of number in
+    rw (one_more known (2 ^ e) (pow_pos e), odd_next (known / 2 ^ e) (eqb-true _ _ unknown)) refl
 
 pub added_known : (known number : ℕ) → is_unknown (with_number known number) number ≡ false
 unfolding with_number
@@ -73,20 +68,17 @@ added_known known number = on_test (is_unknown known number) refl
     on_test false p = rw (p, p) refl
     on_test true p = rw p (now_known known number p)
 
--- what a power of two that is added makes of a number of 128 bits
-pub unknown_fits : (known number : ℕ) → known < 2 ^ 128 → is_unknown known number ≡ true → known + 2 ^ number < 2 ^ 128
-unfolding is_unknown
-unknown_fits known number fits unknown =
-    let parts = both_are (nat_le number 127) (known / 2 ^ number % 2 == 0) unknown in
-    let few : number ≤ 127 = leb-true _ _ parts.0 in
-    no_carry known number 128 (omega (arith, few)) fits (eqb-true _ _ parts.1)
+pub bit_small : (number : ℕ) → bit_of number < 128
+bit_small number = on_test (nat_le number 127) refl
+  where
+    on_test : (b : Bool) → nat_le number 127 ≡ b → bit_of number < 128
+    on_test true p = let few = leb-true _ _ p in rw p (omega (arith, few))
+    on_test false p = rw p (omega arith)
 
-pub unknown_small : (known number : ℕ) → is_unknown known number ≡ true → number < 128
+-- what a power of two that is added makes of a number of 128 bits
+pub unknown_fits : (known number : ℕ) → known < 2 ^ 128 → is_unknown known number ≡ true → known + 2 ^ bit_of number < 2 ^ 128
 unfolding is_unknown
-unknown_small known number unknown =
-    let parts = both_are (nat_le number 127) (known / 2 ^ number % 2 == 0) unknown in
-    let few : number ≤ 127 = leb-true _ _ parts.0 in
-    omega (arith, few)
+unknown_fits known number fits unknown = no_carry known (bit_of number) 128 (bit_small number) fits (eqb-true _ _ unknown)
 
 -- a 1 that is moved to its place stays whole
 pub moved_one : (number : ℕ) → number < 128 → 1 * 2 ^ number % 340282366920938463463374607431768211456 ≡ 2 ^ number

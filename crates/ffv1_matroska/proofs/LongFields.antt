@@ -46,7 +46,7 @@ passes_first ident said bytes p =
     let some : length xs ≡ 0 → ⊥ = λ e. omega (arith, e, header_some ident said bytes p.named) in
     part_of_some xs some ∙ ap part_read (header_passes (length xs) Absent ident said bytes p)
 
--- is met where a field is looked for that does not stand before it
+-- is met when a field is looked for that does not come before it
 found_passes : (most looked_for : ℕ) (fields : List Field) (ident said bytes : List ℕ) → AreOther looked_for fields → Passes (length ((ident ++ said) ++ bytes)) ident said → length fields < most → found_up_to most looked_for (fields_text fields ++ ((ident ++ said) ++ bytes)) ≡ Err fault.Truncated
 unfolding found_up_to
 found_passes zero looked_for fields ident said bytes others p fits = absurd (omega (arith, fits))
@@ -82,7 +82,7 @@ fewer_than content looked_for h =
     let some = header_some h.ident h.said h.bytes h.passes.named in
     omega (arith, few, some, ap length h.content_is, length-append (fields_text h.fields) ((h.ident ++ h.said) ++ h.bytes))
 
--- the CRC-32 of such content is not wrong
+-- the CRC-32 of content that one of its elements passes is not wrong
 told_so : (content : List ℕ) (looked_for : ℕ) → FieldPasses content looked_for → IsNotWrong content → (content_told content ≡ Ok tt) ⊎ (content_told content ≡ Err fault.Truncated)
 told_so content looked_for h sound = on_fields h.fields h.others h.content_is
   where

@@ -1,4 +1,5 @@
--- What stands before the frames is read: the header of EBML, that of the Segment, and elements up to the first Tracks.
+-- What comes before the frames is read: the header of EBML, that of the Segment, and elements up to
+-- the first Tracks.
 use Rattle.std.proofs.Common.{◌≡◌, ◌≤◌, ◌<◌, ◌+◌, ◌-◌, ◌==◌, ◌||◌, ◌∙◌, ◌++◌, ◌∷◌, [], ℕ, suc, zero, List, Bool, true, false, nat_lt, nat_le, Option, Some, None, Result, Ok, Err, length, refl, sym, ap, arith, append_assoc, length-append}
 use Rattle.std.proofs.lemmas.Bool.{eq-eqb, le-leb, le-ltb, ne_eqb}
 use Rattle.ffv1_reads.specs.Head.{Head, limit}
@@ -57,7 +58,7 @@ passed_same track base m n ident text k j same = on_tests (is_section ident) (is
     on_tests false true s t = rw (s, t) (on_length (nat_lt (length text) n) refl)
     on_tests false false s t = rw (s, t) refl
 
--- after Tracks the frames are the same from there on, whatever stands before the first Cluster
+-- after Tracks the frames are the same from there on, whatever comes before the first Cluster
 pub begun_same : (most : ℕ) (track : Track) (base : Place) (n : ℕ) (text : List ℕ) → n < most →
     read_on (begin_up_to most (Some track) (segment_at base false n) text) begun_frames ≡ headed track.head (frames_read track.numbers (segment_at base false n) text)
 unfolding begin_up_to begun_at element_passed step_read segment_read segment_child

@@ -26,7 +26,7 @@ use Rattle.ffv1_matroska.proofs.PieceLaws.{IsPast, child_complete, cluster_heade
 use Rattle.ffv1_matroska.specs.Elements.{stands_single}
 use Rattle.ffv1_matroska.specs.declared.track.TrackNumbers.{TrackNumbers}
 
--- where a Cluster has nothing left, the Segment is read on
+-- if a Cluster has nothing left, the Segment is read on
 pub cluster_end : (track : TrackNumbers) (base : Place) (s : Sum) (text : List ℕ) → frames_read track (cluster_at base 0 s) text ≡ frames_read track (segment_at base base.loose base.segment) text
 unfolding step_read segment_read header_read
 cluster_end track base s text = frames_turn track (cluster_at base 0 s) text ∙ sym (frames_turn track (segment_at base base.loose base.segment) text)

@@ -10,7 +10,7 @@ use Rattle.ffv1_reads.specs.declared.fault.FileFault.{FileFault}
 use Rattle.ffv1_reads.specs.declared.fault.FileFault.TheVariants as fault
 use Rattle.ffv1_matroska.specs.Writers.{piece}
 use Rattle.ffv1_matroska.specs.Written.{cluster_element, opening, tracks_element}
-use Rattle.ffv1_matroska.specs.declared.shown.Shown.{Shown}
+use Rattle.ffv1_matroska.specs.declared.track_entry.TrackEntry.{TrackEntry}
 
 -- a call that did not fail wrote all
 pub done_of : (a b : Option (List ℕ)) (m n : ℕ) (xs : List ℕ) (r : Result (Unit {0}) FileFault) → is_err r ≡ false → Writes (between a b m n) xs r → (n ≡ m) × Appends a b xs
@@ -27,10 +27,10 @@ pub failed_of : (a b : Option (List ℕ)) (m n : ℕ) (xs : List ℕ) (r : Resul
 failed_of a b m n xs (Ok u) t w = absurd (cc)
 failed_of a b m n xs (Err f) t w = stopped_is a b m n xs f w
 
-pub piece_first : (head : Head) (shown : Shown) (count : ℕ) (frame : List ℕ) → count ≡ 0 → piece head shown count frame ≡ opening head None ++ tracks_element head shown ++ cluster_element 0 frame
+pub piece_first : (head : Head) (details : TrackEntry) (count : ℕ) (frame : List ℕ) → count ≡ 0 → piece head details count frame ≡ opening head None ++ tracks_element head details ++ cluster_element 0 frame
 unfolding piece
-piece_first head shown count frame none = rw none refl
+piece_first head details count frame none = rw none refl
 
-pub piece_next : (head : Head) (shown : Shown) (count : ℕ) (frame : List ℕ) → (count ≡ 0 → ⊥) → piece head shown count frame ≡ cluster_element count frame
+pub piece_next : (head : Head) (details : TrackEntry) (count : ℕ) (frame : List ℕ) → (count ≡ 0 → ⊥) → piece head details count frame ≡ cluster_element count frame
 unfolding piece
-piece_next head shown count frame some = rw (ne_eqb count 0 some) refl
+piece_next head details count frame some = rw (ne_eqb count 0 some) refl

@@ -20,7 +20,7 @@ use Rattle.ffv1_matroska.specs.declared.place.Step.{Step}
 use Rattle.ffv1_matroska.proofs.BlockLaws.{after_bytes, content_read}
 use Rattle.ffv1_matroska.proofs.FrameTurns.{Turn, kept_by, step_kept}
 use Rattle.ffv1_matroska.proofs.StepBounds.{err_is_no_ok}
-use Rattle.ffv1_reads.specs.Head.{limit}
+use Rattle.ffv1_reads.specs.Head.{frame_limit}
 use Rattle.ffv1_matroska.specs.declared.track.TrackNumbers.{TrackNumbers}
 
 -- a Cluster that has nothing left was judged
@@ -95,21 +95,21 @@ record HasFields (left : ℕ) (place : Place) (text : List ℕ) (o : Option Step
   timed : length time ≡ 2
   unlaced : lacing_of flags ≡ 0
   some : 0 < size
-  short : size ≤ limit
+  short : size ≤ frame_limit
   fits : 3 + size ≡ left
   step : o ≡ Some (frame_at size (after_bytes place (time ++ flags ∷ [])))
 
 record IsFrame (flags size : ℕ) (place : Place) (text : List ℕ) (o : Option Step) (rest : List ℕ) : Type 0 where
   unlaced : lacing_of flags ≡ 0
   some : 0 < size
-  short : size ≤ limit
+  short : size ≤ frame_limit
   step : o ≡ Some (frame_at size place)
   text_is : text ≡ rest
 
 frame_sound : (flags size : ℕ) (place : Place) (text : List ℕ) (o : Option Step) (rest : List ℕ) → frame_judged flags size place text ≡ Ok (o, rest) → IsFrame flags size place text o rest
-frame_sound flags size place text o rest h = on_tests (lacing_of flags == 0) (nat_lt limit size) (size == 0) refl refl refl h
+frame_sound flags size place text o rest h = on_tests (lacing_of flags == 0) (nat_lt frame_limit size) (size == 0) refl refl refl h
   where
-    on_tests : (a b c : Bool) → (lacing_of flags == 0) ≡ a → nat_lt limit size ≡ b → (size == 0) ≡ c → frame_judged flags size place text ≡ Ok (o, rest) → IsFrame flags size place text o rest
+    on_tests : (a b c : Bool) → (lacing_of flags == 0) ≡ a → nat_lt frame_limit size ≡ b → (size == 0) ≡ c → frame_judged flags size place text ≡ Ok (o, rest) → IsFrame flags size place text o rest
     on_tests false b c r s t h = absurd (err_is_no_ok (Met fault.Laced text) (o, rest) (rw r at h))
     on_tests true true c r s t h = absurd (err_is_no_ok (Met fault.ChunkTooLong text) (o, rest) (rw (r, s) at h))
     on_tests true false true r s t h = absurd (err_is_no_ok (Met fault.EmptyFrame text) (o, rest) (rw (r, s, t) at h))

@@ -7,7 +7,7 @@ use Rattle.ffv1_reads.specs.Reads.{Met, read_on, taken, ◌>>=◌}
 use Rattle.ffv1_reads.proofs.Results.{ok_is, read_on_ok}
 use Rattle.ffv1_reads.proofs.WantedBytes.{taken_sound}
 use Rattle.ffv1_sum.specs.Sum.{crc_of, number_of as low_number, turned}
-use Rattle.ffv1_ebml.specs.Elements.{crc_ident, element_read, is_crc, element_in}
+use Rattle.ffv1_ebml.specs.Elements.{crc_ident, is_crc, element_in}
 use Rattle.ffv1_ebml.specs.Spelled.{SaysSize}
 use Rattle.ffv1_ebml.specs.Sums.{is_met, summed}
 use Rattle.ffv1_ebml.specs.Vints.{IsVint, number_of}

@@ -37,7 +37,7 @@ use Rattle.ffv1_matroska.proofs.StepBounds.{err_is_no_ok}
 abbrev F : Type 0
 F = (Head × List (List ℕ)) × List ℕ
 
--- what stands before the frames in a Segment, and the frames
+-- what comes before the frames in a Segment, and the frames
 pub record HasBefore (base : Place) (n : ℕ) (text : List ℕ) (w : F) : Type 0 where
   pub before : List TopLevel
   pub tracks : TopLevel

@@ -165,7 +165,8 @@ top_sound track base loose n text w e s more h k z again bytes rest split long k
     let next = again false e.left rest w (omega (arith, fit, some)) read in
     add_part track base loose n e.left text rest w (Top t) w.0 is (h.text_is ∙ ap (λ z. head ++ z) split ∙ sym (append_assoc head bytes rest)) (omega (arith, fit, long, length-append head bytes)) refl (tail_of track base e.left rest w next)
 
--- an element that holds no frames was read: one that is known, or a filler where no Cluster of unknown size goes on
+-- an element that holds no frames was read: one that is known, or a filler if no Cluster of unknown
+-- size goes on
 other_sound : (track : TrackNumbers) (base : Place) (loose : Bool) (n : ℕ) (text : List ℕ) (w : List (List ℕ) × List ℕ) (e : Element) (s : Sum) (more : List ℕ) (h : HasHeader n Absent text (e, s) more) (k : ℕ) → e.size ≡ Some k → Again track base n →
     (is_filler e.ident ≡ true → loose ≡ false) → read_on ((other_read e.ident k (segment_at base loose e.left) >>= step_kept) more) (turns_on track) ≡ Ok w → HasSegment track base loose n text w
 unfolding other_read

@@ -21,7 +21,7 @@ use Rattle.ffv1_matroska.specs.Places.{amount, closed, cluster_at, cluster_enter
 use Rattle.ffv1_matroska.specs.Segments.{block, block_group, child_by, cluster, cluster_child, cluster_read, cluster_rest, crc_read, first_child, group_child, group_read, group_rest, header_read, is_filler, is_of_cluster, is_section, known_child, other_read, segment_child, segment_read, segment_rest, simple_block, step_read, is_outside}
 use Rattle.ffv1_matroska.specs.declared.place.Place.{Place}
 use Rattle.ffv1_matroska.specs.declared.place.Step.{Step}
-use Rattle.ffv1_reads.specs.Head.{limit}
+use Rattle.ffv1_reads.specs.Head.{frame_limit}
 use Rattle.ffv1_matroska.specs.Segments.{is_beside}
 use Rattle.ffv1_matroska.specs.declared.track.TrackNumbers.{TrackNumbers}
 
@@ -106,7 +106,7 @@ block_within track size place = gives_any {X = Data × Sum} P (data_read size pl
     judged : (flags size : ℕ) (s : Sum) → Gives P (frame_judged flags size (summed_at place s))
     judged flags size s =
         gives_if P (lacing_of flags == 0) _ (refused fault.Laced)
-        (gives_if P (nat_lt limit size) (refused fault.ChunkTooLong) _ (gives_refused P fault.ChunkTooLong)
+        (gives_if P (nat_lt frame_limit size) (refused fault.ChunkTooLong) _ (gives_refused P fault.ChunkTooLong)
         (gives_if P (size == 0) (refused fault.EmptyFrame) _ (gives_refused P fault.EmptyFrame) (gives_given P (Some (frame_at size (summed_at place s))) (omega arith))))
         (gives_refused P fault.Laced)
 
@@ -133,7 +133,7 @@ group_less track place = gives_then (Leaves place.group) P (element_read place.g
     child ident now None less = gives_refused P fault.BadElement
     child ident now (Some n) less = within_less (amount now) (amount place) (group_child track ident now (Some n)) less (gives_if (Within (amount now)) (ident == block) (block_read track n now) (passed_on n now) (block_within track n now) (passed_within n now))
 
--- an element of a Cluster, in a position that has left what stands after it
+-- an element of a Cluster, in a position that has left what comes after it
 child_within : (track : TrackNumbers) (ident size n : ℕ) (place : Place) → place.group ≡ 0 → size + amount place ≤ n → Gives (Within n) (cluster_child track ident size place)
 unfolding cluster_child
 child_within track ident size n place none fits =

@@ -31,7 +31,7 @@ steps_less (Ok (Some s)) n m less h = omega (arith, less, h)
 steps_less (Ok None) n m less h = tt
 steps_less (Err f) n m less h = tt
 
--- where less is left, fewer steps are to come
+-- if less is left, fewer steps are to come
 pub fewer : (k n m : ℕ) → m ≤ k → n < m → (j : ℕ) × (n ≤ j) × (k ≡ suc j)
 fewer zero n m most less = absurd (omega (arith, most, less))
 fewer (suc j) n m most less = (j, omega (arith, most, less), refl)

@@ -19,7 +19,7 @@ stride_stays (suc others) s n room = elim (cases_lt (8192 * s) n) [
       rw (now, next) refl
 ]
 
--- and is twice as much where there is none
+-- and is twice as much if there is none
 pub stride_doubles : (others s n : ℕ) → 0 < s → n + 1 ≤ 8192 * (2 ^ others * s) → 8192 * stride_from others s n ≤ n → stride_from others s (n + 1) ≡ 2 * stride_from others s n
 unfolding stride_from
 stride_doubles zero s n some few full = let one : 2 ^ 0 * s ≡ s = omega arith in absurd (omega (arith, one, few, full))

@@ -164,7 +164,7 @@ inside_takes base stated content rest place text o more h t =
       sound = t.sound;
     }
 
--- where nothing is left of it, its sum is right
+-- if nothing is left of it, its sum is right
 inside_end : (base : Place) (stated : ℕ) (content rest : List ℕ) (place : Place) (text : List ℕ) → Inside base stated content rest place text → place.group ≡ 0 → place.cluster ≡ 0 → stated ≡ crc_of content
 inside_end base stated content rest place text h no_group no_cluster =
     let empty : h.left ≡ [] = none_left h.left (omega (arith, h.counted, no_group, no_cluster)) in

@@ -1,19 +1,21 @@
--- What is written are bytes, where the record and the frames are.
+-- What is written are bytes, if the record and the frames are.
 use Rattle.std.specs.Prelude.{All}
-use Rattle.std.proofs.Common.{◌≡◌, ◌≤◌, ◌<◌, ◌+◌, ◌-◌, ◌*◌, ◌^◌, ◌++◌, ◌&&◌, ◌||◌, ◌==◌, ℕ, suc, zero, List, [], ◌∷◌, Bool, true, false, cond, nat_lt, inl, inr, length-append, Option, Some, None, length, get_or, codes, refl, ap, arith}
+use Rattle.std.proofs.Common.{◌%◌, codes, ◌≡◌, ◌≤◌, ◌<◌, ◌+◌, ◌-◌, ◌*◌, ◌^◌, ◌++◌, ◌&&◌, ◌||◌, ◌==◌, ℕ, suc, zero, List, [], ◌∷◌, Bool, true, false, cond, nat_lt, inl, inr, length-append, Option, Some, None, length, get_or, codes, refl, ap, arith}
 use Rattle.std.specs.Prelude.{replicate}
 use Rattle.std.proofs.lemmas.Bool.{cases_eq, ltb-true, ne_eqb}
 use Rattle.std.proofs.lemmas.List.Elements.{All-append}
-use Rattle.std.specs.Int.{byte_at, bytes_high_first}
+use Rattle.std.specs.Int.{byte_at, bytes_high_first, bytes_low_first}
 use Rattle.ffv1_reads.specs.Head.{Head}
 use Rattle.ffv1_ebml.specs.Spelled.{ident_bytes, ident_length, long, number_element, short}
+use Rattle.ffv1_matroska.specs.declared.track_entry.CodecId.{CodecId}
+use Rattle.ffv1_matroska.specs.declared.track_entry.CodecId.TheVariants as codec
 use Rattle.ffv1_matroska.specs.Opened.{tracks}
 use Rattle.ffv1_matroska.specs.Tracks.{codec_id, codec_private, default_duration, entry, pixel_height, pixel_width, track_number, track_type, video}
 use Rattle.ffv1_matroska.specs.Segments.{simple_block}
-use Rattle.ffv1_matroska.specs.Written.{block_header, cluster_content, cue_element, cues_from, display, double, duration_field, entry_element, entry_fields, frame_duration, info_content, info_place, interlaced_of, long_element, order_element, seek_element, seeks, short_element, tick_of, tracks_place, video_content, void_element, writer_name}
+use Rattle.ffv1_matroska.specs.Written.{block_header, cluster_content, cue_element, cues_from, display, double, duration_field, entry_element, entry_fields, frame_duration, info_content, info_place, interlaced_of, long_element, order_element, seek_element, seeks, short_element, tick_of, tracks_place, video_content, void_element, writer_name, codec_name, private_content, private_end, private_front}
 use Rattle.ffv1_matroska.specs.WrittenIdents.{cue_cluster_position, cue_point, cue_time, cue_track, cue_track_positions, cues, display_height, display_unit, display_width, duration, field_order, flag_interlaced, flag_lacing, info, language, muxing_app, seek, seek_id, seek_position, timestamp, timestamp_scale, track_uid, void, writing_app}
 use Rattle.ffv1_matroska.proofs.SpelledLengths.{ident_most, number_long}
-use Rattle.ffv1_matroska.specs.declared.shown.Shown.{Shown}
+use Rattle.ffv1_matroska.specs.declared.track_entry.TrackEntry.{TrackEntry}
 use Rattle.ffv1_matroska.specs.declared.write.opening.Finish.{Finish}
 
 -- each is below 256
@@ -149,26 +151,26 @@ shown_by false a b =
       are = both (x ++ y) z (both x y (eight display_width a) (eight display_height b)) (one display_unit 3);
     }
 
-display_is : (head : Head) (shown : Shown) → ShownBytes (display head shown)
+display_is : (head : Head) (details : TrackEntry) → ShownBytes (display head details)
 unfolding display
-display_is head shown = shown_by (shown.sar_num == 0 || shown.sar_den == 0) (head.width * shown.sar_num) (head.height * shown.sar_den)
+display_is head details = shown_by (details.sar_num == 0 || details.sar_den == 0) (head.width * details.sar_num) (head.height * details.sar_den)
 
-video_is : (head : Head) (shown : Shown) → (length (video_content head shown) < 126) × AreBytes (video_content head shown)
+video_is : (head : Head) (details : TrackEntry) → (length (video_content head details) < 126) × AreBytes (video_content head details)
 unfolding video_content
-video_is head shown =
+video_is head details =
     let a = number_element pixel_width 4 head.width in
     let b = number_element pixel_height 4 head.height in
-    let c = number_element flag_interlaced 1 (interlaced_of shown.structure) in
-    let d = order_element shown.structure in
-    let e = display head shown in
-    let shows = display_is head shown in
+    let c = number_element flag_interlaced 1 (interlaced_of details.structure) in
+    let d = order_element details.structure in
+    let e = display head details in
+    let shows = display_is head details in
     let few = shows.few in (
-      omega (arith, length-append (((a ++ b) ++ c) ++ d) e, length-append ((a ++ b) ++ c) d, length-append (a ++ b) c, length-append a b, number_most pixel_width 4 head.width, number_most pixel_height 4 head.height, number_most flag_interlaced 1 (interlaced_of shown.structure), order_most shown.structure, few),
-      both (((a ++ b) ++ c) ++ d) e (both ((a ++ b) ++ c) d (both (a ++ b) c (both a b (number_are pixel_width 4 head.width (omega arith)) (number_are pixel_height 4 head.height (omega arith))) (one flag_interlaced (interlaced_of shown.structure))) (order_are shown.structure)) shows.are,
+      omega (arith, length-append (((a ++ b) ++ c) ++ d) e, length-append ((a ++ b) ++ c) d, length-append (a ++ b) c, length-append a b, number_most pixel_width 4 head.width, number_most pixel_height 4 head.height, number_most flag_interlaced 1 (interlaced_of details.structure), order_most details.structure, few),
+      both (((a ++ b) ++ c) ++ d) e (both ((a ++ b) ++ c) d (both (a ++ b) c (both a b (number_are pixel_width 4 head.width (omega arith)) (number_are pixel_height 4 head.height (omega arith))) (one flag_interlaced (interlaced_of details.structure))) (order_are details.structure)) shows.are,
     )
 
-pub video_few : (head : Head) (shown : Shown) → length (video_content head shown) < 126
-video_few head shown = (video_is head shown).0
+pub video_few : (head : Head) (details : TrackEntry) → length (video_content head details) < 126
+video_few head details = (video_is head details).0
 
 duration_by : (p : Bool) (n : ℕ) → AreBytes (cond p [] (number_element default_duration 8 n))
 duration_by true n = none_are
@@ -178,17 +180,49 @@ field_are : (head : Head) → AreBytes (duration_field head)
 unfolding duration_field
 field_are head = duration_by (frame_duration head == 0) (frame_duration head)
 
-fields_are : (head : Head) (shown : Shown) → AreBytes (entry_fields head shown)
-unfolding entry_fields
-fields_are head shown =
-    let video_all = video_is head shown in
-    both _ _ (both _ _ (both _ _ (both _ _ (both _ _ (both _ _ (both _ _ (one track_number 1) (one track_uid 1)) (one track_type 1)) (one flag_lacing 0))
-    (in_short language (codes "und") (omega arith) (by_test (codes "und") refl))) (in_short codec_id (codes "V_FFV1") (omega arith) (by_test (codes "V_FFV1") refl))) (field_are head))
-    (in_short video (video_content head shown) (let few = video_all.0 in omega (arith, few)) video_all.1)
+named_are : (id : CodecId) → AreBytes (short_element codec_id (codec_name id))
+named_are codec.Native = in_short codec_id (codes "V_FFV1") (omega arith) (by_test (codes "V_FFV1") refl)
+named_are codec.Vfw = in_short codec_id (codes "V_MS/VFW/FOURCC") (omega arith) (by_test (codes "V_MS/VFW/FOURCC") refl)
 
-pub entry_are : (head : Head) (shown : Shown) → AreBytes head.config_record → AreBytes (entry_element head shown)
+low_are : (n : ℕ) → AreBytes (bytes_low_first 0 4 n)
+low_are n = one_more (byte_at 0 n) (byte_at 1 n ∷ byte_at 2 n ∷ byte_at 3 n ∷ []) (byte_low 0 n) (one_more (byte_at 1 n) (byte_at 2 n ∷ byte_at 3 n ∷ []) (byte_low 1 n) (one_more (byte_at 2 n) (byte_at 3 n ∷ []) (byte_low 2 n) (one_more (byte_at 3 n) [] (byte_low 3 n) none_are)))
+
+front_are : (id : CodecId) (head : Head) → AreBytes (private_front id head)
+front_are codec.Native head = none_are
+front_are codec.Vfw head =
+    let image = head.width * head.height * 3 in
+    let e = bytes_low_first 0 4 image ++ replicate 16 0 in
+    let d = (1 ∷ 0 ∷ 24 ∷ 0 ∷ codes "FFV1") ++ e in
+    let c = bytes_low_first 0 4 head.height ++ d in
+    let b = bytes_low_first 0 4 head.width ++ c in
+    both (bytes_low_first 0 4 (40 + length head.config_record)) b (low_are (40 + length head.config_record))
+    (both (bytes_low_first 0 4 head.width) c (low_are head.width)
+    (both (bytes_low_first 0 4 head.height) d (low_are head.height)
+    (both (1 ∷ 0 ∷ 24 ∷ 0 ∷ codes "FFV1") e (by_test (1 ∷ 0 ∷ 24 ∷ 0 ∷ codes "FFV1") refl)
+    (both (bytes_low_first 0 4 image) (replicate 16 0) (low_are image) (by_test (replicate 16 0) refl)))))
+
+end_are : (id : CodecId) (head : Head) → AreBytes (private_end id head)
+end_are codec.Native head = none_are
+end_are codec.Vfw head = zeros_are (length head.config_record % 2)
+  where
+    zeros_are : (n : ℕ) → AreBytes (replicate n 0)
+    zeros_are zero = none_are
+    zeros_are (suc n) = one_more 0 (replicate n 0) (omega arith) (zeros_are n)
+
+private_are : (id : CodecId) (head : Head) → AreBytes head.config_record → AreBytes (private_content id head)
+private_are id head all = both (private_front id head) (head.config_record ++ private_end id head) (front_are id head) (both head.config_record (private_end id head) all (end_are id head))
+
+fields_are : (head : Head) (details : TrackEntry) → AreBytes (entry_fields head details)
+unfolding entry_fields
+fields_are head details =
+    let video_all = video_is head details in
+    both _ _ (both _ _ (both _ _ (both _ _ (both _ _ (both _ _ (both _ _ (one track_number 1) (one track_uid 1)) (one track_type 1)) (one flag_lacing 0))
+    (in_short language (codes "und") (omega arith) (by_test (codes "und") refl))) (named_are details.codec_id)) (field_are head))
+    (in_short video (video_content head details) (let few = video_all.0 in omega (arith, few)) video_all.1)
+
+pub entry_are : (head : Head) (details : TrackEntry) → AreBytes head.config_record → AreBytes (entry_element head details)
 unfolding entry_element
-entry_are head shown all = in_long entry _ (both (entry_fields head shown) (long_element codec_private head.config_record) (fields_are head shown) (in_long codec_private head.config_record all))
+entry_are head details all = in_long entry _ (both (entry_fields head details) (long_element codec_private (private_content details.codec_id head)) (fields_are head details) (in_long codec_private (private_content details.codec_id head) (private_are details.codec_id head all)))
 
 pub cluster_are : (number : ℕ) (frame : List ℕ) → AreBytes frame → AreBytes (cluster_content number frame)
 unfolding cluster_content

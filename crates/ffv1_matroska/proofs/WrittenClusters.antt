@@ -8,7 +8,7 @@ use Rattle.ffv1_ebml.specs.Spelled.{IsIdent, SaysSize, ident_bytes, ident_length
 use Rattle.ffv1_ebml.specs.Vints.{IsVint, length_of, number_of}
 use Rattle.ffv1_ebml.proofs.Numbers.{length_high}
 use Rattle.ffv1_ebml.proofs.SpelledLaws.{ident_spelled, long_spelled, short_spelled}
-use Rattle.ffv1_reads.specs.Head.{limit}
+use Rattle.ffv1_reads.specs.Head.{frame_limit}
 use Rattle.ffv1_matroska.specs.Elements.{AreParts, ArePieces, AreSummed, Content, IsLeaf, IsOwn, IsPart, Leaf, Part, Piece, SaysIdent, part_text, parts_frames, parts_text, pieces_text}
 use Rattle.ffv1_matroska.specs.Segments.{block_group, cluster, simple_block}
 use Rattle.ffv1_matroska.specs.WrittenFiles.{AreWritten}
@@ -93,14 +93,14 @@ one_is : IsVint (129 ∷ [])
 unfolding length_of
 one_is = (omega arith, refl)
 
-own_leaf : (frame : List ℕ) → 0 < length frame → length frame ≤ limit → IsLeaf simple_block written_numbers (block_leaf frame)
+own_leaf : (frame : List ℕ) → 0 < length frame → length frame ≤ frame_limit → IsLeaf simple_block written_numbers (block_leaf frame)
 own_leaf frame some few =
     let p = ident_spelled simple_block block_is in
     let own : IsOwn written_numbers (129 ∷ []) (0 ∷ 0 ∷ []) 128 frame = record { own = (one_is, omega arith, refl); timed = refl; unlaced = refl; some = some; short = few } in
     let long_enough : length (block_header ++ frame) < 2 ^ 56 - 1 = omega (arith, length-append block_header frame, few) in
     record { named = p.is; few = p.few; sized = long_spelled (length (block_header ++ frame)) long_enough; holds = (rw p.number refl, own) }
 
-pieces_are : (number : ℕ) (frame : List ℕ) → 0 < length frame → length frame ≤ limit → ArePieces written_numbers (pieces_of number frame)
+pieces_are : (number : ℕ) (frame : List ℕ) → 0 < length frame → length frame ≤ frame_limit → ArePieces written_numbers (pieces_of number frame)
 pieces_are number frame some few =
     let low = bytes_low_first 0 4 (crc_of (cluster_content number frame)) in
     let crc = plain_leaf crc_ident simple_block (short 4) low crc_is_ident (λ same. omega (arith, same)) (short_spelled 4 (omega arith)) written_numbers in
@@ -118,7 +118,7 @@ pieces_summed number frame bytes = λ _. crc_says (cluster_content number frame)
 abbrev pub cluster_part : ℕ → List ℕ → Part
 cluster_part number frame = Part.Sized (ident_bytes cluster) (long (length (checked (cluster_content number frame)))) (pieces_of number frame)
 
-part_is : (number : ℕ) (frame : List ℕ) → 0 < length frame → length frame ≤ limit → AreBytes frame → length (checked (cluster_content number frame)) < 2 ^ 56 - 1 → IsPart written_numbers (cluster_part number frame)
+part_is : (number : ℕ) (frame : List ℕ) → 0 < length frame → length frame ≤ frame_limit → AreBytes frame → length (checked (cluster_content number frame)) < 2 ^ 56 - 1 → IsPart written_numbers (cluster_part number frame)
 part_is number frame some few bytes short_enough =
     let whole = whole_text number frame in
     (says_ident cluster cluster_is, rw whole (long_spelled (length (checked (cluster_content number frame))) short_enough), pieces_are number frame some few, pieces_summed number frame bytes)
@@ -144,7 +144,7 @@ pub parts_have : (number : ℕ) (frames : List (List ℕ)) → parts_frames (clu
 parts_have number [] = refl
 parts_have number (frame ∷ frames) = ap (λ z. frame ∷ z) (parts_have (suc number) frames)
 
-content_short : (number : ℕ) (frame : List ℕ) → length frame ≤ limit → length (checked (cluster_content number frame)) < 2 ^ 56 - 1
+content_short : (number : ℕ) (frame : List ℕ) → length frame ≤ frame_limit → length (checked (cluster_content number frame)) < 2 ^ 56 - 1
 unfolding cluster_content ident_length
 content_short number frame few =
     let block = (ident_bytes simple_block ++ long (length (block_header ++ frame))) ++ (block_header ++ frame) in

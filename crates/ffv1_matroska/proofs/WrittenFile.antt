@@ -18,8 +18,8 @@ use Rattle.ffv1_matroska.specs.Tracks.{codec_private, entry}
 use Rattle.ffv1_matroska.specs.WrittenFiles.{IsWritable}
 use Rattle.ffv1_matroska.specs.WrittenIdents.{cues, ebml_version, info, max_id_length, max_size_length, seek_head, type_version}
 use Rattle.ffv1_matroska.specs.WrittenPlaces.{every, places_from, stride_of}
-use Rattle.ffv1_matroska.specs.Written.{begun_of, checked, crc_element, seek_element, void_element, clusters_from, cluster_element, cues_element, cues_from, cues_of, ebml_header, end_place, entry_element, entry_fields, finish_of, finished_of, first_place, info_content, long_element, open_of, opening, seeks, segment_size, short_element, to_clusters, tracks_element}
-use Rattle.ffv1_matroska.specs.declared.shown.Shown.{Shown}
+use Rattle.ffv1_matroska.specs.Written.{begun_of, checked, crc_element, seek_element, void_element, clusters_from, cluster_element, cues_element, cues_from, cues_of, ebml_header, end_place, entry_element, entry_fields, finish_of, finished_of, first_place, info_content, long_element, open_of, opening, seeks, segment_size, short_element, to_clusters, tracks_element, private_content}
+use Rattle.ffv1_matroska.specs.declared.track_entry.TrackEntry.{TrackEntry}
 use Rattle.ffv1_matroska.specs.declared.write.opening.Finish.{Finish}
 use Rattle.ffv1_matroska.proofs.FileLaws.{file_complete}
 use Rattle.ffv1_matroska.proofs.Growing.{places_count}
@@ -74,8 +74,8 @@ seek_top finish = record { ident = ident_bytes seek_head; size = short (length (
 abbrev info_top : Head → Option Finish → TopLevel
 info_top head finish = record { ident = ident_bytes info; size = short (length (checked (info_content head finish))); content = checked (info_content head finish) }
 
-abbrev tracks_top : Head → Shown → TopLevel
-tracks_top head shown = record { ident = ident_bytes tracks; size = long (length (checked (entry_element head shown))); content = checked (entry_element head shown) }
+abbrev tracks_top : Head → TrackEntry → TopLevel
+tracks_top head details = record { ident = ident_bytes tracks; size = long (length (checked (entry_element head details))); content = checked (entry_element head details) }
 
 abbrev cues_top : ℕ → List ℕ → TopLevel
 cues_top stride places = record { ident = ident_bytes cues; size = long (length (checked (cues_from 0 stride places))); content = checked (cues_from 0 stride places) }
@@ -134,23 +134,23 @@ no_tracks head finish =
     let b = (ident_spelled info info_is).number in
     (λ same. omega (arith, same, a), (λ same. omega (arith, same, b), tt))
 
-entry_short : (head : Head) (shown : Shown) → length (checked (entry_element head shown)) ≤ limit → length (entry_fields head shown ++ long_element codec_private head.config_record) < 2 ^ 56 - 1
+entry_short : (head : Head) (details : TrackEntry) → length (checked (entry_element head details)) ≤ limit → length (entry_fields head details ++ long_element codec_private (private_content details.codec_id head)) < 2 ^ 31
 unfolding entry_element
-entry_short head shown few =
-    let inner = entry_fields head shown ++ long_element codec_private head.config_record in
+entry_short head details few =
+    let inner = entry_fields head details ++ long_element codec_private (private_content details.codec_id head) in
     omega (arith, checked_long (long_element entry inner), long_long entry inner, few)
 
-tracks_say : (head : Head) (shown : Shown) (frames : List (List ℕ)) → IsWritable head shown frames → IsTracks (tracks_top head shown) (record { numbers = written_numbers; head = head })
-tracks_say head shown frames is =
+tracks_say : (head : Head) (details : TrackEntry) (frames : List (List ℕ)) → IsWritable head details frames → IsTracks (tracks_top head details) (record { numbers = written_numbers; head = head })
+tracks_say head details frames is =
     let p = ident_spelled tracks tracks_is in
-    let few : length (checked (entry_element head shown)) < 2 ^ 56 - 1 = let most = is.short in omega (arith, most) in
+    let few : length (checked (entry_element head details)) < 2 ^ 56 - 1 = let most = is.short in omega (arith, most) in
     record {
       named = p.is;
       few = p.few;
       is = p.number;
-      sized = long_spelled (length (checked (entry_element head shown))) few;
+      sized = long_spelled (length (checked (entry_element head details))) few;
       short = is.short;
-      says = track_says head shown is.width is.height is.rate is.scale is.timed is.record_is (entry_short head shown is.short);
+      says = track_says head details is.width is.height is.rate is.scale is.timed is.record_is (entry_short head details is.short);
     }
 
 -- ---- a file whose Segment has these parts
@@ -184,36 +184,36 @@ file_begins head finish size x says =
       sized = says;
     }
 
-tracks_text : (head : Head) (shown : Shown) → top_text (tracks_top head shown) ≡ tracks_element head shown
+tracks_text : (head : Head) (details : TrackEntry) → top_text (tracks_top head details) ≡ tracks_element head details
 unfolding tracks_element
-tracks_text head shown = refl
+tracks_text head details = refl
 
-with_rest : (head : Head) (shown : Shown) (parts : List Part) (text : List ℕ) → parts_text parts ≡ text → tracks_element head shown ++ text ≡ top_text (tracks_top head shown) ++ (parts_text parts ++ [])
-with_rest head shown parts text is = rw (tracks_text head shown, append-nil (parts_text parts), is) refl
+with_rest : (head : Head) (details : TrackEntry) (parts : List Part) (text : List ℕ) → parts_text parts ≡ text → tracks_element head details ++ text ≡ top_text (tracks_top head details) ++ (parts_text parts ++ [])
+with_rest head details parts text is = rw (tracks_text head details, append-nil (parts_text parts), is) refl
 
-pub file_with : (head : Head) (shown : Shown) (frames : List (List ℕ)) (finish : Option Finish) (size : Option ℕ) (parts : List Part) (text : List ℕ) → IsWritable head shown frames → parts_text parts ≡ text → AreParts written_numbers parts → parts_frames parts ≡ frames →
-    SaysSize (segment_size finish) size → SegmentEnds size (148 + (length (tracks_element head shown) + length text)) [] → MatroskaFile (opening head finish ++ (tracks_element head shown ++ text)) head frames
-file_with head shown frames finish size parts text is text_is are have says ends =
+pub file_with : (head : Head) (details : TrackEntry) (frames : List (List ℕ)) (finish : Option Finish) (size : Option ℕ) (parts : List Part) (text : List ℕ) → IsWritable head details frames → parts_text parts ≡ text → AreParts written_numbers parts → parts_frames parts ≡ frames →
+    SaysSize (segment_size finish) size → SegmentEnds size (148 + (length (tracks_element head details) + length text)) [] → MatroskaFile (opening head finish ++ (tracks_element head details ++ text)) head frames
+file_with head details frames finish size parts text is text_is are have says ends =
     let tops = tops_text (seek_top finish ∷ info_top head finish ∷ []) in
-    let after = top_text (tracks_top head shown) ++ (parts_text parts ++ []) in
+    let after = top_text (tracks_top head details) ++ (parts_text parts ++ []) in
     let begins = file_begins head finish size after says in
-    let same = with_rest head shown parts text text_is in
-    let inner = top_text (tracks_top head shown) ++ parts_text parts in
-    let a : length (top_text (tracks_top head shown)) ≡ length (tracks_element head shown) = ap length (tracks_text head shown) in
+    let same = with_rest head details parts text text_is in
+    let inner = top_text (tracks_top head details) ++ parts_text parts in
+    let a : length (top_text (tracks_top head details)) ≡ length (tracks_element head details) = ap length (tracks_text head details) in
     let b : length (parts_text parts) ≡ length text = ap length text_is in
-    let all : 148 + (length (tracks_element head shown) + length text) ≡ length (tops ++ inner) = omega (arith, a, b, tops_long head finish, length-append tops inner, length-append (top_text (tracks_top head shown)) (parts_text parts)) in
+    let all : 148 + (length (tracks_element head details) + length text) ≡ length (tops ++ inner) = omega (arith, a, b, tops_long head finish, length-append tops inner, length-append (top_text (tracks_top head details)) (parts_text parts)) in
     record {
       size = size;
       before = seek_top finish ∷ info_top head finish ∷ [];
-      tracks = tracks_top head shown;
+      tracks = tracks_top head details;
       track = record { numbers = written_numbers; head = head };
       parts = parts;
       rest = [];
-      begins = begins_at (opening head finish ++ after) (opening head finish ++ (tracks_element head shown ++ text)) size (tops ++ after) (ap (λ z. opening head finish ++ z) (sym same)) begins;
-      ends = ends_at size (148 + (length (tracks_element head shown) + length text)) (length (tops ++ inner)) all ends;
+      begins = begins_at (opening head finish ++ after) (opening head finish ++ (tracks_element head details ++ text)) size (tops ++ after) (ap (λ z. opening head finish ++ z) (sym same)) begins;
+      ends = ends_at size (148 + (length (tracks_element head details) + length text)) (length (tops ++ inner)) all ends;
       before_are = before_are head finish;
       first = no_tracks head finish;
-      tracks_is = tracks_say head shown frames is;
+      tracks_is = tracks_say head details frames is;
       head_is = refl;
       parts_are = are;
       frames_are = have;
@@ -230,12 +230,12 @@ pub record IsRead (file : List ℕ) (head : Head) (frames : List (List ℕ)) : T
   pub is : MatroskaFile file head frames
   pub read : file_read file ≡ Ok ((head, frames), [])
 
-read_with : (head : Head) (shown : Shown) (frames : List (List ℕ)) (finish : Option Finish) (size : Option ℕ) (parts : List Part) (text : List ℕ) → IsWritable head shown frames → parts_text parts ≡ text → AreParts written_numbers parts → parts_frames parts ≡ frames →
-    SaysSize (segment_size finish) size → SegmentEnds size (148 + (length (tracks_element head shown) + length text)) [] → IsRead (opening head finish ++ (tracks_element head shown ++ text)) head frames
+read_with : (head : Head) (details : TrackEntry) (frames : List (List ℕ)) (finish : Option Finish) (size : Option ℕ) (parts : List Part) (text : List ℕ) → IsWritable head details frames → parts_text parts ≡ text → AreParts written_numbers parts → parts_frames parts ≡ frames →
+    SaysSize (segment_size finish) size → SegmentEnds size (148 + (length (tracks_element head details) + length text)) [] → IsRead (opening head finish ++ (tracks_element head details ++ text)) head frames
 unfolding file_with
-read_with head shown frames finish size parts text is text_is are have says ends =
-    let whole = file_with head shown frames finish size parts text is text_is are have says ends in
-    record { is = whole; read = file_complete (opening head finish ++ (tracks_element head shown ++ text)) head frames whole }
+read_with head details frames finish size parts text is text_is are have says ends =
+    let whole = file_with head details frames finish size parts text is text_is are have says ends in
+    record { is = whole; read = file_complete (opening head finish ++ (tracks_element head details ++ text)) head frames whole }
 
 -- ---- how long it is
 
@@ -266,20 +266,20 @@ cues_few ps few =
 
 -- ---- its three forms
 
-abbrev kept : Head → Shown → List (List ℕ) → List ℕ
-kept head shown frames = every (stride_of (length frames)) (places_from (first_place head shown) frames)
+abbrev kept : Head → TrackEntry → List (List ℕ) → List ℕ
+kept head details frames = every (stride_of (length frames)) (places_from (first_place head details) frames)
 
-kept_few : (head : Head) (shown : Shown) (frames : List (List ℕ)) → end_place head shown frames ≤ 2 ^ 56 - 2 ^ 20 → length (kept head shown frames) ≤ 8192
-kept_few head shown frames near =
-    let ps = places_from (first_place head shown) frames in
-    let long = places_count (first_place head shown) frames in
+kept_few : (head : Head) (details : TrackEntry) (frames : List (List ℕ)) → end_place head details frames ≤ 2 ^ 56 - 2 ^ 20 → length (kept head details frames) ≤ 8192
+kept_few head details frames near =
+    let ps = places_from (first_place head details) frames in
+    let long = places_count (first_place head details) frames in
     let least = clusters_least 0 frames in
     let few : length ps < 2 ^ 56 = omega (arith, long, least, near) in
     rw (← long) (cues_few ps few)
 
 -- Cues at the end
-abbrev cues_part : Head → Shown → List (List ℕ) → List Part
-cues_part head shown frames = Part.Top (cues_top (stride_of (length frames)) (kept head shown frames)) ∷ []
+abbrev cues_part : Head → TrackEntry → List (List ℕ) → List Part
+cues_part head details frames = Part.Top (cues_top (stride_of (length frames)) (kept head details frames)) ∷ []
 
 cues_text : (stride : ℕ) (places : List ℕ) → parts_text (Part.Top (cues_top stride places) ∷ []) ≡ cues_element stride places
 unfolding cues_element
@@ -295,53 +295,53 @@ parts_join : (track : TrackNumbers) (xs ys : List Part) → AreParts track xs �
 parts_join track [] ys a b = b
 parts_join track (x ∷ xs) ys a b = (a.0, parts_join track xs ys a.1 b)
 
-abbrev all_parts : Head → Shown → List (List ℕ) → List Part
-all_parts head shown frames = cluster_parts 0 frames ++ cues_part head shown frames
+abbrev all_parts : Head → TrackEntry → List (List ℕ) → List Part
+all_parts head details frames = cluster_parts 0 frames ++ cues_part head details frames
 
-all_text : (head : Head) (shown : Shown) (frames : List (List ℕ)) → parts_text (all_parts head shown frames) ≡ clusters_from 0 frames ++ cues_of head shown frames
-all_text head shown frames = flat_map-append part_text (cluster_parts 0 frames) (cues_part head shown frames) ∙ joined (parts_are_text 0 frames) (cues_text (stride_of (length frames)) (kept head shown frames))
+all_text : (head : Head) (details : TrackEntry) (frames : List (List ℕ)) → parts_text (all_parts head details frames) ≡ clusters_from 0 frames ++ cues_of head details frames
+all_text head details frames = flat_map-append part_text (cluster_parts 0 frames) (cues_part head details frames) ∙ joined (parts_are_text 0 frames) (cues_text (stride_of (length frames)) (kept head details frames))
   where
     joined : {a b c d : List ℕ} → a ≡ b → c ≡ d → a ++ c ≡ b ++ d
     joined p q = cc
 
-all_have : (head : Head) (shown : Shown) (frames : List (List ℕ)) → parts_frames (all_parts head shown frames) ≡ frames
-all_have head shown frames = flat_map-append part_frames (cluster_parts 0 frames) (cues_part head shown frames) ∙ append-nil (parts_frames (cluster_parts 0 frames)) ∙ parts_have 0 frames
+all_have : (head : Head) (details : TrackEntry) (frames : List (List ℕ)) → parts_frames (all_parts head details frames) ≡ frames
+all_have head details frames = flat_map-append part_frames (cluster_parts 0 frames) (cues_part head details frames) ∙ append-nil (parts_frames (cluster_parts 0 frames)) ∙ parts_have 0 frames
 
-all_are : (head : Head) (shown : Shown) (frames : List (List ℕ)) → IsWritable head shown frames → AreParts written_numbers (all_parts head shown frames)
-all_are head shown frames is = parts_join written_numbers (cluster_parts 0 frames) (cues_part head shown frames) (parts_are 0 frames is.written) (cues_top_is (stride_of (length frames)) (kept head shown frames) (kept_few head shown frames is.near), tt)
+all_are : (head : Head) (details : TrackEntry) (frames : List (List ℕ)) → IsWritable head details frames → AreParts written_numbers (all_parts head details frames)
+all_are head details frames is = parts_join written_numbers (cluster_parts 0 frames) (cues_part head details frames) (parts_are 0 frames is.written) (cues_top_is (stride_of (length frames)) (kept head details frames) (kept_few head details frames is.near), tt)
 
 at_file : (xs ys : List ℕ) (head : Head) (frames : List (List ℕ)) → xs ≡ ys → IsRead xs head frames → IsRead ys head frames
 at_file xs ys head frames e h = let P : List ℕ → Type 0 = λ z. IsRead z head frames in subst P e h
 
-abbrev tail_of : Head → Shown → List (List ℕ) → List ℕ
-tail_of head shown frames = clusters_from 0 frames ++ cues_of head shown frames
+abbrev tail_of : Head → TrackEntry → List (List ℕ) → List ℕ
+tail_of head details frames = clusters_from 0 frames ++ cues_of head details frames
 
-tail_long : (head : Head) (shown : Shown) (frames : List (List ℕ)) → length (tail_of head shown frames) ≡ length (clusters_from 0 frames) + (18 + 27 * length (kept head shown frames))
-tail_long head shown frames = omega (arith, length-append (clusters_from 0 frames) (cues_of head shown frames), cues_long (stride_of (length frames)) (kept head shown frames))
+tail_long : (head : Head) (details : TrackEntry) (frames : List (List ℕ)) → length (tail_of head details frames) ≡ length (clusters_from 0 frames) + (18 + 27 * length (kept head details frames))
+tail_long head details frames = omega (arith, length-append (clusters_from 0 frames) (cues_of head details frames), cues_long (stride_of (length frames)) (kept head details frames))
 
-pub finished_file : (head : Head) (shown : Shown) (frames : List (List ℕ)) → IsWritable head shown frames → IsRead (finished_of head shown frames) head frames
-finished_file head shown frames is =
-    let f = finish_of head shown frames in
-    let few = kept_few head shown frames is.near in
+pub finished_file : (head : Head) (details : TrackEntry) (frames : List (List ℕ)) → IsWritable head details frames → IsRead (finished_of head details frames) head frames
+finished_file head details frames is =
+    let f = finish_of head details frames in
+    let few = kept_few head details frames is.near in
     let near = is.near in
-    let last = cues_long (stride_of (length frames)) (kept head shown frames) in
+    let last = cues_long (stride_of (length frames)) (kept head details frames) in
     let small : f.size < 2 ^ 56 - 1 = omega (arith, near, few, last) in
-    let ends : f.size ≡ 148 + (length (tracks_element head shown) + length (tail_of head shown frames)) = omega (arith, tail_long head shown frames, last) in
-    at_file _ _ head frames (sym (file_parts (Some f) head shown frames)) (read_with head shown frames (Some f) (Some f.size) (all_parts head shown frames) (tail_of head shown frames) is (all_text head shown frames) (all_are head shown frames is) (all_have head shown frames) (long_spelled f.size small) ends)
+    let ends : f.size ≡ 148 + (length (tracks_element head details) + length (tail_of head details frames)) = omega (arith, tail_long head details frames, last) in
+    at_file _ _ head frames (sym (file_parts (Some f) head details frames)) (read_with head details frames (Some f) (Some f.size) (all_parts head details frames) (tail_of head details frames) is (all_text head details frames) (all_are head details frames is) (all_have head details frames) (long_spelled f.size small) ends)
 
-pub open_file : (head : Head) (shown : Shown) (frames : List (List ℕ)) → IsWritable head shown frames → IsRead (open_of head shown frames) head frames
-open_file head shown frames is =
-    let few = kept_few head shown frames is.near in
+pub open_file : (head : Head) (details : TrackEntry) (frames : List (List ℕ)) → IsWritable head details frames → IsRead (open_of head details frames) head frames
+open_file head details frames is =
+    let few = kept_few head details frames is.near in
     let near = is.near in
-    let less : 148 + (length (tracks_element head shown) + length (tail_of head shown frames)) < endless = omega (arith, near, few, tail_long head shown frames) in
-    at_file _ _ head frames (sym (file_parts None head shown frames)) (read_with head shown frames None None (all_parts head shown frames) (tail_of head shown frames) is (all_text head shown frames) (all_are head shown frames is) (all_have head shown frames) unknown_spelled (inr (less, refl)))
+    let less : 148 + (length (tracks_element head details) + length (tail_of head details frames)) < endless = omega (arith, near, few, tail_long head details frames) in
+    at_file _ _ head frames (sym (file_parts None head details frames)) (read_with head details frames None None (all_parts head details frames) (tail_of head details frames) is (all_text head details frames) (all_are head details frames is) (all_have head details frames) unknown_spelled (inr (less, refl)))
 
-begun_by : (head : Head) (shown : Shown) (frames : List (List ℕ)) → IsWritable head shown frames → IsRead (to_clusters None head shown frames) head frames
-begun_by head shown frames is =
+begun_by : (head : Head) (details : TrackEntry) (frames : List (List ℕ)) → IsWritable head details frames → IsRead (to_clusters None head details frames) head frames
+begun_by head details frames is =
     let near = is.near in
-    let less : 148 + (length (tracks_element head shown) + length (clusters_from 0 frames)) < endless = omega (arith, near) in
-    at_file _ _ head frames (sym (append_assoc (opening head None) (tracks_element head shown) (clusters_from 0 frames))) (read_with head shown frames None None (cluster_parts 0 frames) (clusters_from 0 frames) is (parts_are_text 0 frames) (parts_are 0 frames is.written) (parts_have 0 frames) unknown_spelled (inr (less, refl)))
+    let less : 148 + (length (tracks_element head details) + length (clusters_from 0 frames)) < endless = omega (arith, near) in
+    at_file _ _ head frames (sym (append_assoc (opening head None) (tracks_element head details) (clusters_from 0 frames))) (read_with head details frames None None (cluster_parts 0 frames) (clusters_from 0 frames) is (parts_are_text 0 frames) (parts_are 0 frames is.written) (parts_have 0 frames) unknown_spelled (inr (less, refl)))
 
-pub begun_file : (head : Head) (shown : Shown) (frames : List (List ℕ)) → 0 < length frames → IsWritable head shown frames → IsRead (begun_of head shown frames) head frames
-begun_file head shown [] some is = absurd (omega (arith, some))
-begun_file head shown (f ∷ fs) some is = begun_by head shown (f ∷ fs) is
+pub begun_file : (head : Head) (details : TrackEntry) (frames : List (List ℕ)) → 0 < length frames → IsWritable head details frames → IsRead (begun_of head details frames) head frames
+begun_file head details [] some is = absurd (omega (arith, some))
+begun_file head details (f ∷ fs) some is = begun_by head details (f ∷ fs) is

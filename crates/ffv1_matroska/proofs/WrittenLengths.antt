@@ -1,13 +1,14 @@
 -- How long the elements of a written file are.
-use Rattle.std.proofs.Common.{◌≡◌, ◌+◌, ◌*◌, ◌++◌, ℕ, List, [], ◌∷◌, length, refl, arith, length-append}
+use Rattle.std.proofs.Common.{◌≡◌, ◌≤◌, ◌+◌, ◌*◌, ◌++◌, ℕ, List, [], ◌∷◌, length, refl, arith, length-append}
 use Rattle.ffv1_ebml.specs.Spelled.{ident_length, number_element}
 use Rattle.ffv1_reads.specs.Head.{Head}
 use Rattle.ffv1_matroska.specs.Opened.{tracks}
 use Rattle.ffv1_matroska.specs.Segments.{cluster, simple_block}
 use Rattle.ffv1_matroska.specs.Tracks.{codec_private, entry}
-use Rattle.ffv1_matroska.specs.Written.{block_header, checked, cluster_content, cluster_element, crc_element, cue_element, cues_element, cues_from, entry_element, entry_fields, long_element, tracks_element}
+use Rattle.ffv1_matroska.specs.Written.{block_header, checked, cluster_content, cluster_element, crc_element, cue_element, cues_element, cues_from, entry_element, entry_fields, long_element, private_content, private_end, private_front, tracks_element}
 use Rattle.ffv1_matroska.specs.WrittenIdents.{cues, timestamp}
-use Rattle.ffv1_matroska.specs.declared.shown.Shown.{Shown}
+use Rattle.ffv1_matroska.specs.declared.track_entry.CodecId.{CodecId}
+use Rattle.ffv1_matroska.specs.declared.track_entry.TrackEntry.{TrackEntry}
 use Rattle.ffv1_matroska.proofs.SpelledLengths.{long_long, number_long}
 
 pub crc_long : (content : List ℕ) → length (crc_element content) ≡ 6
@@ -50,15 +51,20 @@ unfolding ident_length
 block_one = refl
 
 -- Tracks
-pub tracks_long : (head : Head) (shown : Shown) → length (tracks_element head shown) ≡ 37 + length (entry_fields head shown) + length head.config_record
+pub tracks_long : (head : Head) (details : TrackEntry) → length (tracks_element head details) ≡ 37 + length (entry_fields head details) + length (private_content details.codec_id head)
 unfolding tracks_element entry_element
-tracks_long head shown =
-    let config = long_element codec_private head.config_record in
-    let inner = entry_fields head shown ++ config in
-    let a = long_long codec_private head.config_record in
-    let b = length-append (entry_fields head shown) config in
+tracks_long head details =
+    let held = private_content details.codec_id head in
+    let config = long_element codec_private held in
+    let inner = entry_fields head details ++ config in
+    let a = long_long codec_private held in
+    let b = length-append (entry_fields head details) config in
     let c = long_long entry inner in
     omega (arith, a, b, c, four tracks tracks_four (long_element entry inner), entry_one, private_two)
+
+-- the record stands in CodecPrivate
+pub record_within : (id : CodecId) (head : Head) → length head.config_record ≤ length (private_content id head)
+record_within id head = omega (arith, length-append (private_front id head) (head.config_record ++ private_end id head), length-append head.config_record (private_end id head))
 
 -- a Cluster
 pub cluster_long : (number : ℕ) (frame : List ℕ) → length (cluster_element number frame) ≡ 41 + length frame

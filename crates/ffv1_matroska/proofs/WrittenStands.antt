@@ -12,7 +12,7 @@ use Rattle.ffv1_matroska.specs.Written.{cue_places}
 use Rattle.ffv1_matroska.specs.WrittenIdents.{cues, info, seek_head}
 use Rattle.ffv1_matroska.specs.WrittenPlaces.{every, every_after, places_from, stride_from, stride_of}
 use Rattle.ffv1_matroska.specs.Written.{checked, cluster_element, clusters_from, crc_element, cue_element, cues_element, cues_from, cues_of, ebml_header, finish_of, finished_of, first_place, info_content, opening, seek_element, seeks, short_element, tracks_element}
-use Rattle.ffv1_matroska.specs.declared.shown.Shown.{Shown}
+use Rattle.ffv1_matroska.specs.declared.track_entry.TrackEntry.{TrackEntry}
 use Rattle.ffv1_matroska.specs.declared.write.opening.Finish.{Finish}
 use Rattle.ffv1_matroska.proofs.OpeningLength.{opening_long}
 use Rattle.ffv1_matroska.proofs.PieceByPiece.{file_parts}
@@ -177,57 +177,57 @@ every_at (suc j) s (p ∷ ps) k some within =
 
 -- ---- the whole file
 
-abbrev whole : Head → Shown → List (List ℕ) → List ℕ
-whole head shown frames = opening head (Some (finish_of head shown frames)) ++ (tracks_element head shown ++ (clusters_from 0 frames ++ cues_of head shown frames))
+abbrev whole : Head → TrackEntry → List (List ℕ) → List ℕ
+whole head details frames = opening head (Some (finish_of head details frames)) ++ (tracks_element head details ++ (clusters_from 0 frames ++ cues_of head details frames))
 
-in_file : (head : Head) (shown : Shown) (frames : List (List ℕ)) (place : ℕ) (bytes : List ℕ) → StandsAt (whole head shown frames) place bytes → StandsAt (finished_of head shown frames) place bytes
-in_file head shown frames place bytes h = rw (file_parts (Some (finish_of head shown frames)) head shown frames) h
+in_file : (head : Head) (details : TrackEntry) (frames : List (List ℕ)) (place : ℕ) (bytes : List ℕ) → StandsAt (whole head details frames) place bytes → StandsAt (finished_of head details frames) place bytes
+in_file head details frames place bytes h = rw (file_parts (Some (finish_of head details frames)) head details frames) h
 
-pub segment_placed : (head : Head) (shown : Shown) (frames : List (List ℕ)) → StandsAt (finished_of head shown frames) 40 (ident_bytes segment ++ long (finish_of head shown frames).size)
-segment_placed head shown frames = in_file head shown frames 40 _ (size_stands head (finish_of head shown frames) (tracks_element head shown ++ (clusters_from 0 frames ++ cues_of head shown frames)))
+pub segment_placed : (head : Head) (details : TrackEntry) (frames : List (List ℕ)) → StandsAt (finished_of head details frames) 40 (ident_bytes segment ++ long (finish_of head details frames).size)
+segment_placed head details frames = in_file head details frames 40 _ (size_stands head (finish_of head details frames) (tracks_element head details ++ (clusters_from 0 frames ++ cues_of head details frames)))
 
-pub segment_sized : (head : Head) (shown : Shown) (frames : List (List ℕ)) → length (drop 52 (finished_of head shown frames)) ≡ (finish_of head shown frames).size
-segment_sized head shown frames =
-    let f = finish_of head shown frames in
+pub segment_sized : (head : Head) (details : TrackEntry) (frames : List (List ℕ)) → length (drop 52 (finished_of head details frames)) ≡ (finish_of head details frames).size
+segment_sized head details frames =
+    let f = finish_of head details frames in
     let a = opening head (Some f) in
-    let b = tracks_element head shown in
+    let b = tracks_element head details in
     let c = clusters_from 0 frames in
-    let d = cues_of head shown frames in
-    let long_of : length (finished_of head shown frames) ≡ 200 + length b + length c + length d = omega (arith, length-append ((a ++ b) ++ c) d, length-append (a ++ b) c, length-append a b, opening_long head (Some f)) in
-    let dropped : length (drop 52 (finished_of head shown frames)) ≡ length (finished_of head shown frames) - 52 = length-drop 52 (finished_of head shown frames) in
+    let d = cues_of head details frames in
+    let long_of : length (finished_of head details frames) ≡ 200 + length b + length c + length d = omega (arith, length-append ((a ++ b) ++ c) d, length-append (a ++ b) c, length-append a b, opening_long head (Some f)) in
+    let dropped : length (drop 52 (finished_of head details frames)) ≡ length (finished_of head details frames) - 52 = length-drop 52 (finished_of head details frames) in
     omega (arith, dropped, long_of)
 
-pub seeks_placed : (head : Head) (shown : Shown) (frames : List (List ℕ)) → StandsAt (finished_of head shown frames) 63 (seek_element info 74 ++ seek_element tracks 148 ++ seek_element cues (finish_of head shown frames).cues)
+pub seeks_placed : (head : Head) (details : TrackEntry) (frames : List (List ℕ)) → StandsAt (finished_of head details frames) 63 (seek_element info 74 ++ seek_element tracks 148 ++ seek_element cues (finish_of head details frames).cues)
 unfolding seeks
-seeks_placed head shown frames = in_file head shown frames 63 _ (seeks_stand head (finish_of head shown frames) (tracks_element head shown ++ (clusters_from 0 frames ++ cues_of head shown frames)))
+seeks_placed head details frames = in_file head details frames 63 _ (seeks_stand head (finish_of head details frames) (tracks_element head details ++ (clusters_from 0 frames ++ cues_of head details frames)))
 
-pub info_placed : (head : Head) (shown : Shown) (frames : List (List ℕ)) → StandsAt (finished_of head shown frames) 126 (short_element info (checked (info_content head (Some (finish_of head shown frames)))))
-info_placed head shown frames = in_file head shown frames 126 _ (info_stands head (finish_of head shown frames) (tracks_element head shown ++ (clusters_from 0 frames ++ cues_of head shown frames)))
+pub info_placed : (head : Head) (details : TrackEntry) (frames : List (List ℕ)) → StandsAt (finished_of head details frames) 126 (short_element info (checked (info_content head (Some (finish_of head details frames)))))
+info_placed head details frames = in_file head details frames 126 _ (info_stands head (finish_of head details frames) (tracks_element head details ++ (clusters_from 0 frames ++ cues_of head details frames)))
 
-pub tracks_placed : (head : Head) (shown : Shown) (frames : List (List ℕ)) → StandsAt (finished_of head shown frames) 200 (tracks_element head shown)
-tracks_placed head shown frames = in_file head shown frames 200 _ (stands_by _ (opening head (Some (finish_of head shown frames))) (tracks_element head shown) (clusters_from 0 frames ++ cues_of head shown frames) 200 refl (opening_long head (Some (finish_of head shown frames))))
+pub tracks_placed : (head : Head) (details : TrackEntry) (frames : List (List ℕ)) → StandsAt (finished_of head details frames) 200 (tracks_element head details)
+tracks_placed head details frames = in_file head details frames 200 _ (stands_by _ (opening head (Some (finish_of head details frames))) (tracks_element head details) (clusters_from 0 frames ++ cues_of head details frames) 200 refl (opening_long head (Some (finish_of head details frames))))
 
-pub cues_placed : (head : Head) (shown : Shown) (frames : List (List ℕ)) → StandsAt (finished_of head shown frames) (52 + (finish_of head shown frames).cues) (cues_of head shown frames)
-cues_placed head shown frames =
-    let a = opening head (Some (finish_of head shown frames)) in
-    let b = tracks_element head shown in
+pub cues_placed : (head : Head) (details : TrackEntry) (frames : List (List ℕ)) → StandsAt (finished_of head details frames) (52 + (finish_of head details frames).cues) (cues_of head details frames)
+cues_placed head details frames =
+    let a = opening head (Some (finish_of head details frames)) in
+    let b = tracks_element head details in
     let c = clusters_from 0 frames in
-    let d = cues_of head shown frames in
-    let place : length ((a ++ b) ++ c) ≡ 52 + (finish_of head shown frames).cues = omega (arith, length-append (a ++ b) c, length-append a b, opening_long head (Some (finish_of head shown frames))) in
-    stands_by _ ((a ++ b) ++ c) d [] (52 + (finish_of head shown frames).cues) (ap (λ z. ((a ++ b) ++ c) ++ z) (sym (append-nil d))) place
+    let d = cues_of head details frames in
+    let place : length ((a ++ b) ++ c) ≡ 52 + (finish_of head details frames).cues = omega (arith, length-append (a ++ b) c, length-append a b, opening_long head (Some (finish_of head details frames))) in
+    stands_by _ ((a ++ b) ++ c) d [] (52 + (finish_of head details frames).cues) (ap (λ z. ((a ++ b) ++ c) ++ z) (sym (append-nil d))) place
 
-pub cluster_placed : (head : Head) (shown : Shown) (frames : List (List ℕ)) (i : ℕ) → i < length frames → StandsAt (finished_of head shown frames) (52 + get_or (places_from (first_place head shown) frames) i 0) (cluster_element i (get_or frames i []))
-cluster_placed head shown frames i inside =
-    let a = opening head (Some (finish_of head shown frames)) in
-    let b = tracks_element head shown in
-    let d = cues_of head shown frames in
+pub cluster_placed : (head : Head) (details : TrackEntry) (frames : List (List ℕ)) (i : ℕ) → i < length frames → StandsAt (finished_of head details frames) (52 + get_or (places_from (first_place head details) frames) i 0) (cluster_element i (get_or frames i []))
+cluster_placed head details frames i inside =
+    let a = opening head (Some (finish_of head details frames)) in
+    let b = tracks_element head details in
+    let d = cues_of head details frames in
     let cut = cluster_cut 0 frames i inside in
     let none : 0 + i ≡ i = omega arith in
     let one = cluster_element i (get_or frames i []) in
     let parts : clusters_from 0 frames ≡ cut.before ++ (one ++ cut.after) = cut.is ∙ ap (λ j. cut.before ++ (cluster_element j (get_or frames i []) ++ cut.after)) none in
-    let at = cut.place (first_place head shown) in
-    let place : length ((a ++ b) ++ cut.before) ≡ 52 + get_or (places_from (first_place head shown) frames) i 0 = omega (arith, length-append (a ++ b) cut.before, length-append a b, opening_long head (Some (finish_of head shown frames)), at) in
-    stands_by _ ((a ++ b) ++ cut.before) one (cut.after ++ d) (52 + get_or (places_from (first_place head shown) frames) i 0)
+    let at = cut.place (first_place head details) in
+    let place : length ((a ++ b) ++ cut.before) ≡ 52 + get_or (places_from (first_place head details) frames) i 0 = omega (arith, length-append (a ++ b) cut.before, length-append a b, opening_long head (Some (finish_of head details frames)), at) in
+    stands_by _ ((a ++ b) ++ cut.before) one (cut.after ++ d) (52 + get_or (places_from (first_place head details) frames) i 0)
     (ap (λ z. ((a ++ b) ++ z) ++ d) parts ∙ around (a ++ b) cut.before one cut.after d) place
   where
     around : (f p o q d : List ℕ) → (f ++ (p ++ (o ++ q))) ++ d ≡ (f ++ p) ++ (o ++ (q ++ d))
@@ -255,27 +255,27 @@ cut_twice file place inner n m fits = ap (take n) (drop_twice place inner file) 
 stands_within : (file xs bs : List ℕ) (place inner : ℕ) → StandsAt file place xs → inner + length bs ≤ length xs → StandsAt xs inner bs → StandsAt file (place + inner) bs
 stands_within file xs bs place inner outer fits h = cut_twice file place inner (length bs) (length xs) fits ∙ ap (λ z. take (length bs) (drop inner z)) outer ∙ h
 
-pub cue_placed : (head : Head) (shown : Shown) (frames : List (List ℕ)) (k : ℕ) → k < length (cue_places head shown frames) →
-    StandsAt (finished_of head shown frames) (52 + (finish_of head shown frames).cues + (18 + 27 * k)) (cue_element (k * stride_of (length frames)) (get_or (cue_places head shown frames) k 0))
-cue_placed head shown frames k inside =
+pub cue_placed : (head : Head) (details : TrackEntry) (frames : List (List ℕ)) (k : ℕ) → k < length (cue_places head details frames) →
+    StandsAt (finished_of head details frames) (52 + (finish_of head details frames).cues + (18 + 27 * k)) (cue_element (k * stride_of (length frames)) (get_or (cue_places head details frames) k 0))
+cue_placed head details frames k inside =
     let s = stride_of (length frames) in
-    let ps = cue_places head shown frames in
+    let ps = cue_places head details frames in
     let one = cue_element (k * s) (get_or ps k 0) in
     let fits : 18 + 27 * k + length one ≤ length (cues_element s ps) = omega (arith, cue_long (k * s) (get_or ps k 0), cues_long s ps, inside) in
-    stands_within (finished_of head shown frames) (cues_element s ps) one (52 + (finish_of head shown frames).cues) (18 + 27 * k) (cues_placed head shown frames) fits (cue_stands s ps k inside)
+    stands_within (finished_of head details frames) (cues_element s ps) one (52 + (finish_of head details frames).cues) (18 + 27 * k) (cues_placed head details frames) fits (cue_stands s ps k inside)
 
 -- at the place of a cue the Cluster of its number stands
-pub cued_placed : (head : Head) (shown : Shown) (frames : List (List ℕ)) (k : ℕ) → k < length (cue_places head shown frames) →
-    StandsAt (finished_of head shown frames) (52 + get_or (cue_places head shown frames) k 0) (cluster_element (k * stride_of (length frames)) (get_or frames (k * stride_of (length frames)) []))
-cued_placed head shown frames k inside =
+pub cued_placed : (head : Head) (details : TrackEntry) (frames : List (List ℕ)) (k : ℕ) → k < length (cue_places head details frames) →
+    StandsAt (finished_of head details frames) (52 + get_or (cue_places head details frames) k 0) (cluster_element (k * stride_of (length frames)) (get_or frames (k * stride_of (length frames)) []))
+cued_placed head details frames k inside =
     let s = stride_of (length frames) in
-    let ps = places_from (first_place head shown) frames in
+    let ps = places_from (first_place head details) frames in
     let at = every_at 0 s ps k (stride_some 64 1 (length frames) (omega arith)) inside in
     let none : 0 + k * s ≡ k * s = omega arith in
     let within = at.inside in
-    let few : k * s < length frames = omega (arith, within, none, places_count (first_place head shown) frames) in
+    let few : k * s < length frames = omega (arith, within, none, places_count (first_place head details) frames) in
     let same : get_or (every s ps) k 0 ≡ get_or ps (k * s) 0 = at.is ∙ ap (λ i. get_or ps i 0) none in
-    rw same (cluster_placed head shown frames (k * s) few)
+    rw same (cluster_placed head details frames (k * s) few)
 
 -- the stride is the least power of two by which at most 8192 Clusters have a cue
 pub stride_least : (others s n : ℕ) → (stride_from others s n ≡ s) ⊎ (8192 * stride_from others s n < 2 * n)

@@ -21,7 +21,7 @@ abbrev pub room : Option ℕ → ℕ
 room None = endless
 room (Some size) = size
 
--- this header fits in so many bytes, with the content where its size is known
+-- this header fits in so many bytes, with the content if its size is known
 abbrev pub Fits : ℕ → List ℕ → Option ℕ → Type 0
 Fits left header None = length header ≤ left
 Fits left header (Some size) = length header + size ≤ left
@@ -37,7 +37,7 @@ pub record Passes (left : ℕ) (ident size : List ℕ) : Type 0 where
   pub passes : left < length (ident ++ size) + long
 
 -- a file up to a position in its Segment, after the first Tracks and parts: the Segment has so many
--- bytes left, and these stand next
+-- bytes left, and these come next
 pub record SegmentBegins (file : List ℕ) (track : Track) (left : ℕ) (rest : List ℕ) : Type 0 where
   pub size : Option ℕ
   pub before : List TopLevel

@@ -1,6 +1,6 @@
 -- Blocks (RFC 9559, 5.1.3.4, 5.1.3.5.1 and 10): a track number, two bytes of time, flags, and a
--- frame, where there is no lacing.
-use Rattle.std.specs.Prelude.{ℕ, ◌-◌, ◌/◌, ◌%◌, ◌^◌, ◌==◌, ◌&&◌, Bool, if◌then◌else◌, nat_le}
+-- frame, if there is no lacing.
+use Rattle.std.specs.Prelude.{ℕ, ◌-◌, ◌/◌, ◌%◌, ◌^◌, ◌==◌, Bool, if◌then◌else◌, nat_le}
 use Rattle.std.specs.Prelude.{nat_lt, slice_index}
 use Rattle.std.specs.Prelude.{Option, Some}
 use Rattle.ffv1_reads.specs.Reads.{Reading, given, refused, ◌>>=◌}
@@ -12,7 +12,7 @@ use Rattle.ffv1_ebml.specs.declared.sum.Sum.{Sum}
 use Rattle.ffv1_matroska.specs.Places.{closed, frame_at, step_to, summed_at}
 use Rattle.ffv1_matroska.specs.declared.place.Place.{Place}
 use Rattle.ffv1_matroska.specs.declared.place.Step.{Step}
-use Rattle.ffv1_reads.specs.Head.{limit}
+use Rattle.ffv1_reads.specs.Head.{frame_limit}
 use Rattle.ffv1_matroska.specs.declared.track.TrackNumbers.{TrackNumbers}
 
 -- so many bytes are passed
@@ -28,7 +28,7 @@ lacing_of flags = flags / 2 % 4
 abbrev pub frame_judged : ℕ → ℕ → Place → Reading (Option Step)
 frame_judged flags size place =
     if lacing_of flags == 0
-    then (if nat_lt limit size then refused fault.ChunkTooLong
+    then (if nat_lt frame_limit size then refused fault.ChunkTooLong
     else if size == 0 then refused fault.EmptyFrame
     else given (Some (frame_at size place)))
     else refused fault.Laced
@@ -40,12 +40,16 @@ fields_read left place =
     else (taken_summed 3 place.sum >>= λ p.
     frame_judged (slice_index p.0 2) (left - 3) (summed_at place p.1))
 
--- no track has this number, of those up to 127: each of them that is known stands for its power of
--- two; a greater number may be that of a track
-unfoldable pub is_unknown : ℕ → ℕ → Bool
-is_unknown known number = nat_le number 127 && (known / 2 ^ number % 2 == 0)
+-- the bit that stands for a track's number: the one that it counts up to 127; for all greater ones
+-- that of 0, which is the number of no track (5.1.4.1.1)
+abbrev pub bit_of : ℕ → ℕ
+bit_of number = if nat_le number 127 then number else 0
 
--- a block of another track is passed; where no track has its number, it is refused behind that
+-- no track has this number; if it is above 127, none has one above that
+unfoldable pub is_unknown : ℕ → ℕ → Bool
+is_unknown known number = known / 2 ^ bit_of number % 2 == 0
+
+-- a block of another track is passed; if no track has its number, it is refused after that
 abbrev pub block_rest : TrackNumbers → Place → Data × Sum → Reading (Option Step)
 block_rest track place p =
     if p.0.value == track.number then fields_read p.0.left (summed_at place p.1)

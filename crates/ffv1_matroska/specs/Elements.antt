@@ -12,7 +12,7 @@ use Rattle.ffv1_matroska.specs.Blocks.{lacing_of}
 use Rattle.ffv1_matroska.specs.Segments.{block, block_group, cluster, is_beside, is_filler}
 use Rattle.ffv1_matroska.specs.Segments.{is_of_cluster, is_section, simple_block}
 use Rattle.ffv1_matroska.specs.Blocks.{is_unknown}
-use Rattle.ffv1_reads.specs.Head.{limit}
+use Rattle.ffv1_reads.specs.Head.{frame_limit}
 use Rattle.ffv1_matroska.specs.declared.track.TrackNumbers.{TrackNumbers}
 
 -- these bytes are an ID (RFC 8794, 5), which is compared with all its bits
@@ -20,8 +20,8 @@ abbrev pub SaysIdent : List ℕ → ℕ → Type 0
 SaysIdent bytes ident = IsVint bytes × (length bytes ≤ 4) × (number_of bytes ≡ ident)
 
 -- what an element holds that is not divided: bytes that are no block; a block of another track,
--- by its track number and what stands after that; or a block of the track, by its track number,
--- two bytes of time, its flags and its frame (RFC 9559, 10.1 and 10.2)
+-- by its track number and what comes after that; or a block of the track, by its track number, two
+-- bytes of time, its flags and its frame (RFC 9559, 10.1 and 10.2)
 pub data Content : Type 0 where
   Plain : List ℕ → Content
   Other : List ℕ → List ℕ → Content
@@ -48,7 +48,7 @@ pub record IsOwn (track : TrackNumbers) (number time : List ℕ) (flags : ℕ) (
   pub timed : length time ≡ 2
   pub unlaced : lacing_of flags ≡ 0
   pub some : 0 < length frame
-  pub short : length frame ≤ limit
+  pub short : length frame ≤ frame_limit
 
 -- what an element holds that is a block of the track or of another one, or is none
 abbrev pub IsContent : TrackNumbers → Bool → Content → Type 0
@@ -71,7 +71,7 @@ leaf_text l = (l.ident ++ l.size) ++ content_text l.content
 abbrev pub leaf_frames : Leaf → List (List ℕ)
 leaf_frames l = content_frames l.content
 
--- it is a block where it has this ID
+-- it is a block if it has this ID
 pub record IsLeaf (kind : ℕ) (track : TrackNumbers) (l : Leaf) : Type 0 where
   pub named : IsVint l.ident
   pub few : length l.ident ≤ 4
@@ -129,8 +129,8 @@ abbrev pub ArePieces : TrackNumbers → List Piece → Type 0
 ArePieces track [] = Unit {0}
 ArePieces track (p ∷ ps) = IsPiece track p × ArePieces track ps
 
--- where the first element of a Cluster is a CRC-32 of 4 bytes, they are the sum of all that
--- stands after it in the Cluster, low end first (RFC 8794, 11.3.1)
+-- if the first element of a Cluster is a CRC-32 of 4 bytes, they are the sum of all that comes
+-- after it in the Cluster, low end first (RFC 8794, 11.3.1)
 abbrev pub AreSummed : List Piece → Type 0
 AreSummed [] = Unit {0}
 AreSummed (Single l ∷ ps) =
@@ -154,7 +154,7 @@ pub record TopLevel : Type 0 where
 abbrev pub top_text : TopLevel → List ℕ
 top_text t = (t.ident ++ t.size) ++ t.content
 
--- it is one that is known, or may stand anywhere; the CRC-32 of one that is known is right, where
+-- it is one that is known, or may stand anywhere; the CRC-32 of one that is known is right, if
 -- its content begins with one
 pub record IsTopLevel (t : TopLevel) : Type 0 where
   pub named : IsVint t.ident

@@ -25,12 +25,12 @@ frame_found_up_to zero track place = given None
 frame_found_up_to (suc most) track place =
     step_read track place >>= found_or_on (frame_found_up_to most track)
 
--- the size of a track's next frame, and the place after it, but for its sum; none at the end. Each
+-- the size of a track's next frame, and the place after it, except its sum; none at the end. Each
 -- step leaves less, and one more comes to the end
 abbrev pub frame_found : TrackNumbers → Place → Reading (Option (ℕ × Place))
 frame_found track place = frame_found_up_to (suc (amount place)) track place
 
--- a frame that was found; where it is the last of its Cluster, the CRC-32 of that is judged
+-- a frame that was found; if it is the last of its Cluster, the CRC-32 of that is judged
 abbrev pub found_read : Option (ℕ × Place) → Reading (Option (List ℕ × Place))
 found_read None = given None
 found_read (Some p) = kept_summed p.0 p.1.sum >>= λ q.

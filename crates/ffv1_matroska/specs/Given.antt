@@ -8,7 +8,7 @@ use Rattle.ffv1_matroska.specs.declared.place.Place.{Place}
 use Rattle.ffv1_matroska.specs.declared.track.TrackNumbers.{TrackNumbers}
 
 -- from a position on these frames are given, one by one, up to another place, where these bytes
--- stand next
+-- come next
 abbrev pub GivesTo : TrackNumbers → Place → List ℕ → List (List ℕ) → Place → List ℕ → Type 0
 GivesTo track place text [] after rest = (place ≡ after) × (text ≡ rest)
 GivesTo track place text (f ∷ fs) after rest =

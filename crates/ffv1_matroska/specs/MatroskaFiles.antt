@@ -35,13 +35,13 @@ pub record FileBegins (file : List ℕ) (size : Option ℕ) (content : List ℕ)
 abbrev pub endless : ℕ
 endless = 72057594037927935
 
--- where a Segment of this size has ended after so many bytes, with these after it: one of unknown
+-- if a Segment of this size has ended after so many bytes, with these after it: one of unknown
 -- size ends with the file
 abbrev pub SegmentEnds : Option ℕ → ℕ → List ℕ → Type 0
 SegmentEnds (Some size) long rest = size ≡ long
 SegmentEnds None long rest = (long ≡ endless) ⊎ ((long < endless) × (rest ≡ []))
 
--- Tracks, which say this track; their CRC-32 is right, where they begin with one
+-- Tracks, which say this track; their CRC-32 is right, if they begin with one
 pub record IsTracks (t : TopLevel) (track : Track) : Type 0 where
   pub named : IsVint t.ident
   pub few : length t.ident ≤ 4

@@ -22,7 +22,7 @@ use Rattle.ffv1_matroska.specs.declared.place.Place.{Place}
 use Rattle.ffv1_matroska.specs.declared.place.Step.{Step}
 use Rattle.ffv1_matroska.specs.declared.track.TrackNumbers.{TrackNumbers}
 
--- a frame after the beginning of its element, where it has one
+-- a frame after the beginning of its element, if it has one
 abbrev pub frame_taken : Place → Option ℕ → Reading Place
 frame_taken place None = given place
 frame_taken place (Some size) = kept_summed size place.sum >>= λ p.
@@ -33,13 +33,13 @@ step_taken place None = given place
 step_taken place (Some s) = frame_taken s.place s.frame
 
 -- an element from its first byte on, of a Segment, a Cluster or a BlockGroup: all of it, with its
--- frame where it is a block of the track; of a Cluster or a BlockGroup the header alone, since
+-- frame if it is a block of the track; of a Cluster or a BlockGroup the header alone, since
 -- their elements come next. At the end nothing is read
 unfoldable pub element_taken : TrackNumbers → Place → Reading Place
 element_taken track place = step_read track place >>= step_taken place
 
 -- where a reader stands before the frames: before the file, before its Segment, before an element
--- of that, where these Tracks were before; or before the frames
+-- of that, if these Tracks were before; or before the frames
 pub data Spot : Type 0 where
   Start : Spot
   BeforeSegment : Spot
@@ -49,8 +49,8 @@ pub data Spot : Type 0 where
 abbrev pub frames_begun : Option Track → Place → Reading Spot
 frames_begun found place = begun_at found place >>= λ p. given (BeforeFrames p.0 p.1)
 
--- an element of the Segment before the frames; of the first Cluster the header alone. Where the
--- Segment ends before any Tracks, they are missed there
+-- an element of the Segment before the frames; of the first Cluster the header alone. If the
+-- Segment ends before any Tracks, the fault is at its end
 abbrev pub beginning_taken : Option Track → Place → Option Element → Reading Spot
 beginning_taken found place None = frames_begun found ended
 beginning_taken found place (Some e) =
@@ -81,8 +81,8 @@ abbrev pub FramesBegin : Spot → Passage → Track → Place → ℕ → Type 0
 FramesBegin from p track place count =
     ReadsWhole spot_taken from p.old p.new (BeforeFrames track place) count ⊎ (place ≡ ended)
 
--- the elements of a Segment before the frames: where these begin, `here` is that place; where one
--- was refused, it is the place before that
+-- the elements of a Segment before the frames: if these begin, `here` is the place where they do;
+-- if an element was refused, it is the place before that
 abbrev pub BeginsFrom : Place → Passage → List ℕ → Result (Numbers × Place) FileFault → Place →
     Type 0
 BeginsFrom place p bytes (Ok n) here =

@@ -1,5 +1,5 @@
--- What stands before the frames: the header of EBML, and the elements of the Segment up to its
--- first Cluster, of which the first Tracks say which frames are read (RFC 9559, 5.1).
+-- What comes before the frames: the header of EBML, and the elements of the Segment up to its first
+-- Cluster, of which the first Tracks say which frames are read (RFC 9559, 5.1).
 use Rattle.std.specs.Prelude.{ℕ, suc, zero, ◌==◌, true, false, if◌then◌else◌, List, Option, Some}
 use Rattle.std.specs.Prelude.{None, Result, Ok, Err}
 use Rattle.ffv1_reads.specs.Head.{Head}
@@ -32,7 +32,7 @@ told (Err f) = refused f
 unfoldable pub tracks_read : Option ℕ → Reading Track
 tracks_read size = content_kept size >>= λ content. told (track_in content)
 
--- the frames of a track begin at a position; there is none where no Tracks were before it
+-- the frames of a track begin at a position; there is none if no Tracks were before it
 unfoldable pub begun_at : Option Track → Place → Reading (Track × Place)
 begun_at None place = refused fault.NoTracks
 begun_at (Some track) place = given (track, place)
@@ -42,7 +42,7 @@ abbrev pub in_cluster : Place → Option ℕ → Place
 in_cluster place None = segment_at place true place.segment
 in_cluster place (Some size) = cluster_entered place size
 
--- an element that holds no frames is passed, with its CRC-32 judged where it has one; any other may
+-- an element that holds no frames is passed, with its CRC-32 judged if it has one; any other may
 -- not stand there, and no unknown size
 unfoldable pub element_passed : ℕ → Option ℕ → Reading (Unit {0})
 element_passed ident None = refused fault.BadElement
@@ -51,15 +51,15 @@ element_passed ident (Some size) =
     else if is_filler ident then passed size
     else refused fault.BadElement
 
--- Tracks where there were none yet; after the first ones others are passed
+-- Tracks if there were none yet; after the first ones others are passed
 abbrev pub tracks_or_passed : Option Track → ℕ → Option ℕ → Reading (Option Track)
 tracks_or_passed None ident size =
     if ident == tracks then (tracks_read size >>= λ track. given (Some track))
     else (element_passed ident size >>= λ _. given None)
 tracks_or_passed (Some track) ident size = element_passed ident size >>= λ _. given (Some track)
 
--- an element of the Segment after its header, and those after it: the first Cluster ends what
--- stands before the frames, and so does the end of the Segment
+-- an element of the Segment after its header, and those after it: the first Cluster ends what comes
+-- before the frames, and so does the end of the Segment
 abbrev pub element_or_begun : (Option Track → Place → Reading (Track × Place)) → Option Track →
     Place → Option Element → Reading (Track × Place)
 element_or_begun on found place None = begun_at found ended
@@ -67,7 +67,7 @@ element_or_begun on found place (Some e) =
     if e.ident == cluster then begun_at found (in_cluster (segment_at place false e.left) e.size)
     else (tracks_or_passed found e.ident e.size >>= λ now. on now (segment_at place false e.left))
 
--- where the frames begin, after at most so many elements, where these Tracks were before
+-- where the frames begin, after at most so many elements, if these Tracks were before
 unfoldable pub begin_up_to : ℕ → Option Track → Place → Reading (Track × Place)
 begin_up_to zero found place = refused fault.NoTracks
 begin_up_to (suc most) found place =

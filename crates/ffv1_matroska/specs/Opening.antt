@@ -29,7 +29,7 @@ read_version = 17143
 abbrev pub type_read_version : ℕ
 type_read_version = 17029
 
--- the number of the first element with this ID, and 1 where there is none or it has no bytes
+-- the number of the first element with this ID, and 1 if there is none or it has no bytes
 abbrev pub version_at : ℕ → List ℕ → Result ℕ FileFault
 version_at ident content = content_at ident content >>? number_in 1
 
@@ -81,6 +81,6 @@ segment_begun (Some size) =
       sum = Absent;
     }
 
--- the size of the Segment, which stands next
+-- the size of the Segment, which comes next
 unfoldable pub segment_entered : Reading (Option ℕ)
 segment_entered = ident_read segment >>= λ _. top_size

@@ -3,7 +3,7 @@
 use Rattle.std.specs.Prelude.{◌≡◌, ℕ, suc, zero, ◌+◌, ◌*◌, ◌/◌, ◌%◌, ◌==◌, ◌&&◌, Bool}
 use Rattle.std.specs.Prelude.{if◌then◌else◌, nat_lt, Option, Some, None}
 
--- a frame rate: so many frames in so many seconds, both 0 where it is unknown
+-- a frame rate: so many frames in so many seconds, both 0 if it is unknown
 pub record Rate : Type 0 where
   pub rate : ℕ
   pub scale : ℕ
@@ -33,7 +33,7 @@ second = 1000000000
 abbrev pub greatest : ℕ
 greatest = 4294967295
 
--- frames a second in lowest terms; unknown where the scale passes 32 bits
+-- frames a second in lowest terms; unknown if the scale passes 32 bits
 abbrev pub reduced_by : ℕ → ℕ → Rate
 reduced_by duration divisor =
     if nat_lt greatest (duration / divisor) then unknown
@@ -42,24 +42,24 @@ reduced_by duration divisor =
 abbrev pub reduced : ℕ → Rate
 reduced duration = reduced_by duration (common_up_to second duration duration)
 
--- the frames of this duration in a period, where they fill it
+-- the frames of this duration in a period, if they fill it
 abbrev pub frames_in : ℕ → ℕ → Option ℕ
 frames_in period duration =
     if fills period (nearest period duration) duration then Some (nearest period duration) else None
 
--- the same, but where they fill it exactly: then the duration itself is a rate in lowest terms
+-- the same, except if they fill it exactly: then the duration itself is a rate in lowest terms
 abbrev pub nearly_in : ℕ → ℕ → Option ℕ
 nearly_in period duration =
     if nearest period duration * duration == period then None else frames_in period duration
 
--- so many times these frames in so many seconds; or another rate, where there are none
+-- so many times these frames in so many seconds; or another rate, if there are none
 abbrev pub by_frames : ℕ → ℕ → Option ℕ → Rate → Rate
 by_frames times scale None other = other
 by_frames times scale (Some frames) other = record { rate = times * frames; scale = scale }
 
 -- the rate that a duration of a frame says, in nanoseconds: of whole frames in a second, of
 -- thousands in 1001 seconds, of whole frames in two seconds, of nearly whole frames in 100 or 1000
--- seconds, or else as it stands; none where it is 0
+-- seconds, or else as it stands; none if it is 0
 unfoldable pub rate_of : ℕ → Rate
 rate_of duration =
     if duration == 0 then unknown
@@ -69,7 +69,7 @@ rate_of duration =
     (by_frames 1 100 (nearly_in 100000000000 duration)
     (by_frames 1 1000 (nearly_in 1000000000000 duration) (reduced duration)))))
 
--- how long a frame lasts, in nanoseconds, to the nearest; 0 where the rate is unknown
+-- how long a frame lasts, in nanoseconds, to the nearest; 0 if the rate is unknown
 abbrev pub duration_of : Rate → ℕ
 duration_of r = if r.rate == 0 then 0 else nearest (second * r.scale) r.rate
 

@@ -10,8 +10,8 @@ use Rattle.ffv1_matroska.specs.Tracks.{Track}
 use Rattle.ffv1_matroska.specs.declared.place.Place.{Place}
 use Rattle.ffv1_matroska.specs.declared.track.TrackNumbers.{TrackNumbers}
 
--- the track that is read, the size of the Segment, where it stands in that, the fault that it has
--- met, for how many bytes its record has room, and the bytes before where it stands
+-- the track that is read, the size of the Segment, the place in that, the fault that it has met,
+-- for how many bytes its record has room, and the bytes before that place
 pub record Standing : Type 0 where
   pub track : Track
   pub segment : Option ℕ
@@ -33,7 +33,7 @@ abbrev pub next_with : List ℕ → Option Place → Option (List ℕ × Place)
 next_with bytes None = None
 next_with bytes (Some place) = Some (bytes, place)
 
--- what is left where no frame was read to its end: a beginning of the one that was found, or
+-- what is left if no frame was read to its end: a beginning of the one that was found, or
 -- nothing
 abbrev pub Leaves : TrackNumbers → Place → Option (List ℕ) → List ℕ → Type 0
 Leaves track place None bytes = ⊤

@@ -76,13 +76,13 @@ cluster_child track ident size place =
     else if is_beside ident size then passed_on size place
     else refused fault.BadElement
 
--- the CRC-32 of a Cluster: the sum of all that stands after it, low end first (RFC 8794, 11.3.1)
+-- the CRC-32 of a Cluster: the sum of all that comes after it, low end first (RFC 8794, 11.3.1)
 abbrev pub crc_read : Place → Reading (Option Step)
 crc_read place = taken 4 >>= λ bytes.
     closed (Some (step_to (summed_at place (Awaits (low_number bytes) turned))))
     (summed_at place (Awaits (low_number bytes) turned))
 
--- the first element of a Cluster may be its CRC-32; where it is another one, there is none
+-- the first element of a Cluster may be its CRC-32; if it is another one, there is none
 unfoldable pub first_child : TrackNumbers → ℕ → ℕ → Place → Reading (Option Step)
 first_child track ident size place =
     if is_crc ident size then crc_read place
@@ -107,8 +107,8 @@ outside_idents =
     290298740 ∷ 357149030 ∷ 374648427 ∷ 475249515 ∷ 423732329 ∷ 272869232 ∷ 307544935 ∷ 524531317
     ∷ 440786851 ∷ 408125543 ∷ []
 
--- where such a one begins in a Cluster, the Cluster says more bytes than it has; so it is refused
--- before its size is looked at
+-- if one of these elements begins in a Cluster, the Cluster says more bytes than it has; so the
+-- element is refused before its size is looked at
 abbrev pub is_outside : ℕ → Bool
 is_outside ident = is_among outside_idents ident
 
@@ -117,7 +117,7 @@ cluster_read track place =
     element_in is_outside place.cluster place.sum >>= cluster_rest track place
 
 -- an element of a Segment that holds no frames, after its header: passed, with its CRC-32 judged
--- where it has one; any other may not stand there
+-- if it has one; any other may not stand there
 unfoldable pub other_read : ℕ → ℕ → Place → Reading (Option Step)
 other_read ident size place =
     if is_section ident
@@ -137,7 +137,7 @@ segment_child track ident place (Some size) =
     else if place.loose && is_of_cluster ident then cluster_child track ident size place
     else other_read ident size place
 
--- the header of the next element of a Segment; none at its end, which is the end of the input where
+-- the header of the next element of a Segment; none at its end, which is the end of the input if
 -- its size is unknown
 unfoldable pub header_read : Place → Reading (Option Element)
 header_read place =

@@ -1,15 +1,17 @@
 -- Tracks (RFC 9559, 5.1.4), in memory: the first entry of FFV1 video.
-use Rattle.std.specs.Prelude.{ℕ, suc, zero, ◌+◌, ◌^◌, ◌==◌, ◌&&◌, Bool, if◌then◌else◌, min, nat_eq}
-use Rattle.std.specs.Prelude.{nat_le, List, [], length, take, drop, codes, Option, Some, None}
-use Rattle.std.specs.Prelude.{Result, Ok, Err}
+use Rattle.std.specs.Prelude.{ℕ, suc, zero, ◌+◌, ◌-◌, ◌^◌, ◌==◌, ◌&&◌, Bool, if◌then◌else◌, min}
+use Rattle.std.specs.Prelude.{nat_eq, nat_le, List, [], length, take, drop, codes, Option, Some}
+use Rattle.std.specs.Prelude.{None, Result, Ok, Err}
 use lib.Pointwise.{pointwise}
+use Rattle.byteorder.specs.Endian.{little_number}
+use Rattle.ffv1_reads.specs.Bitmap.{record_end}
 use Rattle.ffv1_reads.specs.Head.{Head}
 use Rattle.ffv1_reads.specs.declared.fault.FileFault.{FileFault}
 use Rattle.ffv1_reads.specs.declared.fault.FileFault.TheVariants as fault
 use Rattle.ffv1_ebml.specs.Contents.{Found, Part, content_told, first_part, found, number_in}
 use Rattle.ffv1_ebml.specs.Contents.{text_in}
 use Rattle.ffv1_matroska.specs.Rates.{greatest, rate_of}
-use Rattle.ffv1_matroska.specs.Blocks.{is_unknown}
+use Rattle.ffv1_matroska.specs.Blocks.{bit_of, is_unknown}
 use Rattle.ffv1_matroska.specs.declared.track.TrackNumbers.{TrackNumbers}
 
 -- the IDs of TrackEntry and of what is looked for in it
@@ -60,11 +62,11 @@ abbrev pub content_of : Option (List ℕ) → List ℕ
 content_of None = []
 content_of (Some bytes) = bytes
 
--- the content of the first element with this ID, and no bytes where there is none
+-- the content of the first element with this ID, and no bytes if there is none
 abbrev pub content_at : ℕ → List ℕ → Result (List ℕ) FileFault
 content_at ident content = found ident content >>? λ o. Ok (content_of o)
 
--- the number that it holds, and 0 where there is none
+-- the number that it holds, and 0 if there is none
 abbrev pub number_at : ℕ → List ℕ → Result ℕ FileFault
 number_at ident content = content_at ident content >>? number_in 0
 
@@ -73,18 +75,23 @@ abbrev pub is_text : List ℕ → List ℕ → Bool
 is_text bytes text = pointwise nat_eq bytes text
 
 -- the format of Video for Windows is FFV1 (RFC 9559, 8.3, V_MS/VFW/FOURCC): its fourth number is
--- that name, and the record stands after its 40 bytes
+-- that name, and the record comes after its 40 bytes
 abbrev pub is_format : List ℕ → Bool
 is_format format = nat_le 40 (length format) && is_text (take 4 (drop 16 format)) (codes "FFV1")
 
--- the configuration record, of an entry of this codec, where it is FFV1 (RFC 9043, 4.3.3)
+-- the record of such a format, which ends where biSize, its first number, says so, or at its end
+abbrev pub format_record : List ℕ → List ℕ
+format_record format =
+    take (record_end (little_number 4 format) (length format) - 40) (drop 40 format)
+
+-- the configuration record, of an entry of this codec, if it is FFV1 (RFC 9043, 4.3.3)
 abbrev pub record_of : List ℕ → List ℕ → Found
 record_of codec content =
     if is_text codec (codes "V_FFV1")
     then (content_at codec_private content >>? λ bytes. Ok (Some bytes))
     else if is_text codec (codes "V_MS/VFW/FOURCC")
     then (content_at codec_private content >>? λ format.
-    (if is_format format then Ok (Some (drop 40 format)) else Ok None))
+    (if is_format format then Ok (Some (format_record format)) else Ok None))
     else Ok None
 
 -- the same, of an entry; a field is looked for only while the entry may be one
@@ -118,7 +125,7 @@ track_of content config = found content_encodings content >>? plain
       };
     }))))))
 
--- the track of an element of Tracks, where that is an entry of FFV1 video
+-- the track of an element of Tracks, if that is an entry of FFV1 video
 abbrev pub track_with : List ℕ → Option (List ℕ) → Result (Option Track) FileFault
 track_with content None = Ok None
 track_with content (Some config) = track_of content config >>? λ track. Ok (Some track)
@@ -142,15 +149,16 @@ unfoldable pub track_up_to : ℕ → List ℕ → Result Track FileFault
 track_up_to zero content = Err fault.NoFfv1
 track_up_to (suc most) content = first_part content >>? part_or_on (track_up_to most)
 
--- the first track of FFV1 video, where the CRC-32 of the content is judged first
+-- the first track of FFV1 video; the CRC-32 of the content is judged first
 unfoldable pub first_track : List ℕ → Result Track FileFault
 first_track content = content_told content >>? λ _. track_up_to (length content) content
 
 -- the numbers of tracks, with one more
 unfoldable pub with_number : ℕ → ℕ → ℕ
-with_number known number = if is_unknown known number then known + 2 ^ number else known
+with_number known number =
+    if is_unknown known number then known + 2 ^ bit_of number else known
 
--- with that of an element of Tracks, where it is an entry
+-- with that of an element of Tracks, if it is an entry
 abbrev pub known_with : ℕ → ℕ → List ℕ → Result ℕ FileFault
 known_with known ident content =
     if ident == entry

@@ -14,14 +14,14 @@ use Rattle.ffv1_matroska.specs.Rates.{IsTimed, Rate}
 use Rattle.ffv1_matroska.specs.Written.{cluster_element, cue_places, cues_element, end_place}
 use Rattle.ffv1_matroska.specs.Written.{opening, tracks_element}
 use Rattle.ffv1_matroska.specs.WrittenPlaces.{cluster_bytes, last_place, stride_of}
-use Rattle.ffv1_matroska.specs.declared.shown.Shown.{Shown}
+use Rattle.ffv1_matroska.specs.declared.track_entry.TrackEntry.{TrackEntry}
 use Rattle.ffv1_matroska.specs.declared.write.opening.Finish.{Finish}
 
 -- a writer: what the file says of its frames; how many there were, and where their Clusters end;
 -- the places of every stride-th Cluster; and whether a write has failed
 pub record Writing : Type 0 where
   pub head : Head
-  pub shown : Shown
+  pub details : TrackEntry
   pub count : ℕ
   pub at : ℕ
   pub stride : ℕ
@@ -29,14 +29,14 @@ pub record Writing : Type 0 where
   pub failed : Bool
 
 -- the writer that has written these frames
-abbrev pub writing_of : Head → Shown → List (List ℕ) → Writing
-writing_of head shown frames = record {
+abbrev pub writing_of : Head → TrackEntry → List (List ℕ) → Writing
+writing_of head details frames = record {
   head = head;
-  shown = shown;
+  details = details;
   count = length frames;
-  at = end_place head shown frames;
+  at = end_place head details frames;
   stride = stride_of (length frames);
-  places = cue_places head shown frames;
+  places = cue_places head details frames;
   failed = false;
 }
 
@@ -44,29 +44,29 @@ writing_of head shown frames = record {
 abbrev pub rate_in : Head → Rate
 rate_in head = record { rate = head.rate; scale = head.scale }
 
--- a new writer; refused exactly where its rate does not come back, or where memory was refused
-abbrev pub Makes : Head → Shown → Result Writing FileFault → Type 0
-Makes head shown (Ok w) = IsTimed (rate_in head) × (w ≡ writing_of head shown [])
-Makes head shown (Err fault.Rate) = IsTimed (rate_in head) → ⊥
-Makes head shown (Err fault.OutOfMemory) = IsTimed (rate_in head)
-Makes head shown (Err f) = ⊥
+-- a new writer; refused exactly if its rate does not come back, or if memory was refused
+abbrev pub Makes : Head → TrackEntry → Result Writing FileFault → Type 0
+Makes head details (Ok w) = IsTimed (rate_in head) × (w ≡ writing_of head details [])
+Makes head details (Err fault.Rate) = IsTimed (rate_in head) → ⊥
+Makes head details (Err fault.OutOfMemory) = IsTimed (rate_in head)
+Makes head details (Err f) = ⊥
 
--- what a frame adds to the file that has so many before it: with the first one, all that stands
+-- what a frame adds to the file that has so many before it: with the first one, all that comes
 -- before the Clusters
-unfoldable pub piece : Head → Shown → ℕ → List ℕ → List ℕ
-piece head shown count frame =
+unfoldable pub piece : Head → TrackEntry → ℕ → List ℕ → List ℕ
+piece head details count frame =
     if count == 0
-    then opening head None ++ tracks_element head shown ++ cluster_element 0 frame
+    then opening head None ++ tracks_element head details ++ cluster_element 0 frame
     else cluster_element count frame
 
 abbrev pub piece_of : Writing → List ℕ → List ℕ
-piece_of w frame = piece w.head w.shown w.count frame
+piece_of w frame = piece w.head w.details w.count frame
 
 -- the same writer after a failed write
 abbrev pub failed_at : Writing → Writing
 failed_at w = record {
   head = w.head;
-  shown = w.shown;
+  details = w.details;
   count = w.count;
   at = w.at;
   stride = w.stride;
@@ -77,12 +77,12 @@ failed_at w = record {
 -- the writer that has written a frame more
 pub record Grows (old : Writing) (frame : List ℕ) (new : Writing) : Type 0 where
   pub head_is : new.head ≡ old.head
-  pub shown_is : new.shown ≡ old.shown
+  pub details_is : new.details ≡ old.details
   pub counted : new.count ≡ old.count + 1
   pub ends : new.at ≡ old.at + cluster_bytes + length frame
   pub lives : new.failed ≡ false
-  pub grown : (frames : List (List ℕ)) → old ≡ writing_of old.head old.shown frames →
-      new ≡ writing_of old.head old.shown (frames ++ frame ∷ [])
+  pub grown : (frames : List (List ℕ)) → old ≡ writing_of old.head old.details frames →
+      new ≡ writing_of old.head old.details (frames ++ frame ∷ [])
 
 -- a frame was put; or its Cluster would end too far, and nothing was written; or a write failed
 abbrev pub Puts : Passage → Writing → List ℕ → Writing → Result (Unit {0}) FileFault → Type 0
@@ -119,9 +119,9 @@ file_bytes w = segment_place + w.at + length (cues_in w)
 abbrev pub AfterCues : Passage → Writing → (Option (List ℕ) → Type 0) → Type 0
 AfterCues p w After = (mid : Option (List ℕ)) × Appends p.old mid (cues_in w) × After mid
 
--- the Cues were written, and the opening written over, or nothing was where that can't be done; or
--- a write failed: a beginning of the Cues was written, or all of them and some of the opening over
--- what stands there
+-- the Cues were written, and the opening was written over, or was not if that can't be done; or a
+-- write failed: a beginning of the Cues was written, or all of them and some of the opening over
+-- what was there
 abbrev pub Finishes : Passage → Writing → Result Bool FileFault → Type 0
 Finishes p w (Ok true) =
     (p.after ≡ p.before)

@@ -1,9 +1,10 @@
--- The file that is written, as a function of its head, of how its pictures are shown and of its
+-- The file that is written, as a function of its head, of what else its TrackEntry says and of its
 -- frames (RFC 9559, 5.1, with FFV1 as RFC 9043, 4.3.3 has it). Sizes are one byte or eight, and
 -- numbers have a fixed width, so that where an element stands depends on no other element's value.
-use Rattle.std.specs.Prelude.{ℕ, suc, ◌+◌, ◌*◌, ◌-◌, ◌^◌, ◌==◌, ◌||◌, if◌then◌else◌, List, [], ◌∷◌}
-use Rattle.std.specs.Prelude.{◌++◌, length, replicate, codes, Option, Some, None}
+use Rattle.std.specs.Prelude.{ℕ, suc, ◌+◌, ◌*◌, ◌-◌, ◌%◌, ◌^◌, ◌==◌, ◌||◌, if◌then◌else◌, List}
+use Rattle.std.specs.Prelude.{[], ◌∷◌, ◌++◌, flat_map, length, replicate, codes, Option, Some, None}
 use Rattle.std.specs.Int.{bytes_low_first, leading_zeros, w64}
+use Rattle.ffv1_reads.specs.Bitmap.{bitmap_header}
 use Rattle.ffv1_reads.specs.Head.{Head}
 use Rattle.ffv1_sum.specs.Sum.{crc_of}
 use Rattle.ffv1_ebml.specs.Elements.{crc_ident}
@@ -24,7 +25,9 @@ use Rattle.ffv1_matroska.specs.WrittenIdents.{seek, seek_head, seek_id, seek_pos
 use Rattle.ffv1_matroska.specs.WrittenIdents.{timestamp_scale, track_uid, type_version, void}
 use Rattle.ffv1_matroska.specs.WrittenIdents.{writing_app}
 use Rattle.ffv1_matroska.specs.WrittenPlaces.{every, places_from, stride_of}
-use Rattle.ffv1_matroska.specs.declared.shown.Shown.{Shown}
+use Rattle.ffv1_matroska.specs.declared.track_entry.CodecId.{CodecId}
+use Rattle.ffv1_matroska.specs.declared.track_entry.CodecId.TheVariants as codec
+use Rattle.ffv1_matroska.specs.declared.track_entry.TrackEntry.{TrackEntry}
 use Rattle.ffv1_matroska.specs.declared.write.opening.Finish.{Finish}
 
 -- an element of some content, its size in one byte, and in eight
@@ -87,7 +90,7 @@ exponent_of n = 63 - leading_zeros w64 n
 unfoldable pub double : ℕ → ℕ
 double n = (1023 + exponent_of n) * 2 ^ 52 + (n - 2 ^ exponent_of n) * 2 ^ (52 - exponent_of n)
 
--- how long a frame lasts, in nanoseconds; 0 where there is no rate
+-- how long a frame lasts, in nanoseconds; 0 if there is no rate
 abbrev pub frame_duration : Head → ℕ
 frame_duration head = duration_of (record { rate = head.rate; scale = head.scale })
 
@@ -115,7 +118,7 @@ abbrev pub segment_size : Option Finish → List ℕ
 segment_size None = unknown_size
 segment_size (Some f) = long f.size
 
--- all that stands before Tracks: open, and once all is written
+-- all that comes before Tracks: open, and once all is written
 unfoldable pub opening : Head → Option Finish → List ℕ
 opening head finish =
     ebml_header ++ (ident_bytes segment ++ segment_size finish)
@@ -124,7 +127,7 @@ opening head finish =
 
 -- ---- Tracks (5.1.4)
 
--- whether pictures are interlaced (5.1.4.1.28.1), and which of their fields comes first, where both
+-- whether pictures are interlaced (5.1.4.1.28.1), and which of their fields comes first, if both
 -- are in one frame (5.1.4.1.28.2); an unknown structure says nothing
 abbrev pub interlaced_of : ℕ → ℕ
 interlaced_of structure =
@@ -136,20 +139,20 @@ order_element structure =
     else if structure == 2 then number_element field_order 1 14
     else []
 
--- the shape of a picture where the aspect of a sample is known, as a ratio (5.1.4.1.28.12 to
+-- the shape of a picture if the aspect of a sample is known, as a ratio (5.1.4.1.28.12 to
 -- 5.1.4.1.28.14)
-unfoldable pub display : Head → Shown → List ℕ
-display head shown =
-    if shown.sar_num == 0 || shown.sar_den == 0 then []
-    else number_element display_width 8 (head.width * shown.sar_num)
-    ++ number_element display_height 8 (head.height * shown.sar_den)
+unfoldable pub display : Head → TrackEntry → List ℕ
+display head details =
+    if details.sar_num == 0 || details.sar_den == 0 then []
+    else number_element display_width 8 (head.width * details.sar_num)
+    ++ number_element display_height 8 (head.height * details.sar_den)
     ++ number_element display_unit 1 3
 
-unfoldable pub video_content : Head → Shown → List ℕ
-video_content head shown =
+unfoldable pub video_content : Head → TrackEntry → List ℕ
+video_content head details =
     number_element pixel_width 4 head.width ++ number_element pixel_height 4 head.height
-    ++ number_element flag_interlaced 1 (interlaced_of shown.structure)
-    ++ order_element shown.structure ++ display head shown
+    ++ number_element flag_interlaced 1 (interlaced_of details.structure)
+    ++ order_element details.structure ++ display head details
 
 unfoldable pub duration_field : Head → List ℕ
 duration_field head =
@@ -157,20 +160,45 @@ duration_field head =
     else number_element default_duration 8 (frame_duration head)
 
 -- what the one track is, before its configuration record
-unfoldable pub entry_fields : Head → Shown → List ℕ
-entry_fields head shown =
+-- the codec ID (RFC 9559, 8)
+abbrev pub codec_name : CodecId → List ℕ
+codec_name codec.Native = codes "V_FFV1"
+codec_name codec.Vfw = codes "V_MS/VFW/FOURCC"
+
+-- what stands in CodecPrivate before the configuration record: of Video for Windows its format,
+-- whose size is that of the header and the record together, and whose pictures have three bytes a
+-- sample
+abbrev pub private_front : CodecId → Head → List ℕ
+private_front codec.Native head = []
+private_front codec.Vfw head =
+    flat_map (λ (field : List ℕ). field)
+    (bitmap_header (40 + length head.config_record) head.width head.height
+    (head.width * head.height * 3))
+
+-- and after it: there a byte if the record has an odd number of them
+abbrev pub private_end : CodecId → Head → List ℕ
+private_end codec.Native head = []
+private_end codec.Vfw head = replicate (length head.config_record % 2) 0
+
+abbrev pub private_content : CodecId → Head → List ℕ
+private_content id head =
+    private_front id head ++ (head.config_record ++ private_end id head)
+
+unfoldable pub entry_fields : Head → TrackEntry → List ℕ
+entry_fields head details =
     number_element track_number 1 1 ++ number_element track_uid 1 1
     ++ number_element track_type 1 1 ++ number_element flag_lacing 1 0
-    ++ short_element language (codes "und") ++ short_element codec_id (codes "V_FFV1")
-    ++ duration_field head ++ short_element video (video_content head shown)
+    ++ short_element language (codes "und") ++ short_element codec_id (codec_name details.codec_id)
+    ++ duration_field head ++ short_element video (video_content head details)
 
-unfoldable pub entry_element : Head → Shown → List ℕ
-entry_element head shown =
+unfoldable pub entry_element : Head → TrackEntry → List ℕ
+entry_element head details =
     long_element entry
-    (entry_fields head shown ++ long_element codec_private head.config_record)
+    (entry_fields head details
+    ++ long_element codec_private (private_content details.codec_id head))
 
-unfoldable pub tracks_element : Head → Shown → List ℕ
-tracks_element head shown = long_element tracks (checked (entry_element head shown))
+unfoldable pub tracks_element : Head → TrackEntry → List ℕ
+tracks_element head details = long_element tracks (checked (entry_element head details))
 
 -- ---- Clusters (5.1.3)
 
@@ -214,46 +242,47 @@ cues_element stride places = long_element cues (checked (cues_from 0 stride plac
 -- ---- the file
 
 -- where the first Cluster begins
-abbrev pub first_place : Head → Shown → ℕ
-first_place head shown = tracks_place + length (tracks_element head shown)
+abbrev pub first_place : Head → TrackEntry → ℕ
+first_place head details = tracks_place + length (tracks_element head details)
 
 -- where the last Cluster ends
-abbrev pub end_place : Head → Shown → List (List ℕ) → ℕ
-end_place head shown frames = first_place head shown + length (clusters_from 0 frames)
+abbrev pub end_place : Head → TrackEntry → List (List ℕ) → ℕ
+end_place head details frames = first_place head details + length (clusters_from 0 frames)
 
 -- where the Clusters of every stride-th frame begin
-abbrev pub cue_places : Head → Shown → List (List ℕ) → List ℕ
-cue_places head shown frames =
-    every (stride_of (length frames)) (places_from (first_place head shown) frames)
+abbrev pub cue_places : Head → TrackEntry → List (List ℕ) → List ℕ
+cue_places head details frames =
+    every (stride_of (length frames)) (places_from (first_place head details) frames)
 
 -- the Cues of all frames
-abbrev pub cues_of : Head → Shown → List (List ℕ) → List ℕ
-cues_of head shown frames = cues_element (stride_of (length frames)) (cue_places head shown frames)
+abbrev pub cues_of : Head → TrackEntry → List (List ℕ) → List ℕ
+cues_of head details frames =
+    cues_element (stride_of (length frames)) (cue_places head details frames)
 
 -- what is known once all is written
-abbrev pub finish_of : Head → Shown → List (List ℕ) → Finish
-finish_of head shown frames = record {
-  size = end_place head shown frames + length (cues_of head shown frames);
-  cues = end_place head shown frames;
+abbrev pub finish_of : Head → TrackEntry → List (List ℕ) → Finish
+finish_of head details frames = record {
+  size = end_place head details frames + length (cues_of head details frames);
+  cues = end_place head details frames;
   count = length frames;
 }
 
 -- up to the last Cluster
-abbrev pub to_clusters : Option Finish → Head → Shown → List (List ℕ) → List ℕ
-to_clusters finish head shown frames =
-    opening head finish ++ tracks_element head shown ++ clusters_from 0 frames
+abbrev pub to_clusters : Option Finish → Head → TrackEntry → List (List ℕ) → List ℕ
+to_clusters finish head details frames =
+    opening head finish ++ tracks_element head details ++ clusters_from 0 frames
 
 -- a file that is being written: nothing, until there is a frame
-abbrev pub begun_of : Head → Shown → List (List ℕ) → List ℕ
-begun_of head shown [] = []
-begun_of head shown (frame ∷ frames) = to_clusters None head shown (frame ∷ frames)
+abbrev pub begun_of : Head → TrackEntry → List (List ℕ) → List ℕ
+begun_of head details [] = []
+begun_of head details (frame ∷ frames) = to_clusters None head details (frame ∷ frames)
 
 -- all frames and their Cues, of a file that can't be written over
-abbrev pub open_of : Head → Shown → List (List ℕ) → List ℕ
-open_of head shown frames = to_clusters None head shown frames ++ cues_of head shown frames
+abbrev pub open_of : Head → TrackEntry → List (List ℕ) → List ℕ
+open_of head details frames = to_clusters None head details frames ++ cues_of head details frames
 
 -- the whole file
-abbrev pub finished_of : Head → Shown → List (List ℕ) → List ℕ
-finished_of head shown frames =
-    to_clusters (Some (finish_of head shown frames)) head shown frames
-    ++ cues_of head shown frames
+abbrev pub finished_of : Head → TrackEntry → List (List ℕ) → List ℕ
+finished_of head details frames =
+    to_clusters (Some (finish_of head details frames)) head details frames
+    ++ cues_of head details frames

@@ -19,8 +19,7 @@ ghost use Rattle.ffv1_matroska.specs.Tracks.{Track};
 ghost use Rattle.ffv1_matroska.specs.declared.place.Place.{Place};
 ghost use Rattle.ffv1_matroska.specs.declared.track.Numbers.{Numbers};
 
-use crate::block::LIMIT;
-use crate::opening::{begin_segment, enter_segment, read_ebml};
+use crate::opening::{LIMIT, begin_segment, enter_segment, read_ebml};
 use crate::place::{Place, cluster_entered, ended, passed, segment_at};
 use crate::segment::{CLUSTER, is_filler, is_section, next_header};
 use crate::track::{Numbers, read_track};
@@ -62,8 +61,8 @@ fn fill_with_room<R: ByteIn, A: Allocator>(
 /// long as that in another vector, which is emptied. Both have room as `ffv1_reads::fill` says, for
 /// the bytes that were read.
 ///
-/// `BadElement` where the size is unknown, `ChunkTooLong` where it is above 67108864 bytes, of
-/// which no byte is read; `Truncated` where the input ends before, `Read`, `OutOfMemory`.
+/// `BadElement` if the size is unknown. `ChunkTooLong` if it is above 67108864 bytes, of which no
+/// byte is read. `Truncated` if the input ends before that, `Read`, `OutOfMemory`.
 #[tactic(auto, unfolding(crate::specs::Opening::content_kept))]
 fn keep_tracks<R: ByteIn, A: Allocator>(
     input: &mut R,
@@ -139,7 +138,7 @@ fn read_tracks<R: ByteIn, A: Allocator>(
 
 /// Passes an element of the Segment that holds no frames, after its header.
 ///
-/// `BadElement` where its size is unknown or it may not stand there, and then as `pass_content`.
+/// `BadElement` if its size is unknown or it may not stand there, and then as `pass_content`.
 #[tactic(auto, unfolding(crate::specs::Opened::element_passed))]
 fn pass_element<R: ByteIn>(input: &mut R, ident: u32, size: Option<u64>) -> Result<(), FileFault>
     ensures { Answers (λ (_ : Unit {0}). tt) (element_passed ident size)
@@ -157,7 +156,7 @@ fn pass_element<R: ByteIn>(input: &mut R, ident: u32, size: Option<u64>) -> Resu
     Err(FileFault::BadElement)
 }
 
-/// Reads Tracks, where there were none yet, or passes an element.
+/// Reads Tracks, if there were none yet, or passes an element.
 fn visit<R: ByteIn, A: Allocator>(
     input: &mut R,
     found: Option<Numbers>,
@@ -192,9 +191,9 @@ fn in_cluster(place: Place, size: Option<u64>) -> Place
 /// Reads the elements of a Segment from a position on, up to where its frames begin: what its track
 /// says, with the record in place of what the vector `config` has, and the place.
 ///
-/// `NoTracks` where no Tracks come before the first Cluster, or the end of the Segment; faults of
-/// the header of an element as of `next_header`, then as `read_tracks` and `pass_element`. `here`
-/// is then the place before the element that was refused, or where no more elements were read.
+/// `NoTracks` if no Tracks come before the first Cluster, or the end of the Segment; faults of the
+/// header of an element as of `next_header`, then as `read_tracks` and `pass_element`. `here` is
+/// then the place before the element that was refused, or where no more elements were read.
 fn read_beginning<R: ByteIn, A: Allocator>(
     input: &mut R,
     place: Place,

@@ -13,12 +13,12 @@ use ffv1_ebml::{next_data, pass_summed, take_summed};
 use ffv1_reads::FileFault;
 use ffv1_wire::ByteIn;
 
-/// The most bytes of a frame, of Tracks and of the header of EBML.
-pub(crate) const LIMIT: u64 = ffv1_reads::LIMIT as u64;
+/// The most bytes of a frame.
+const FRAME_LIMIT: u64 = ffv1_reads::FRAME_LIMIT as u64;
 
 /// Passes so many bytes.
 ///
-/// `Checksum` where they are the last of a Cluster and its CRC-32 differs.
+/// `Checksum` if they are the last of a Cluster and its CRC-32 differs.
 #[tactic(auto, unfolding(crate::specs::Blocks::passed_on))]
 pub(crate) fn pass_on<R: ByteIn>(
     input: &mut R,
@@ -28,7 +28,7 @@ pub(crate) fn pass_on<R: ByteIn>(
     ensures answer { Answers (λ (s : Option Step). s) (passed_on size place)
         (passage R.remaining R.failures input.old input.new) result }
     ensures sized { IfOk result (λ o. IfSome o (λ s. IfSome s.frame
-        (λ n. (0 < n) × (n ≤ 67108864)))) }
+        (λ n. (0 < n) × (n ≤ 1073741824)))) }
     ensures same { IfOk result (λ o. IfSome o (λ s. amount s.place ≡ amount place)) }
 {
     let mut sum = place.sum;
@@ -36,16 +36,16 @@ pub(crate) fn pass_on<R: ByteIn>(
     closed(summed_at(place, sum))
 }
 
-/// What stands after the track number of a block: two bytes of time, and flags.
+/// What comes after the track number of a block: two bytes of time, and flags.
 ///
-/// `Truncated` where there is less; then `Laced` where the flags say so, `ChunkTooLong` where the
-/// frame is above 67108864 bytes, and `EmptyFrame` where it has none, of which no byte is read.
+/// `Truncated` if there is less; then `Laced` if the flags say so, `ChunkTooLong` if the frame is
+/// above 1073741824 bytes, and `EmptyFrame` if it has none, of which no byte is read.
 #[tactic(auto, unfolding(crate::specs::Blocks::fields_read))]
 fn read_fields<R: ByteIn>(input: &mut R, left: u64, place: Place) -> Result<Option<Step>, FileFault>
     ensures answer { Answers (λ (s : Option Step). s) (fields_read left place)
         (passage R.remaining R.failures input.old input.new) result }
     ensures sized { IfOk result (λ o. IfSome o (λ s. IfSome s.frame
-        (λ n. (0 < n) × (n ≤ 67108864)))) }
+        (λ n. (0 < n) × (n ≤ 1073741824)))) }
     ensures same { IfOk result (λ o. IfSome o (λ s. amount s.place ≡ amount place)) }
 {
     if left < 3 {
@@ -58,7 +58,7 @@ fn read_fields<R: ByteIn>(input: &mut R, left: u64, place: Place) -> Result<Opti
         return Err(FileFault::Laced);
     }
     let size = left - 3;
-    if size > LIMIT {
+    if size > FRAME_LIMIT {
         return Err(FileFault::ChunkTooLong);
     }
     if size == 0 {
@@ -72,8 +72,8 @@ fn read_fields<R: ByteIn>(input: &mut R, left: u64, place: Place) -> Result<Opti
 
 /// A block of so many bytes, up to its frame; one of another track is passed.
 ///
-/// `BadElement` and `Truncated` where its track number cannot be read, then `BadElement` where no
-/// track has it, of those up to 127; then as `read_fields` and `pass_on`.
+/// `BadElement` and `Truncated` if its track number cannot be read, then `BadElement` if no track
+/// has it, or, if it is above 127, none has one above that; then as `read_fields` and `pass_on`.
 #[tactic(auto, unfolding(crate::specs::Blocks::block_read))]
 pub(crate) fn read_block<R: ByteIn>(
     input: &mut R,
@@ -84,7 +84,7 @@ pub(crate) fn read_block<R: ByteIn>(
     ensures answer { Answers (λ (s : Option Step). s) (block_read track size place)
         (passage R.remaining R.failures input.old input.new) result }
     ensures sized { IfOk result (λ o. IfSome o (λ s. IfSome s.frame
-        (λ n. (0 < n) × (n ≤ 67108864)))) }
+        (λ n. (0 < n) × (n ≤ 1073741824)))) }
     ensures same { IfOk result (λ o. IfSome o (λ s. amount s.place ≡ amount place)) }
 {
     let mut sum = place.sum;

@@ -20,7 +20,7 @@ use ffv1_reads::FileFault;
 use ffv1_wire::ByteIn;
 use std::alloc::Allocator;
 
-/// The size of the next frame, and the place after it, but for its sum; None at the end. `here` is
+/// The size of the next frame, and the place after it, except its sum; None at the end. `here` is
 /// then the place before its element, or before the one that was refused.
 fn find_frame<R: ByteIn>(
     input: &mut R,
@@ -30,7 +30,7 @@ fn find_frame<R: ByteIn>(
 ) -> Result<Option<(u64, Place)>, FileFault>
     ensures answer { AnswersOrNone (λ (p : Option (ℕ × Place)). p) (frame_found track place)
         (passage R.remaining R.failures input.old input.new) result }
-    ensures sized { IfOk result (λ o. IfSome o (λ p. (0 < p.0) × (p.0 ≤ 67108864))) }
+    ensures sized { IfOk result (λ o. IfSome o (λ p. (0 < p.0) × (p.0 ≤ 1073741824))) }
     ensures less { IfOk result (λ o. IfSome o (λ p. amount p.1 < amount place)) }
     ensures from { FindsFrom track place (passage R.remaining R.failures input.old input.new) result
         here.new }
@@ -57,7 +57,7 @@ pub(crate) fn read_frame<R: ByteIn, A: Allocator>(
     ensures answer { AnswersOrNone (λ (after : Option Place). next_with frame.new.items after)
         (frame_read track place) (passage R.remaining R.failures input.old input.new) result }
     ensures sized { IfOk result
-        (λ o. OnSome o ((0 < length frame.new.items) × (length frame.new.items ≤ 67108864))) }
+        (λ o. OnSome o ((0 < length frame.new.items) × (length frame.new.items ≤ 1073741824))) }
     ensures none { IfOk result (λ after. after ≡ None → frame.new.items ≡ []) }
     ensures less { IfOk result (λ o. IfSome o (λ after. amount after < amount place)) }
     ensures err { OnErr result (Leaves track place (R.remaining input.old) frame.new.items) }

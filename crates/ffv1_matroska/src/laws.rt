@@ -1,4 +1,4 @@
-//! Laws of files: what is read is a file by its elements, and such a file is read.
+//! Laws of files: what is read is a file by its elements, and a file by its elements is read.
 
 ghost use Rattle.ffv1_matroska.specs.declared.track.TrackNumbers.{TrackNumbers};
 ghost use Rattle.std.specs.Prelude.{◌≡◌, ◌==◌, ◌⊎◌, ◌<◌, ◌+◌, ◌*◌, ◌^◌, ◌++◌, ℕ, List, Option};
@@ -38,9 +38,10 @@ ghost use Rattle.ffv1_matroska.specs.declared.place.Place.{Place};
 
 /// A Cluster has only elements that may stand there: what is read in it, and is no BlockGroup, is a
 /// SimpleBlock; Timestamp, Position or PrevSize of at most 8 bytes; SilentTracks, EncryptedBlock,
-/// Void or CRC-32; and each of these may stand there. Any other is refused behind its header, and
+/// Void or CRC-32; and each of these may stand there. Any other is refused after its header, and
 /// nothing after that is read. In a Cluster of known size one of a Segment's elements, EBML or
-/// Segment is refused behind its ID, whatever size it says; none that may stand there has its ID.
+/// Segment is refused after its ID, whatever size it says; no element that may stand there has its
+/// ID.
 pub fn clusters_hold_listed_elements()
     ensures pieces { (track : TrackNumbers) (leaf : Leaf) → IsPiece track (Single leaf) →
         IsListed (number_of leaf.ident) (length (content_text leaf.content)) }
@@ -55,9 +56,9 @@ pub fn clusters_hold_listed_elements()
     ensures apart { (ident size : ℕ) → IsListed ident size → is_outside ident ≡ false }
 {}
 
-/// A block is of a track that Tracks have: one whose number, up to 127, is that of no entry is
-/// refused behind the number, and nothing after that is read. The number of an entry is known once
-/// it was added.
+/// A block is of a track that Tracks have: one whose number is that of no entry is refused after
+/// the number, and nothing after that is read; those above 127 are refused if no entry has one
+/// above that. The number of an entry is known once it was added.
 pub fn blocks_are_of_known_tracks()
     ensures refused { (track : TrackNumbers) (size : ℕ) (place : Place) (number rest : List ℕ) →
         IsVint number → length number ≤ 8 → length number ≤ size →
@@ -105,8 +106,8 @@ pub fn file_is_read_as_its_frames()
         (head ≡ other) × (frames ≡ others) }
 {}
 
-/// Where a Cluster comes before any Tracks, or the Segment ends, the file has no Tracks, and
-/// nothing after the header of the Cluster, or after the Segment, is read.
+/// If a Cluster comes before any Tracks, or the Segment ends, the file has no Tracks, and nothing
+/// after the header of the Cluster, or after the Segment, is read.
 pub fn file_without_tracks_is_refused()
     ensures cluster { (file : List ℕ) (size : Option ℕ) (before : List TopLevel)
         (ident said rest : List ℕ) (known : Option ℕ) →
@@ -125,7 +126,7 @@ pub fn file_without_tracks_is_refused()
 /// of a Segment's elements, EBML or Segment; and in a BlockGroup of a Cluster. The frames before it
 /// are given, one by one. In the header of EBML, in Tracks and in a TrackEntry, which are in
 /// memory, it is met if what is looked for first does not stand before it, and nothing after the
-/// header or Tracks is read. What is refused so is not read as a whole file.
+/// header or Tracks is read. A file that is so refused is not read as a whole file.
 pub fn long_element_is_truncated()
     ensures before { (file : List ℕ) (size : Option ℕ) (before : List TopLevel) (left : ℕ)
         (ident said rest : List ℕ) →
@@ -207,8 +208,8 @@ pub fn shorter_file_gives_first_frames()
         StopsEarly beginning head frames → EndsEarly file_read beginning }
 {}
 
-/// What is read is a file of that head and those frames, by its elements, and what is left is
-/// what stands after its Segment.
+/// What is read is a file of that head and those frames, by its elements, and what is left is what
+/// comes after its Segment.
 pub fn what_is_read_is_a_file()
     ensures { (file : List ℕ) (head : Head) (frames : List (List ℕ)) (rest : List ℕ) →
         file_read file ≡ Ok ((head, frames), rest) →

@@ -6,8 +6,8 @@
 //! its head and `MatroskaReader::segment` the size of its Segment, and each
 //! `MatroskaReader::next_frame` gives the next frame of its first track of FFV1 video, until it
 //! answers false. A reader holds no input, each call is lent the same one. `ffv1_reads::FileFault`
-//! says why a file could not be read or written. `MatroskaWriter::new` takes a head and how its
-//! pictures are `Shown`, each `MatroskaWriter::put` writes a frame, and `MatroskaWriter::finish`
+//! says why a file could not be read or written. `MatroskaWriter::new` takes a head and what else
+//! its `TrackEntry` says, each `MatroskaWriter::put` writes a frame, and `MatroskaWriter::finish`
 //! the Cues; no frame is kept. `rate_of` and `duration_of` turn nanoseconds a frame into a frame
 //! rate and back. The test `reading::smallest` of `ffv1_tests` runs this:
 //!
@@ -27,12 +27,12 @@ mod place;
 mod rate;
 mod reader;
 mod segment;
-pub mod shown;
 mod track;
+pub mod track_entry;
 mod write;
 pub mod written_laws;
 
 pub use rate::{duration_of, rate_of};
 pub use reader::MatroskaReader;
-pub use shown::Shown;
+pub use track_entry::{CodecId, TrackEntry};
 pub use write::MatroskaWriter;

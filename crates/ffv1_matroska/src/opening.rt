@@ -11,13 +11,15 @@ ghost use Rattle.ffv1_matroska.specs.Opening.{content_kept, header_in, ident_rea
 ghost use Rattle.ffv1_matroska.specs.Opening.{segment_begun, segment_entered, top_size};
 ghost use Rattle.ffv1_matroska.specs.Sizes.{size_with};
 
-use crate::block::LIMIT;
 use crate::place::Place;
 use crate::track::content_at;
 use ffv1_ebml::{Sum, judge, next_data, number, text};
 use ffv1_reads::{FileFault, fill, take_after};
 use ffv1_wire::ByteIn;
 use std::alloc::Allocator;
+
+/// The most bytes of the header of EBML and of Tracks.
+pub(crate) const LIMIT: u64 = ffv1_reads::LIMIT as u64;
 
 const EBML: u32 = 0x1A45_DFA3;
 
@@ -42,7 +44,7 @@ fn number_of(bytes: &[u8]) -> u64
     number
 }
 
-/// The size of so many bytes with this data, or None where all its bits are 1.
+/// The size of so many bytes with this data, or None if all its bits are 1.
 #[tactic(auto, unfolding(crate::specs::Sizes::size_with))]
 fn size_with(len: u64, value: u64) -> Option<u64>
     ensures { result ≡ size_with len value }
@@ -58,9 +60,9 @@ fn size_with(len: u64, value: u64) -> Option<u64>
 
 /// Judges the header of EBML in memory.
 ///
-/// `Checksum` where its CRC-32 differs; `NotMatroska` where its DocType is another one, or a
-/// version is above those that are read: 1 of EBML and 4 of Matroska; `Truncated` and `BadElement`
-/// where an element that is looked at can't be read.
+/// `Checksum` if its CRC-32 differs. `NotMatroska` if its DocType is another one, or if a version
+/// is above those that are read: 1 of EBML and 4 of Matroska. `Truncated` and `BadElement` if an
+/// element that is looked at can't be read.
 #[tactic(auto, unfolding(crate::specs::Opening::header_in))]
 fn judge_header(content: &[u8]) -> Result<(), FileFault>
     ensures { result ≡ header_in content.now }
@@ -81,7 +83,7 @@ fn judge_header(content: &[u8]) -> Result<(), FileFault>
     Ok(())
 }
 
-/// Four bytes that are this ID, of which the first may have been read. `NotMatroska` where they are
+/// Four bytes that are this ID, of which the first may have been read. `NotMatroska` if they are
 /// not.
 #[tactic(auto, unfolding(crate::specs::Opening::ident_read))]
 fn read_ident<R: ByteIn>(first: Option<u8>, input: &mut R, ident: u32) -> Result<(), FileFault>
@@ -96,7 +98,7 @@ fn read_ident<R: ByteIn>(first: Option<u8>, input: &mut R, ident: u32) -> Result
     Ok(())
 }
 
-/// A size, or None where it is unknown, whose bytes are counted. `BadElement` where it has more
+/// A size, or None if it is unknown, whose bytes are counted. `BadElement` if it has more
 /// than 8 bytes.
 #[tactic(auto, unfolding(crate::specs::Opening::top_size))]
 fn read_top_size<R: ByteIn>(input: &mut R, offset: &mut u64) -> Result<Option<u64>, FileFault>
@@ -113,7 +115,7 @@ fn read_top_size<R: ByteIn>(input: &mut R, offset: &mut u64) -> Result<Option<u6
 
 /// Reads content in place of what the vector has.
 ///
-/// `BadElement` where its size is unknown, `ChunkTooLong` where it is above 67108864 bytes, of
+/// `BadElement` if its size is unknown, `ChunkTooLong` if it is above 67108864 bytes, of
 /// which no byte is read; then as `fill`.
 #[tactic(auto, unfolding(crate::specs::Opening::content_kept))]
 fn keep_content<R: ByteIn, A: Allocator>(
@@ -136,8 +138,8 @@ fn keep_content<R: ByteIn, A: Allocator>(
 /// Reads the header of EBML, of which the first byte may have been read; it is kept in place of
 /// what the vector has.
 ///
-/// `NotMatroska` where the file begins otherwise, then as `read_top_size`, `keep_content` and
-/// `judge_header`. Its bytes are counted where there is no fault.
+/// `NotMatroska` if the file begins otherwise, then as `read_top_size`, `keep_content` and
+/// `judge_header`. Its bytes are counted if there is no fault.
 #[tactic(auto, unfolding(crate::specs::Opened::ebml_read))]
 pub(crate) fn read_ebml<R: ByteIn, A: Allocator>(
     first: Option<u8>,
@@ -159,10 +161,10 @@ pub(crate) fn read_ebml<R: ByteIn, A: Allocator>(
     Ok(())
 }
 
-/// The size of the Segment, which stands next, or None where it is unknown.
+/// The size of the Segment, which comes next, or None if it is unknown.
 ///
-/// `NotMatroska` where another element does, then as `read_top_size`. The bytes of the header are
-/// counted where there is no fault.
+/// `NotMatroska` if another element does, then as `read_top_size`. The bytes of the header are
+/// counted if there is no fault.
 #[tactic(auto, unfolding(crate::specs::Opening::segment_entered))]
 pub(crate) fn enter_segment<R: ByteIn>(
     input: &mut R,

@@ -28,9 +28,9 @@ pub(crate) struct Place {
 /// What was read on to.
 #[derive(Clone, Copy)]
 pub(crate) struct Step {
-    /// The size of a frame, which stands next; None where an element does.
+    /// The size of a frame, if that comes next; None if an element does.
     pub(crate) frame: Option<u64>,
-    /// The place; after the frame, but for its bytes that are still to be summed.
+    /// The place; after the frame, except its bytes that are still to be summed.
     pub(crate) place: Place,
 }
 
@@ -118,7 +118,7 @@ pub(crate) fn is_sound(place: Place) -> bool
     place.cluster > 0 || place.group > 0 || place.sum.is_met()
 }
 
-/// A step to the next place, where a Cluster that has nothing left is judged. `Checksum` where its
+/// A step to the next place. A Cluster that has nothing left is judged there: `Checksum` if its
 /// CRC-32 is not the sum.
 pub(crate) fn closed(place: Place) -> Result<Option<Step>, FileFault>
     ensures { result ≡ (if is_sound place then Ok (Some (step_to place)) else Err fault.Checksum) }

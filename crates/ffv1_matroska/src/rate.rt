@@ -55,7 +55,7 @@ fn frames_in(period: u64, duration: u64) -> Option<u64>
     None
 }
 
-/// The same, but for frames that fill it exactly.
+/// The same, except for frames that fill it exactly.
 fn nearly_in(period: u64, duration: u64) -> Option<u64>
     requires some { 0 < duration }
     requires short { period < 2 ^ 41 }
@@ -86,8 +86,8 @@ fn reduced(duration: u64) -> (u32, u32)
 ///
 /// It is the first of these that the frames fill up to less than a nanosecond a frame: whole frames
 /// a second, thousands of them in 1001 seconds, whole frames in two seconds, whole frames in 100
-/// and in 1000 seconds if they do not fill these exactly; else 1000000000 and the duration in
-/// lowest terms. Both are 0 where the duration is 0 or the scale would pass 4294967295.
+/// and in 1000 seconds if they do not fill these exactly. Else it is 1000000000 and the duration in
+/// lowest terms. Both are 0 if the duration is 0 or the scale would pass 4294967295.
 #[tactic(auto, unfolding(crate::specs::Rates::rate_of))]
 pub fn rate_of(duration: u64) -> (u32, u32)
     ensures { rate_with result ≡ rate_of duration }
@@ -114,7 +114,7 @@ pub fn rate_of(duration: u64) -> (u32, u32)
 }
 
 /// How long a frame lasts at a rate and its scale, in nanoseconds, to the nearest, halves up; 0
-/// where the rate is 0.
+/// if the rate is 0.
 pub fn duration_of(rate: u32, scale: u32) -> u64
     ensures { result ≡ duration_of (rate_with (rate, scale)) }
 {

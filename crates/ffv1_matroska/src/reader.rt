@@ -61,16 +61,16 @@ impl<A: Allocator + Copy> MatroskaReader<A> {
     /// for Tracks, which is given back, and room as large as Tracks for the configuration record,
     /// so for at most as many bytes as were read.
     ///
-    /// `NotMatroska` where the file does not begin with a header of EBML that says Matroska of a
-    /// version that is read, and a Segment; `Truncated` where an element does not fit in what it
-    /// stands in, or the input ends inside it; `BadElement` where an ID has more than 4 bytes, a
-    /// size or a field more than 8, a size is unknown other than that of the Segment or a Cluster,
-    /// or an element may not stand in a Segment; `ChunkTooLong` where the header of EBML or Tracks
-    /// are above 67108864 bytes; `NoTracks` where a Cluster comes before any Tracks, or the end of
-    /// the Segment does; `NoFfv1` where no track is FFV1 video, `Encoded` where the one that counts
-    /// is compressed or encrypted; `Checksum` where a CRC-32 is not the sum, which is known at the
-    /// end of the element; `Read` where a read failed, `OutOfMemory`. A fault of the header of EBML
-    /// or of Tracks comes after all of their bytes.
+    /// `NotMatroska` if the file does not begin with a header of EBML that says Matroska of a
+    /// version that is read, and a Segment. `Truncated` if an element does not fit in what it
+    /// stands in, or the input ends inside it. `BadElement` if an ID has more than 4 bytes, a size
+    /// or a field more than 8, a size is unknown other than that of the Segment or a Cluster, or an
+    /// element may not stand in a Segment. `ChunkTooLong` if the header of EBML or Tracks are above
+    /// 67108864 bytes. `NoTracks` if a Cluster comes before any Tracks, or the end of the Segment
+    /// does. `NoFfv1` if no track is FFV1 video, `Encoded` if the one that counts is compressed or
+    /// encrypted. `Checksum` if a CRC-32 is not the sum, which is known at the end of the element.
+    /// `Read` if a read failed, `OutOfMemory`. A fault of the header of EBML or of Tracks comes
+    /// after all of their bytes.
     pub fn open<R: ByteIn>(alloc: A, input: &mut R) -> Result<MatroskaReader<A>, FileFault>
         ensures answer { AnswersOrFaults fault.NoTracks HasEnded opened_at open_read
             (passage R.remaining R.failures input.old input.new) result }
@@ -82,7 +82,7 @@ impl<A: Allocator + Copy> MatroskaReader<A> {
         MatroskaReader::open_after(alloc, None, input)
     }
 
-    /// The same of a file whose first byte was read before, where there was one.
+    /// The same of a file whose first byte was read before, if there was one.
     pub fn open_after<R: ByteIn>(
         alloc: A,
         first: Option<u8>,
@@ -102,7 +102,7 @@ impl<A: Allocator + Copy> MatroskaReader<A> {
     /// The same, which says where in the file a fault is: `offset` is then the number of bytes
     /// before the element at fault, counting the byte that was read before; no greater than 2^64 -
     /// 1. That element is the header of EBML, the header of the Segment, or an element of that;
-    /// where the Segment ends before any Tracks, it is where the next element would begin.
+    /// if the Segment ends before any Tracks, it is where the next element would begin.
     pub fn open_located<R: ByteIn>(
         alloc: A,
         first: Option<u8>,
@@ -153,7 +153,7 @@ impl<A: Allocator> MatroskaReader<A> {
         &self.head
     }
 
-    /// The size of the Segment, in bytes; None where it is unknown.
+    /// The size of the Segment, in bytes; None if it is unknown.
     pub fn segment(&self) -> Option<u64>
         ensures { result ≡ self.now.segment }
     {
@@ -168,21 +168,21 @@ impl<A: Allocator> MatroskaReader<A> {
         self.offset
     }
 
-    /// Reads the next frame in place of what the vector has, and answers true; or false at the end,
-    /// where the vector is then empty, each time again, and then nothing is read. The end is that
-    /// of the Segment; of one of unknown size it is also the end of the input before an element of
-    /// it. The bytes after it are left unread.
+    /// Reads the next frame in place of what the vector has, and answers true; or false at the end.
+    /// The vector is then empty. Each further call answers false again, and reads nothing. The end
+    /// is that of the Segment; of one of unknown size it is also the end of the input before an
+    /// element of it. The bytes after it are left unread.
     ///
-    /// The input has to be the one that the reader was opened on. `Truncated` where an element or
-    /// what stands before a frame does not fit in what it stands in, or the input ends inside it;
-    /// `BadElement` where an ID has more than 4 bytes, a size or a track number more than 8, a size
-    /// is unknown other than that of a Cluster, an element may not stand in a Segment or in a
-    /// Cluster, where Timestamp, Position and PrevSize have at most 8 bytes, or, behind its number,
-    /// a block has a number up to 127 that no track has; `Laced` for a block with lacing;
-    /// `ChunkTooLong` for a frame above 67108864 bytes, of which no byte is read, `EmptyFrame` for
-    /// one of none; `Checksum` where a CRC-32 is not the sum, which is known at the
-    /// end of the element: of a Cluster, before the frame is given that ends it;
-    /// `Read` where a read failed, `OutOfMemory`. After a fault the vector holds a beginning of the
+    /// The input has to be the one that the reader was opened on. `Truncated` if an element or
+    /// what comes before a frame does not fit in what it stands in, or the input ends inside it.
+    /// `BadElement` if an ID has more than 4 bytes, a size or a track number more than 8, a size is
+    /// unknown other than that of a Cluster, an element may not stand in a Segment or in a Cluster,
+    /// where Timestamp, Position and PrevSize have at most 8 bytes, or, after its number, if a
+    /// block has a number that no track has, or one above 127 and no track has one above that.
+    /// `Laced` for a block with lacing. `ChunkTooLong` for a frame above 1073741824 bytes, of which
+    /// no byte is read, `EmptyFrame` for one of none. `Checksum` if a CRC-32 is not the sum, which
+    /// is known at the end of the element: of a Cluster, before the frame is given that ends it.
+    /// `Read` if a read failed, `OutOfMemory`. After a fault the vector holds a beginning of the
     /// frame, and each further call answers the fault again, empties the vector and reads nothing.
     /// The vector has room as `ffv1_reads::fill` says.
     pub fn next_frame<R: ByteIn>(
@@ -196,7 +196,7 @@ impl<A: Allocator> MatroskaReader<A> {
             (passage R.remaining R.failures input.old input.new) result }
         ensures stands { StandsAfter self.old result self.new }
         ensures sized { IfOk result (λ more. more ≡ true → (0 < length frame.new.items)
-            × (length frame.new.items ≤ 67108864)) }
+            × (length frame.new.items ≤ 1073741824)) }
         ensures end { IfOk result (λ more. more ≡ false → (frame.new.items ≡ [])
             × (self.new.place ≡ ended)) }
         ensures less { IfOk result

@@ -107,7 +107,7 @@ fn is_loose(place: Place, ident: u32) -> bool
     place.loose && is_of_cluster(ident)
 }
 
-/// An element of a BlockGroup, after its header. `BadElement` where its size is unknown.
+/// An element of a BlockGroup, after its header. `BadElement` if its size is unknown.
 #[tactic(auto, unfolding(crate::specs::Segments::group_child))]
 fn group_child<R: ByteIn>(
     input: &mut R,
@@ -119,7 +119,7 @@ fn group_child<R: ByteIn>(
         (group_child track element.ident place element.size)
         (passage R.remaining R.failures input.old input.new) result }
     ensures sized { IfOk result (λ o. IfSome o (λ s. IfSome s.frame
-        (λ n. (0 < n) × (n ≤ 67108864)))) }
+        (λ n. (0 < n) × (n ≤ 1073741824)))) }
     ensures same { IfOk result (λ o. IfSome o (λ s. amount s.place ≡ amount place)) }
 {
     let Some(size) = element.size else {
@@ -142,7 +142,7 @@ fn read_group<R: ByteIn>(
     ensures answer { Answers (λ (s : Option Step). s) (group_read track place)
         (passage R.remaining R.failures input.old input.new) result }
     ensures sized { IfOk result (λ o. IfSome o (λ s. IfSome s.frame
-        (λ n. (0 < n) × (n ≤ 67108864)))) }
+        (λ n. (0 < n) × (n ≤ 1073741824)))) }
     ensures less { IfOk result (λ o. IfSome o (λ s. amount s.place < amount place)) }
 {
     let mut sum = place.sum;
@@ -150,7 +150,7 @@ fn read_group<R: ByteIn>(
     group_child(input, track, element, group_at(place, element.left, sum))
 }
 
-/// An element of a Cluster, of so many bytes, after its header. `BadElement` where it may not stand
+/// An element of a Cluster, of so many bytes, after its header. `BadElement` if it may not stand
 /// there.
 #[tactic(auto, unfolding(crate::specs::Segments::cluster_child))]
 fn cluster_child<R: ByteIn>(
@@ -164,7 +164,7 @@ fn cluster_child<R: ByteIn>(
         (cluster_child track element.0 element.1 place)
         (passage R.remaining R.failures input.old input.new) result }
     ensures sized { IfOk result (λ o. IfSome o (λ s. IfSome s.frame
-        (λ n. (0 < n) × (n ≤ 67108864)))) }
+        (λ n. (0 < n) × (n ≤ 1073741824)))) }
     ensures most { IfOk result (λ o. IfSome o
         (λ s. amount s.place ≤ amount place + element.1)) }
 {
@@ -181,12 +181,12 @@ fn cluster_child<R: ByteIn>(
     pass_on(input, size, place)
 }
 
-/// The CRC-32 of a Cluster. `Checksum` where nothing stands after it and it is not the sum of that.
+/// The CRC-32 of a Cluster. `Checksum` if nothing comes after it and it is not the sum of that.
 fn read_crc<R: ByteIn>(input: &mut R, place: Place) -> Result<Option<Step>, FileFault>
     ensures answer { Answers (λ (s : Option Step). s) (crc_read place)
         (passage R.remaining R.failures input.old input.new) result }
     ensures sized { IfOk result (λ o. IfSome o (λ s. IfSome s.frame
-        (λ n. (0 < n) × (n ≤ 67108864)))) }
+        (λ n. (0 < n) × (n ≤ 1073741824)))) }
     ensures same { IfOk result (λ o. IfSome o (λ s. amount s.place ≡ amount place)) }
 {
     let mut stated = [0u8; 4];
@@ -212,7 +212,7 @@ fn first_child<R: ByteIn>(
         (first_child track element.0 element.1 place)
         (passage R.remaining R.failures input.old input.new) result }
     ensures sized { IfOk result (λ o. IfSome o (λ s. IfSome s.frame
-        (λ n. (0 < n) × (n ≤ 67108864)))) }
+        (λ n. (0 < n) × (n ≤ 1073741824)))) }
     ensures most { IfOk result (λ o. IfSome o
         (λ s. amount s.place ≤ amount place + element.1)) }
 {
@@ -222,7 +222,7 @@ fn first_child<R: ByteIn>(
     cluster_child(input, track, element, summed_at(place, Sum::Absent))
 }
 
-/// An element of a Cluster, after its header. `BadElement` where its size is unknown.
+/// An element of a Cluster, after its header. `BadElement` if its size is unknown.
 #[tactic(auto, unfolding(crate::specs::Segments::known_child))]
 fn known_child<R: ByteIn>(
     input: &mut R,
@@ -235,7 +235,7 @@ fn known_child<R: ByteIn>(
         (known_child track element.ident place element.size)
         (passage R.remaining R.failures input.old input.new) result }
     ensures sized { IfOk result (λ o. IfSome o (λ s. IfSome s.frame
-        (λ n. (0 < n) × (n ≤ 67108864)))) }
+        (λ n. (0 < n) × (n ≤ 1073741824)))) }
     ensures most { IfOk result (λ o. IfSome o
         (λ s. amount s.place ≤ amount place + bytes_of element.size)) }
 {
@@ -260,7 +260,7 @@ fn read_cluster<R: ByteIn>(
     ensures answer { Answers (λ (s : Option Step). s) (cluster_read track place)
         (passage R.remaining R.failures input.old input.new) result }
     ensures sized { IfOk result (λ o. IfSome o (λ s. IfSome s.frame
-        (λ n. (0 < n) × (n ≤ 67108864)))) }
+        (λ n. (0 < n) × (n ≤ 1073741824)))) }
     ensures less { IfOk result (λ o. IfSome o (λ s. amount s.place < amount place)) }
 {
     let mut sum = place.sum;
@@ -270,7 +270,7 @@ fn read_cluster<R: ByteIn>(
 
 /// An element of a Segment that holds no frames, of so many bytes, after its header.
 ///
-/// `BadElement` where it may not stand there, and then as `pass_content`.
+/// `BadElement` if it may not stand there, and then as `pass_content`.
 #[tactic(auto, unfolding(crate::specs::Segments::other_read))]
 pub(crate) fn pass_other<R: ByteIn>(
     input: &mut R,
@@ -283,7 +283,7 @@ pub(crate) fn pass_other<R: ByteIn>(
     ensures answer { Answers (λ (s : Option Step). s) (other_read ident size place)
         (passage R.remaining R.failures input.old input.new) result }
     ensures sized { IfOk result (λ o. IfSome o (λ s. IfSome s.frame
-        (λ n. (0 < n) × (n ≤ 67108864)))) }
+        (λ n. (0 < n) × (n ≤ 1073741824)))) }
     ensures same { IfOk result (λ o. IfSome o (λ s. amount s.place ≡ amount place)) }
 {
     if is_section(ident) {
@@ -313,7 +313,7 @@ fn sized_child<R: ByteIn>(
         (segment_child track element.0 place (Some element.1))
         (passage R.remaining R.failures input.old input.new) result }
     ensures sized { IfOk result (λ o. IfSome o (λ s. IfSome s.frame
-        (λ n. (0 < n) × (n ≤ 67108864)))) }
+        (λ n. (0 < n) × (n ≤ 1073741824)))) }
     ensures most { IfOk result (λ o. IfSome o
         (λ s. amount s.place ≤ amount place + element.1)) }
 {
@@ -332,7 +332,7 @@ fn sized_child<R: ByteIn>(
 
 /// An element of a Segment, after its header.
 ///
-/// `BadElement` where its size is unknown and it is no Cluster, or where it may not stand there.
+/// `BadElement` if its size is unknown and it is no Cluster, or if it may not stand there.
 #[tactic(auto, unfolding(crate::specs::Segments::segment_child))]
 fn segment_child<R: ByteIn>(
     input: &mut R,
@@ -346,7 +346,7 @@ fn segment_child<R: ByteIn>(
         (segment_child track element.ident place element.size)
         (passage R.remaining R.failures input.old input.new) result }
     ensures sized { IfOk result (λ o. IfSome o (λ s. IfSome s.frame
-        (λ n. (0 < n) × (n ≤ 67108864)))) }
+        (λ n. (0 < n) × (n ≤ 1073741824)))) }
     ensures most { IfOk result (λ o. IfSome o
         (λ s. amount s.place ≤ amount place + bytes_of element.size)) }
 {
@@ -396,7 +396,7 @@ fn read_segment<R: ByteIn>(
     ensures answer { AnswersOrNone (λ (s : Option Step). s) (segment_read track place)
         (passage R.remaining R.failures input.old input.new) result }
     ensures sized { IfOk result (λ o. IfSome o (λ s. IfSome s.frame
-        (λ n. (0 < n) × (n ≤ 67108864)))) }
+        (λ n. (0 < n) × (n ≤ 1073741824)))) }
     ensures less { IfOk result (λ o. IfSome o (λ s. amount s.place < amount place)) }
 {
     let Some(element) = next_header(input, place)? else {
@@ -416,7 +416,7 @@ pub(crate) fn step<R: ByteIn>(
     ensures answer { AnswersOrNone (λ (s : Option Step). s) (step_read track place)
         (passage R.remaining R.failures input.old input.new) result }
     ensures sized { IfOk result (λ o. IfSome o (λ s. IfSome s.frame
-        (λ n. (0 < n) × (n ≤ 67108864)))) }
+        (λ n. (0 < n) × (n ≤ 1073741824)))) }
     ensures less { IfOk result (λ o. IfSome o (λ s. amount s.place < amount place)) }
 {
     if place.group > 0 {

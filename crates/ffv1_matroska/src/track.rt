@@ -4,12 +4,15 @@ ghost use Rattle.std.specs.Prelude.{◌≡◌, ◌≤◌, IfOk, IfSome, length, 
 ghost use Rattle.ffv1_ebml.specs.Children.{slices};
 ghost use Rattle.ffv1_matroska.specs.Internal.{contents, track_found, tracks};
 ghost use Rattle.ffv1_matroska.specs.Rates.{greatest};
+ghost use Rattle.ffv1_reads.specs.Bitmap.{record_end};
+ghost use Rattle.ffv1_matroska.specs.Tracks.{format_record};
 ghost use Rattle.ffv1_matroska.specs.Tracks.{content_at, is_format, number_at, record_in};
 ghost use Rattle.ffv1_matroska.specs.Tracks.{first_track, known_in, known_up_to, known_with};
 ghost use Rattle.ffv1_matroska.specs.Tracks.{record_of, track_at, track_in, track_of, with_number};
-ghost use Rattle.ffv1_matroska.specs.Blocks.{is_unknown};
+ghost use Rattle.ffv1_matroska.specs.Blocks.{bit_of, is_unknown};
 
 use crate::rate::rate_of;
+use byteorder::{ByteOrder, LittleEndian};
 use ffv1_ebml::{Child, find, first_child, judge, number, text};
 use ffv1_reads::FileFault;
 
@@ -39,7 +42,7 @@ pub(crate) struct TrackNumbers {
     /// The number of the track that is read.
     pub(crate) number: u64,
     /// The numbers of all tracks, of those up to 127: the sum of the powers of two that have them
-    /// as exponents.
+    /// as exponents; and 1 where a number is above that.
     pub(crate) known: u128,
 }
 
@@ -64,7 +67,7 @@ pub(crate) struct Numbers {
     pub(crate) scale: u32,
 }
 
-/// The number that the first element with this ID holds, and 0 where there is none.
+/// The number that the first element with this ID holds, and 0 if there is none.
 fn number_at(content: &[u8], ident: u32) -> Result<u64, FileFault>
     ensures { result ≡ number_at ident content.now }
 {
@@ -74,7 +77,7 @@ fn number_at(content: &[u8], ident: u32) -> Result<u64, FileFault>
     }
 }
 
-/// The content of the first element with this ID, and no bytes where there is none.
+/// The content of the first element with this ID, and no bytes if there is none.
 pub(crate) fn content_at(content: &[u8], ident: u32) -> Result<&[u8], FileFault>
     ensures value { contents result ≡ content_at ident content.now }
     ensures short { IfOk result (λ s. length s.now ≤ length content.now) }
@@ -92,7 +95,28 @@ fn is_format(format: &[u8]) -> bool
     format.len() >= 40 && &format[16..20] == b"FFV1".as_slice()
 }
 
-/// The configuration record of an entry of this codec, where that is FFV1.
+/// Where the record ends in a format of so many bytes, of which the first number is this one.
+fn record_end(says: u32, len: usize) -> usize
+    requires { 40 ≤ len }
+    ensures value { result ≡ record_end says len }
+    ensures least { 40 ≤ result }
+    ensures most { result ≤ len }
+{
+    let says = says as usize;
+    if 40 < says && says < len { says } else { len }
+}
+
+/// The configuration record of such a format.
+fn format_record(format: &[u8]) -> &[u8]
+    requires { 40 ≤ length format.now }
+    ensures value { result.now ≡ format_record format.now }
+    ensures short { length result.now ≤ length format.now }
+{
+    let end = record_end(LittleEndian::read_u32(format), format.len());
+    &format[40..end]
+}
+
+/// The configuration record of an entry of this codec, if that is FFV1.
 fn record_of<'a>(codec: &[u8], content: &'a [u8]) -> Result<Option<&'a [u8]>, FileFault>
     ensures value { slices result ≡ record_of codec.now content.now }
     ensures short { IfOk result (λ o. IfSome o (λ s. length s.now ≤ length content.now)) }
@@ -106,12 +130,12 @@ fn record_of<'a>(codec: &[u8], content: &'a [u8]) -> Result<Option<&'a [u8]>, Fi
     }
     let format = content_at(content, CODEC_PRIVATE)?;
     if is_format(format) {
-        return Ok(Some(&format[40..]));
+        return Ok(Some(format_record(format)));
     }
     Ok(None)
 }
 
-/// The configuration record of an entry, where that is FFV1 video.
+/// The configuration record of an entry, if that is FFV1 video.
 #[tactic(auto, unfolding(crate::specs::Tracks::record_in))]
 fn record_in(content: &[u8]) -> Result<Option<&[u8]>, FileFault>
     ensures value { slices result ≡ record_in content.now }
@@ -155,7 +179,7 @@ fn track_of<'a>(content: &[u8], config_record: &'a [u8]) -> Result<Track<'a>, Fi
     })
 }
 
-/// The track of an element of Tracks, where that is an entry of FFV1 video.
+/// The track of an element of Tracks, if that is an entry of FFV1 video.
 #[tactic(auto, unfolding(crate::specs::Tracks::track_at))]
 fn track_at<'a>(child: &Child<'a>) -> Result<Option<Track<'a>>, FileFault>
     ensures value { track_found result ≡ track_at child.now.ident child.now.content.now }
@@ -174,10 +198,10 @@ fn track_at<'a>(child: &Child<'a>) -> Result<Option<Track<'a>>, FileFault>
 
 /// The first entry of FFV1 video of the content of Tracks.
 ///
-/// Where its CRC-32 differs, `Checksum`; where no entry is FFV1 video, `NoFfv1`; `Encoded` where
-/// the one that counts has ContentEncodings. `Truncated` and `BadElement` where an element that is
-/// looked at can't be read: those of the content up to the entry that counts, and of an entry those
-/// up to the last of the fields that are looked for, in the order TrackType, CodecID, CodecPrivate,
+/// `Checksum` if its CRC-32 differs. `NoFfv1` if no entry is FFV1 video. `Encoded` if the one that
+/// counts has ContentEncodings. `Truncated` and `BadElement` if an element that is looked at can't
+/// be read: those of the content up to the entry that counts, and of an entry those up to the last
+/// of the fields that are looked for, in the order TrackType, CodecID, CodecPrivate,
 /// ContentEncodings, TrackNumber, DefaultDuration, Video, and in that PixelWidth and PixelHeight. A
 /// field is looked for only while the entry may be one of FFV1 video.
 #[tactic(auto, unfolding(crate::specs::Tracks::first_track))]
@@ -196,12 +220,21 @@ fn first_track(content: &[u8]) -> Result<Track<'_>, FileFault>
     Err(FileFault::NoFfv1)
 }
 
-/// Whether no track has this number, of those up to 127.
+/// The bit that stands for a track's number: the one that it counts up to 127, and the first for
+/// all greater numbers.
+fn bit_of(number: u64) -> u64
+    ensures value { result ≡ bit_of number }
+    ensures most { result ≤ 127 }
+{
+    if number <= 127 { number } else { 0 }
+}
+
+/// Whether no track has this number; of one above 127, whether none has one above that.
 #[tactic(auto, unfolding(crate::specs::Blocks::is_unknown))]
 pub(crate) fn is_unknown(known: u128, number: u64) -> bool
     ensures { result ≡ is_unknown known number }
 {
-    number <= 127 && (known >> number) % 2 == 0
+    (known >> bit_of(number)) % 2 == 0
 }
 
 /// The numbers of tracks, with one more.
@@ -210,13 +243,13 @@ fn with_number(known: u128, number: u64) -> u128
     ensures { result ≡ with_number known number }
 {
     if is_unknown(known, number) {
-        known + (1u128 << number)
+        known + (1u128 << bit_of(number))
     } else {
         known
     }
 }
 
-/// The same with the number of an element of Tracks, where it is an entry.
+/// The same with the number of an element of Tracks, if it is an entry.
 fn known_with(known: u128, child: &Child<'_>) -> Result<u128, FileFault>
     ensures { result ≡ known_with known child.now.ident child.now.content.now }
 {

@@ -39,7 +39,7 @@ pub refused_by : {X : Type 0} (reading : Reading X) (old new : Option (List ℕ)
 refused_by reading old new before after fault.Read why = why
 refused_by reading old new before after f why = why
 
--- where wants and faults of a reading are those of another one, so are its refusals
+-- if a reading has the wants and faults of another one, it has its refusals too
 module _ {X Y : Type 0} {r : Reading X} {s : Reading Y} {old now new : Option (List ℕ)} {l m : ℕ} (n : ℕ) (same : m ≡ l) (wants : Wants r now new → Wants s old new) (lacks : Lacks r now new Kept → Lacks s old new Kept) (faults : (f : FileFault) → Faults r now new f → Faults s old new f) where
   map_by : (c : Cause) (f : FileFault) → RefusedBy c r now new m n f → RefusedBy c s old new l n f
   map_by OfRead f why = (rw (← same) why.0, wants why.1)

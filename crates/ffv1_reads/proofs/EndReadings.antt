@@ -35,7 +35,7 @@ Stays k = (text : List ℕ) → k None text ≡ Ok (None, text)
 halts_then : {X Y : Type 0} (r : Reading (Option Y)) (k : Option Y → Reading (Option X)) (old new : Option (List ℕ)) → Stays k → Halts r old new → Halts (r >>= k) old new
 halts_then r k old new stays stops = record { bytes = stops.bytes; consumed = stops.consumed; is = ap (λ z. read_on z k) stops.is ∙ stays [] }
 
--- a refusal, where there is more
+-- a refusal, if there is more
 pub refused_none : {X : Type 0} (reading : Reading (Option X)) (old new : Option (List ℕ)) (before after : ℕ) (f : FileFault) → Refused reading old new before after f → RefusedOrNone reading old new before after f
 refused_none reading old new before after fault.Read why = (why.0, inl why.1)
 refused_none reading old new before after f why = why

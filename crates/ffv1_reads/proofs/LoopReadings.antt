@@ -97,7 +97,7 @@ fill_begins (Some text) None items x more size room h some = absurd h
 fill_begins (Some text) (Some left) items x more size room h some =
     (length items + some.0, omega (arith, room, some.1), some.2 ∙ sym (rw h (take-append-add items left some.0)))
 
--- the bytes that were read after others, where they are fewer than were wanted
+-- the bytes that were read after others, if they are fewer than were wanted
 pub appends_some : (old new : Option (List ℕ)) (items buf : List ℕ) (done n m : ℕ) → take done buf ≡ items → done + n ≤ length buf → Fills old new n (drop done buf) → n ≤ m → AppendsSome old m items (take (done + n) buf)
 appends_some None new items buf done n m kept bound read most = tt
 appends_some (Some text) None items buf done n m kept bound read most = absurd read.0

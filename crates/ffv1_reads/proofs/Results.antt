@@ -20,7 +20,7 @@ pub read_on_ok : {X Y : Type 0} (z : Result (X × List ℕ) Stop) (k : X → Rea
 read_on_ok (Ok p) k w h = (p, refl, h)
 read_on_ok (Err f) k w h = absurd (cc)
 
--- the front of bytes, and what stands after it
+-- the front of bytes, and what comes after it
 pub cut_front : (n : ℕ) (xs ys : List ℕ) → length xs ≡ n → take n (xs ++ ys) ≡ xs
 cut_front n xs ys long = rw (← long) (take-append_seam xs ys)
 

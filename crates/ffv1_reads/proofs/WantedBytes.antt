@@ -1,4 +1,4 @@
--- Bytes that are wanted: what was read where they came, and that they come where they stand.
+-- Bytes that are wanted: what was read if they came, and that they come if they are there.
 use Rattle.std.proofs.Common.{◌≡◌, ℕ, ◌≤◌, nat_lt, Bool, true, false, Ok, List, ◌++◌, length, take, drop, sym, subst, arith, refl, length-append, length-take, ◌∙◌}
 use Rattle.std.proofs.lemmas.Bool.{le-ltb, ltb-false}
 use Rattle.std.proofs.lemmas.List.{take-append-drop}

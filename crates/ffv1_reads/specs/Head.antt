@@ -1,5 +1,5 @@
--- The head of a file, apart from where its record lies in memory; and how long what a file has may
--- be.
+-- The head of a file, apart from where its record lies in memory; and how long the parts of a file
+-- may be.
 use Rattle.std.specs.Prelude.{ℕ, List}
 use Rattle.ffv1_reads.specs.declared.head.FileHead.{FileHead}
 
@@ -19,6 +19,11 @@ head_of h = record {
   config_record = h.config_record.items;
 }
 
--- the most bytes of a frame, and of what a container says before its frames, that are read: 64 MiB
+-- the most bytes of what a container says before its frames that are read, and of a frame where no
+-- more than the first list movi of an AVI is: 64 MiB
 abbrev pub limit : ℕ
 limit = 67108864
+
+-- the most bytes of a frame that are read where a file is read whole: 1 GiB
+abbrev pub frame_limit : ℕ
+frame_limit = 1073741824

@@ -1,4 +1,5 @@
 pub mod Head
+pub mod Bitmap
 pub mod Reads
 pub mod Room
 pub mod Ends

@@ -10,7 +10,7 @@ use Rattle.ffv1_reads.specs.Reads.{EndsEarly, Met, Reading}
 use Rattle.ffv1_reads.specs.declared.fault.FileFault.{FileFault}
 use Rattle.ffv1_reads.specs.declared.fault.FileFault.TheVariants as fault
 
--- elements, each by its bytes, lead from one place to another: each is read whole, whatever stands
+-- elements, each by its bytes, lead from one place to another: each is read whole, whatever comes
 -- after it
 abbrev pub Leads : {S : Type 0} → (S → Reading S) → S → List (List ℕ) → S → Type 0
 Leads element from [] to = to ≡ from
@@ -41,7 +41,7 @@ pub record StopsAfter {S : Type 0} (element : S → Reading S) (from : S) (p : P
 abbrev pub offset_after : ℕ → ℕ → ℕ
 offset_after offset count = min (offset + count) (2 ^ 64 - 1)
 
--- so many bytes were read, and whatever stands after them, they read as this value
+-- so many bytes were read, and whatever comes after them, they read as this value
 pub record ReadsCounted {X : Type 0} (reading : Reading X) (old new : Option (List ℕ)) (x : X)
     (count : ℕ) : Type 0 where
   pub bytes : List ℕ

@@ -14,7 +14,7 @@ pub data Want : Type 0 where
   Looked : Want
   Kept : Want
 
--- why bytes read as no value: they end where more are wanted; or they have this fault, and those
+-- why bytes read as no value: they end when more are wanted; or they have this fault, and those
 -- after it are left
 pub data Stop : Type 0 where
   Short : Want → Stop
@@ -54,14 +54,14 @@ taken n = wanted Looked n
 abbrev pub passed : ℕ → Reading (Unit {0})
 passed n = λ text. if nat_lt (length text) n then Err (Short Looked) else Ok (tt, drop n text)
 
--- bytes were read, and whatever stands after them, they read as this value
+-- bytes were read, and whatever comes after them, they read as this value
 pub record Read {X : Type 0} (reading : Reading X) (old new : Option (List ℕ))
     (x : X) : Type 0 where
   pub bytes : List ℕ
   pub consumed : Consumes old new bytes
   pub is : (rest : List ℕ) → reading (bytes ++ rest) ≡ Ok (x, rest)
 
--- bytes were read, and whatever stands after them, they have this fault
+-- bytes were read, and whatever comes after them, they have this fault
 pub record Faults {X : Type 0} (reading : Reading X) (old new : Option (List ℕ))
     (f : FileFault) : Type 0 where
   pub bytes : List ℕ
@@ -79,13 +79,13 @@ pub record Lacks {X : Type 0} (reading : Reading X) (old new : Option (List ℕ)
 abbrev pub Wants : {X : Type 0} → Reading X → Option (List ℕ) → Option (List ℕ) → Type 0
 Wants reading old new = (w : Want) × Lacks reading old new w
 
--- bytes that end where more are wanted
+-- bytes that end when more are wanted
 abbrev pub EndsEarly : {X : Type 0} → Reading X → List ℕ → Type 0
 EndsEarly reading bytes = (w : Want) × (reading bytes ≡ Err (Short w))
 
--- why a call was refused, with what is left after the bytes that it has read. A read failed, which
--- was counted, where more bytes were wanted; memory was refused where more were wanted to be kept;
--- the bytes ended where more were wanted; or those that were read have the fault
+-- why a call was refused, with what is left after the bytes that it has read. A read failed, and
+-- was counted, when more bytes were wanted; memory was refused when more were wanted to be kept;
+-- the bytes ended when more were wanted; or those that were read have the fault
 abbrev pub Refused : {X : Type 0} → Reading X → Option (List ℕ) → Option (List ℕ) → ℕ → ℕ →
     FileFault → Type 0
 Refused reading old new before after fault.Read = (after ≡ one_more before) × Wants reading old new
@@ -108,12 +108,12 @@ Answers view reading p (Err f) = Refused reading p.old p.new p.before p.after f
 abbrev pub appended : List ℕ → ℕ → Reading (List ℕ)
 appended bytes n = wanted Kept n >>= λ more. given (bytes ++ more)
 
--- bytes grew by a beginning of the next so many, where those are known
+-- bytes grew by a beginning of the next so many, if those are known
 abbrev pub AppendsSome : Option (List ℕ) → ℕ → List ℕ → List ℕ → Type 0
 AppendsSome None n old new = ⊤
 AppendsSome (Some text) n old new = (k : ℕ) × (k ≤ n) × (new ≡ old ++ take k text)
 
--- the bytes are a beginning of the next so many, where those are known
+-- the bytes are a beginning of the next so many, if those are known
 abbrev pub Begins : Option (List ℕ) → ℕ → List ℕ → Type 0
 Begins None n bytes = ⊤
 Begins (Some text) n bytes = (k : ℕ) × (k ≤ n) × (bytes ≡ take k text)

@@ -2,7 +2,7 @@
 use Rattle.std.specs.Prelude.{ℕ, ◌+◌, ◌*◌, ◌≤◌, max, List, length, Option, Result, MatchResult}
 use Rattle.std.specs.Io.KnownBytes.{Consumes}
 
--- for as many bytes as it had room for, or as it holds, if that is more; after a fault at most for
+-- for as many bytes as it had room for, or as it holds, if that is more. After a fault at most for
 -- as many as before, or for twice those that it holds and 65536: no growth was for more bytes than
 -- had been read and 65536
 abbrev pub HasRoom : {Y Z : Type 0} → ℕ → ℕ → ℕ → Result Y Z → Type 0

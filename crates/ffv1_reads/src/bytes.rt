@@ -17,8 +17,8 @@ use std::alloc::Allocator;
 
 /// Fills `buf`.
 ///
-/// `Truncated` where the input ends before, `Read` where a read failed; `buf` may hold a beginning
-/// of the bytes then.
+/// `Truncated` if the input ends before that, `Read` if a read failed. `buf` may then hold a
+/// beginning of the bytes.
 pub fn take<R: ByteIn>(input: &mut R, buf: &mut [u8]) -> Result<(), FileFault>
     ensures { Answers (λ (_ : Unit {0}). buf.new) (taken (length buf.old))
         (passage R.remaining R.failures input.old input.new) result }
@@ -33,7 +33,7 @@ pub fn take<R: ByteIn>(input: &mut R, buf: &mut [u8]) -> Result<(), FileFault>
     }
 }
 
-/// Fills `buf`, which has room for a byte at least: first by a byte that was read before, where
+/// Fills `buf`, which has room for a byte at least: a byte that was read before comes first, if
 /// there is one. Faults as of `take`.
 pub fn take_after<R: ByteIn>(
     first: Option<u8>,
@@ -54,7 +54,7 @@ pub fn take_after<R: ByteIn>(
 
 /// Passes so many bytes.
 ///
-/// `Truncated` where the input ends before, `Read` where a read failed; those before are read.
+/// `Truncated` if the input ends before that, `Read` if a read failed. The bytes before are read.
 pub fn pass<R: ByteIn>(input: &mut R, count: u64) -> Result<(), FileFault>
     ensures { Answers (λ (_ : Unit {0}). tt) (passed count)
         (passage R.remaining R.failures input.old input.new) result }
@@ -72,7 +72,7 @@ pub fn pass<R: ByteIn>(input: &mut R, count: u64) -> Result<(), FileFault>
 /// The most bytes that room is made for beyond as many as were read.
 const ROOM: usize = 65536;
 
-/// Fills the bytes from an offset on, and answers how many were read: fewer only where the input
+/// Fills the bytes from an offset on, and answers how many were read: fewer only if the input
 /// has ended.
 fn fill_from<R: ByteIn>(input: &mut R, done: usize, bytes: &mut [u8]) -> Result<usize, Failed>
     requires { done ≤ length bytes.old }
@@ -101,8 +101,8 @@ fn push_zeros<A: Allocator>(bytes: &mut Vec<u8, A>, count: usize)
 /// Reads `more` bytes, at least one, after those that the vector has. It has room then for as many
 /// as it had, or for these and those before, if that is more.
 ///
-/// `Truncated` where the input ends before, `Read` where a read failed, `OutOfMemory` where memory
-/// was refused for them; after a fault the vector holds a beginning of them after the others.
+/// `Truncated` if the input ends before that, `Read` if a read failed, `OutOfMemory` if memory was
+/// refused for them. After a fault the vector holds a beginning of them after the others.
 pub fn append<R: ByteIn, A: Allocator>(
     input: &mut R,
     more: usize,
@@ -138,11 +138,12 @@ pub fn append<R: ByteIn, A: Allocator>(
 
 /// Reads `size` bytes in place of what the vector has. Room is made piece by piece, each time for
 /// at most as many bytes as were read so far and 65536 more, and never beyond `size`. Then the
-/// vector has room for as many as it had, or as it holds, if that is more; after a fault at most
-/// for as many as it had, or for the lesser of `size` and of twice those that it holds and 65536.
+/// vector has room for as many as it had, or as it holds, if that is more. After a fault it has
+/// room at most for as many as it had, or for the lesser of `size` and of twice those that it holds
+/// and 65536.
 ///
-/// `Truncated` where the input ends before, `Read` where a read failed, `OutOfMemory` where memory
-/// was refused for the next of them; after a fault the vector holds a beginning of the bytes.
+/// `Truncated` if the input ends before that, `Read` if a read failed, `OutOfMemory` if memory was
+/// refused for the next of them. After a fault the vector holds a beginning of the bytes.
 pub fn fill<R: ByteIn, A: Allocator>(
     input: &mut R,
     size: usize,

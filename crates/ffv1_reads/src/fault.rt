@@ -23,7 +23,8 @@ pub enum FileFault {
     /// A chunk or an element does not fit in what it stands in, or the input ends inside it.
     #[error("52 Truncated")]
     Truncated,
-    /// A frame, or what holds the configuration record, is longer than 67108864 bytes.
+    /// What holds the configuration record is longer than 67108864 bytes; or a frame is longer than
+    /// 1073741824, or than 67108864 where no more than the first list `movi` of an AVI is read.
     #[error("53 ChunkTooLong")]
     ChunkTooLong,
     /// A frame has no bytes.
@@ -41,8 +42,8 @@ pub enum FileFault {
     /// The file is no Matroska of a version that is read.
     #[error("80 NotMatroska")]
     NotMatroska,
-    /// An identifier or a number of an element is longer than it may be, its size is unknown where
-    /// none may be, or it may not stand there.
+    /// An identifier or a number of an element is longer than it may be, its size is unknown if
+    /// that is not allowed, or the element may not stand there.
     #[error("81 BadElement")]
     BadElement,
     /// A Cluster, or the end of the Segment, comes before any Tracks.

@@ -8,11 +8,11 @@ ghost use Rattle.ffv1_reads.specs.Offsets.{FaultAt, Leads, StopsAfter};
 ghost use Rattle.ffv1_reads.specs.Reads.{Faults, Lacks, Met, Read, Reading, Short, Want};
 ghost use Rattle.ffv1_reads.specs.declared.fault.FileFault.{FileFault};
 
-/// Where the bytes are known, a value that a call answers is what they read as, and a fault is the
-/// first that they have; what is left is known too. Where a read failed, memory was refused or the
-/// bytes ended, those that were read end where more are wanted. Where the end of the bytes is an
-/// answer, all of them read as that; and those that were read before a read failed there do. So it
-/// is where their end has a fault.
+/// If the bytes are known, a value that a call answers is what they read as, and a fault is the
+/// first that they have; what is left is known too. If a read failed, memory was refused or the
+/// bytes ended, those that were read end when more are wanted. If the end of the bytes is an
+/// answer, all of them read as that; and those that were read before a read failed there do. The
+/// same holds if their end has a fault.
 pub fn known_bytes_determine_the_answer<X>()
     ensures read { (reading : Reading X) (text : List ℕ) (new : Option (List ℕ)) (x : X) →
         Read reading (Some text) new x →
@@ -39,11 +39,11 @@ pub fn known_bytes_determine_the_answer<X>()
         × (reading bytes ≡ Err (Met f [])) }
 {}
 
-/// Where the bytes are known, a call that was refused in an element after others, other than by a
-/// read that failed or by memory, says where the fault is: the bytes begin with elements of so many
-/// bytes that are read whole, and the next one has the fault. That is the first fault of those
-/// bytes, and the only place that they have one at: no other fault comes after as many bytes, nor
-/// this one after another number of them.
+/// If the bytes are known, a call that was refused in an element after others, other than by a
+/// read that failed or by memory, says where the fault is. The bytes begin with elements of so many
+/// bytes that are read whole, and the next one has the fault. It is the first fault of those bytes,
+/// and the only place that they have one at: no other fault comes after as many bytes, nor this one
+/// after another number of them.
 pub fn refusal_says_where_the_fault_is<S>()
     ensures known { (element : S → Reading S) (from : S) (text : List ℕ) (new : Option (List ℕ))
         (before after : ℕ) (f : FileFault) (to : S) (count : ℕ) →

@@ -4,9 +4,9 @@
 //! answers.
 //!
 //! A *reading* is a function on bytes: the value that they read as and what is left of them, or why
-//! they read as none (`specs/Reads`). A call answers by a reading: where it gives a value, the
-//! bytes that it read are that value, whatever stands after them; a fault is the first that they
-//! have; and a read fails, memory is refused and the input ends only where more bytes are wanted.
+//! they read as none (`specs/Reads`). A call answers by a reading: if it gives a value, the bytes
+//! that it read are that value, whatever comes after them. A fault is the first that they have. A
+//! read fails, memory is refused and the input ends only when more bytes are wanted.
 //!
 //! ```text
 //! let mut name = [0u8; 4];
@@ -23,4 +23,4 @@ pub mod laws;
 
 pub use bytes::{append, fill, pass, take, take_after};
 pub use fault::FileFault;
-pub use head::{FileHead, LIMIT};
+pub use head::{FRAME_LIMIT, FileHead, LIMIT};

@@ -3,7 +3,7 @@
 use crate::fields::{Count, bytes, counted, number};
 use crate::matroska::number_of;
 use anyhow::{Context, Result};
-use ffv1_matroska::{MatroskaWriter, Shown};
+use ffv1_matroska::{CodecId, MatroskaWriter, TrackEntry};
 use ffv1_reads::FileHead;
 use ffv1_sum::crc32;
 use ffv1_wire::{ByteOut, ToMemory, ToWrite};
@@ -16,7 +16,7 @@ use std::str::SplitWhitespace;
 #[derive(Drop)]
 struct Given<'a> {
     head: FileHead,
-    shown: Shown,
+    details: TrackEntry,
     seed: u32,
     runs: &'a str,
 }
@@ -38,11 +38,12 @@ fn head(alloc: Global, fields: &mut SplitWhitespace<'_>) -> Result<FileHead> {
 }
 
 /// The structure and the aspect of the next fields.
-fn shown(fields: &mut SplitWhitespace<'_>) -> Result<Shown> {
+fn details(fields: &mut SplitWhitespace<'_>) -> Result<TrackEntry> {
     let structure = u8::try_from(number(fields)?)?;
     let sar_num = u16::try_from(number(fields)?)?;
     let sar_den = u16::try_from(number(fields)?)?;
-    Ok(Shown {
+    Ok(TrackEntry {
+        codec_id: CodecId::Native,
         structure,
         sar_num,
         sar_den,
@@ -137,14 +138,14 @@ fn is_written(
     given: &Given<'_>,
     fault: u32,
 ) -> Result<bool> {
-    let writer = match MatroskaWriter::new(alloc, &given.head, given.shown) {
+    let writer = match MatroskaWriter::new(alloc, &given.head, given.details) {
         Ok(writer) => writer,
         Err(met) => return Ok(number_of(met) == fault),
     };
     if fault != 0 || !is_finished(alloc, fields, writer, given)? {
         return Ok(false);
     }
-    let writer = MatroskaWriter::new(alloc, &given.head, given.shown)?;
+    let writer = MatroskaWriter::new(alloc, &given.head, given.details)?;
     is_open(alloc, fields, writer, given)
 }
 
@@ -153,12 +154,12 @@ fn case(alloc: Global, line: &str) -> Result<bool> {
     let (said, runs) = line.split_once(";").context("frames are missing")?;
     let mut fields = said.split_whitespace();
     let head = head(alloc, &mut fields)?;
-    let shown = shown(&mut fields)?;
+    let details = details(&mut fields)?;
     let fault = number(&mut fields)?;
     let seed = number(&mut fields)?;
     let given = Given {
         head,
-        shown,
+        details,
         seed,
         runs,
     };

@@ -9,12 +9,12 @@ use Rattle.clap.proofs.OnLiterals.{clap_on_literals}
 use Rattle.clap.specs.Walk.{Rule, Text, answers_to, nothing_held, rows_after}
 use Rattle.clap.specs.Simple.{Shape, built, label_of, new_rule, subcommand_of}
 use Rattle.clap.specs.Takes.{level_passes, takes}
-use Rattle.ffv1_words.specs.CommandLine.{AreContainers, AreContexts, Words, line_app}
-use Rattle.ffv1_words.specs.Order.{Names, NamesChoice, names_no_grid}
+use Rattle.ffv1_words.specs.CommandLine.{AreCodecIds, AreContainers, AreContexts, Words, line_app}
+use Rattle.ffv1_words.specs.Order.{Names, NamesChoice, is_given, names_no_grid}
 use Rattle.ffv1_words.specs.declared.order.Choice.{Choice}
 use Rattle.ffv1_words.specs.declared.order.Order.{Order}
 use Rattle.ffv1_words.specs.declared.order.Order.TheVariants as order
-use Rattle.ffv1_words.proofs.TakenNames.{bit_named, coder_named, container_named, contexts_named, flag_named, number_named}
+use Rattle.ffv1_words.proofs.TakenNames.{bit_named, codec_id_named, coder_named, container_named, contexts_named, flag_named, number_named}
 use Rattle.ffv1_words.proofs.TakenOrder.{taken_level}
 use Rattle.ffv1_words.proofs.TakenRows.{either}
 use Rattle.ffv1_words.proofs.UsualArguments.{value_left}
@@ -53,9 +53,9 @@ NamesOrder s = (rest : List Text) → level_passes s [] nothing_held rest false 
 abbrev rule_at : Shape → ℕ → Rule
 rule_at s k = slice_index_or s.rules k (new_rule [])
 
-module _ (contexts containers : Words) (are : AreContexts contexts) (are_containers : AreContainers containers) where
+module _ (contexts containers codec_ids : Words) (are : AreContexts contexts) (are_containers : AreContainers containers) (are_codec_ids : AreCodecIds codec_ids) where
   abbrev command : ℕ → Shape
-  command k = slice_index_or (built (line_app contexts containers)).subs k (line_app contexts containers).top
+  command k = slice_index_or (built (line_app contexts containers codec_ids)).subs k (line_app contexts containers codec_ids).top
 
   -- ---- pack
 
@@ -73,7 +73,9 @@ module _ (contexts containers : Words) (are : AreContexts contexts) (are_contain
       let ec = value_left pack rest (rule_at pack 6) refl refl (inr (inr (inr (inr (inr (inr (inl refl))))))) refl e in
       let rate = value_left pack rest (rule_at pack 7) refl refl (inr (inr (inr (inr (inr (inr (inr (inl refl)))))))) refl e in
       let scale = value_left pack rest (rule_at pack 8) refl refl (inr (inr (inr (inr (inr (inr (inr (inr (inl refl))))))))) refl e in
-      let compared = value_left pack rest (rule_at pack 10) refl refl (inr (inr (inr (inr (inr (inr (inr (inr (inr (inr (inl refl))))))))))) refl e in
+      let compared = value_left pack rest (rule_at pack 11) refl refl (inr (inr (inr (inr (inr (inr (inr (inr (inr (inr (inr (inl refl)))))))))))) refl e in
+      let called = value_left pack rest (rule_at pack 10) refl refl (inr (inr (inr (inr (inr (inr (inr (inr (inr (inr (inl refl))))))))))) refl e in
+      let codec_id = codec_id_named rows (codes "codec-id") codec_ids called.text are_codec_ids called.is called.passes in
       let verify = flag_named rows (codes "verify") compared.text compared.is compared.passes in
       let coder_is = number_named rows (codes "coder") 1 2 coder.text coder.reads coder.passes in
       let coder_of = coder_named rows (codes "coder") coder_is.0 coder_is.1 in
@@ -94,6 +96,8 @@ module _ (contexts containers : Words) (are : AreContexts contexts) (are_contain
           rate = rate_is.0;
           scale = scale_is.0;
           verify = verify.0;
+          codec_id = codec_id.0;
+          codec_id_given = is_given rows (codes "codec-id");
         },
         record {
           coder = coder_of.1;
@@ -105,6 +109,8 @@ module _ (contexts containers : Words) (are : AreContexts contexts) (are_contain
           rate = rate_is.1;
           scale = scale_is.1;
           verify = verify.1;
+          codec_id = codec_id.1;
+          codec_id_given = refl;
         },
       )
 
@@ -116,9 +122,9 @@ module _ (contexts containers : Words) (are : AreContexts contexts) (are_contain
       let choice = pack_choice rest e in
       let holder = value_left pack rest (rule_at pack 9) refl refl (inr (inr (inr (inr (inr (inr (inr (inr (inr (inl refl)))))))))) refl e in
       let container = container_named (rows_after pack.rules [] rest) (codes "container") containers holder.text are_containers holder.is holder.passes in
-      let kept = value_left pack rest (rule_at pack 11) refl refl (inr (inr (inr (inr (inr (inr (inr (inr (inr (inr (inr (inl refl)))))))))))) refl e in
+      let kept = value_left pack rest (rule_at pack 12) refl refl (inr (inr (inr (inr (inr (inr (inr (inr (inr (inr (inr (inr (inl refl))))))))))))) refl e in
       let no_clobber = flag_named (rows_after pack.rules [] rest) (codes "no-clobber") kept.text kept.is kept.passes in
-      let told = value_left pack rest (rule_at pack 12) refl refl (inr (inr (inr (inr (inr (inr (inr (inr (inr (inr (inr (inr (inl refl))))))))))))) refl e in
+      let told = value_left pack rest (rule_at pack 13) refl refl (inr (inr (inr (inr (inr (inr (inr (inr (inr (inr (inr (inr (inr (inl refl)))))))))))))) refl e in
       let progress = flag_named (rows_after pack.rules [] rest) (codes "progress") told.text told.is told.passes in (
         order.Pack (path input.text) (path output.text) choice.0 container.0 no_clobber.0 progress.0,
         (refl, input.is, output.is, choice.1, container.1, no_clobber.1, progress.1),
@@ -196,7 +202,7 @@ module _ (contexts containers : Words) (are : AreContexts contexts) (are_contain
     | inr none ↦ absurd (true≢false (sym none))
   ]
 
-  named : (s : Shape) (word : Text) → IsOneOf s (built (line_app contexts containers)).subs → answers_to word (label_of s) ≡ true → bytes_eq word (codes "help") ≡ false → NamesOrder s
+  named : (s : Shape) (word : Text) → IsOneOf s (built (line_app contexts containers codec_ids)).subs → answers_to word (label_of s) ≡ true → bytes_eq word (codes "help") ≡ false → NamesOrder s
   named s word (inl is) met no_help = subst NamesOrder is pack_named
   named s word (inr (inl is)) met no_help = subst NamesOrder is unpack_named
   named s word (inr (inr (inl is))) met no_help = subst NamesOrder is check_named
@@ -208,10 +214,10 @@ module _ (contexts containers : Words) (are : AreContexts contexts) (are_contain
   named s word (inr (inr (inr (inr (inr (inr (inr none))))))) met no_help = absurd none
 
   -- a line that clap takes names an order
-  pub taken_names : (words : List Text) → takes (line_app contexts containers) words ≡ true → (o : Order) × Names o (subcommand_of (line_app contexts containers) words)
+  pub taken_names : (words : List Text) → takes (line_app contexts containers codec_ids) words ≡ true → (o : Order) × Names o (subcommand_of (line_app contexts containers codec_ids) words)
   unfolding clap_on_literals
   taken_names words e =
-      let level = taken_level (line_app contexts containers) words refl refl e in
-      let met = found_in (λ s. answers_to level.word (label_of s)) (built (line_app contexts containers)).subs level.shape level.found in
+      let level = taken_level (line_app contexts containers codec_ids) words refl refl e in
+      let met = found_in (λ s. answers_to level.word (label_of s)) (built (line_app contexts containers codec_ids)).subs level.shape level.found in
       let got = named level.shape level.word met.0 met.1 level.no_help level.rest level.passes in
       (got.0, subst (Names got.0) (sym level.is) got.1)

@@ -16,8 +16,10 @@ use Rattle.clap.specs.Walk.{Row, Text, first_of, one_of}
 use Rattle.clap.specs.declared.builder.value_parser.ValueParser.TheVariants as parser
 use Rattle.clap.proofs.ValueTestLemmas.{accepts-Accepts}
 use Rattle.clap.proofs.WalkLemmas.{list_any-map}
-use Rattle.ffv1_words.specs.CommandLine.{AreContainers, AreContexts, Words}
-use Rattle.ffv1_words.specs.Order.{NamesFlag, NamesNumber, bit_number, coder_number, container_word, contexts_word}
+use Rattle.ffv1_words.specs.CommandLine.{AreCodecIds, AreContainers, AreContexts, Words}
+use Rattle.ffv1_words.specs.Order.{NamesFlag, NamesNumber, bit_number, codec_id_word, coder_number, container_word, contexts_word}
+use Rattle.ffv1_words.specs.declared.order.CodecIdChoice.{CodecIdChoice}
+use Rattle.ffv1_words.specs.declared.order.CodecIdChoice.TheVariants as codec_id
 use Rattle.ffv1_words.specs.declared.order.CoderChoice.{CoderChoice}
 use Rattle.ffv1_words.specs.declared.order.CoderChoice.TheVariants as coder
 use Rattle.ffv1_words.specs.declared.order.ContainerChoice.{ContainerChoice}
@@ -103,6 +105,16 @@ contexts_named rows id words t are is passes = elim (either (bytes_eq (codes "sm
   | inl small ↦ (false, is ∙ ap Some (sym (is_text (codes "small") t small)))
   | inr more ↦ elim (either (bytes_eq (codes "large") t) false more) [
     | inl large ↦ (true, is ∙ ap Some (sym (is_text (codes "large") t large)))
+    | inr none ↦ absurd (true≢false (sym none))
+  ]
+]
+
+pub codec_id_named : (rows : List Row) (id : Text) (words : Words) (t : Text) → AreCodecIds words → first_of id rows ≡ Some t → accepts false (parser.Names words) t ≡ true
+    → (c : CodecIdChoice) × (first_of id rows ≡ Some (codec_id_word c))
+codec_id_named rows id words t are is passes = elim (either (bytes_eq (codes "native") t) (bytes_eq (codes "vfw") t || false) (among words (codes "native" ∷ codes "vfw" ∷ []) t are passes)) [
+  | inl native ↦ (codec_id.Native, is ∙ ap Some (sym (is_text (codes "native") t native)))
+  | inr more ↦ elim (either (bytes_eq (codes "vfw") t) false more) [
+    | inl vfw ↦ (codec_id.Vfw, is ∙ ap Some (sym (is_text (codes "vfw") t vfw)))
     | inr none ↦ absurd (true≢false (sym none))
   ]
 ]

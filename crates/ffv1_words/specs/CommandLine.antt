@@ -70,6 +70,10 @@ with_pace a = with_rule (with_rule a (number_rule (codes "rate") 1 4294967295 (c
 abbrev pub with_container : Words → App → App
 with_container words a = with_rule a (word_rule (codes "container") words (codes "auto"))
 
+-- what Matroska calls the codec
+abbrev pub with_codec_id : Words → App → App
+with_codec_id words a = with_rule a (word_rule (codes "codec-id") words (codes "native"))
+
 -- each frame is decoded and compared
 abbrev pub with_verify : App → App
 with_verify a = with_rule a (flag_rule (codes "verify"))
@@ -82,10 +86,11 @@ with_progress a = with_rule a (flag_rule (codes "progress"))
 abbrev pub with_no_clobber : App → App
 with_no_clobber a = with_rule a (flag_rule (codes "no-clobber"))
 
-abbrev pub pack_app : Words → Words → App
-pack_app contexts containers =
-    with_progress (with_no_clobber (with_verify (with_container containers
-    (with_pace (with_slices (with_model contexts (two_files (codes "pack"))))))))
+abbrev pub pack_app : Words → Words → Words → App
+pack_app contexts containers codec_ids =
+    with_progress (with_no_clobber (with_verify (with_codec_id codec_ids
+    (with_container containers
+    (with_pace (with_slices (with_model contexts (two_files (codes "pack")))))))))
 
 abbrev pub unpack_app : App
 unpack_app = with_progress (with_no_clobber (two_files (codes "unpack")))
@@ -109,19 +114,19 @@ top_app = record (new_app (codes "ffv1")) {
 }
 
 -- the program with the commands that make a file
-abbrev pub files_app : Words → Words → App
-files_app contexts containers =
-    with_subcommand (with_subcommand top_app (pack_app contexts containers).top) unpack_app.top
+abbrev pub files_app : Words → Words → Words → App
+files_app contexts containers codec_ids = with_subcommand
+    (with_subcommand top_app (pack_app contexts containers codec_ids).top) unpack_app.top
 
 -- and with those that look at some
-abbrev pub looks_app : Words → Words → App
-looks_app contexts containers =
-    with_subcommand (with_subcommand (files_app contexts containers) check_app.top) show_app.top
+abbrev pub looks_app : Words → Words → Words → App
+looks_app contexts containers codec_ids = with_subcommand
+    (with_subcommand (files_app contexts containers codec_ids) check_app.top) show_app.top
 
--- the whole line, by the words that `--contexts` and `--container` take
-abbrev pub line_app : Words → Words → App
-line_app contexts containers =
-    with_subcommand (with_subcommand (looks_app contexts containers)
+-- the whole line, by the words that `--contexts`, `--container` and `--codec-id` take
+abbrev pub line_app : Words → Words → Words → App
+line_app contexts containers codec_ids =
+    with_subcommand (with_subcommand (looks_app contexts containers codec_ids)
     (some_files (codes "framemd5")).top) (one_file (codes "trial")).top
 
 -- the words that `--contexts` takes
@@ -133,7 +138,11 @@ abbrev pub AreContainers : Words → Type 0
 AreContainers words =
     map (λ w. w.now) words.now ≡ codes "auto" ∷ codes "avi" ∷ codes "mkv" ∷ []
 
--- a fact of the whole line, wherever the words of `--contexts` and `--container` lie
+-- the words that `--codec-id` takes
+abbrev pub AreCodecIds : Words → Type 0
+AreCodecIds words = map (λ w. w.now) words.now ≡ codes "native" ∷ codes "vfw" ∷ []
+
+-- a fact of the whole line, wherever the words of `--contexts`, `--container` and `--codec-id` lie
 abbrev pub OnLine : (App → Type 0) → Type 0
-OnLine P = (contexts containers : Words) × AreContexts contexts × AreContainers containers
-    × P (line_app contexts containers)
+OnLine P = (contexts containers codec_ids : Words) × AreContexts contexts
+    × AreContainers containers × AreCodecIds codec_ids × P (line_app contexts containers codec_ids)

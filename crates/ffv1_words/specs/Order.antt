@@ -1,5 +1,5 @@
 -- What an order names of a command line, and when its files are in conflict.
-use Rattle.std.specs.Prelude.{◌≡◌, ◌≤◌, ◌⊎◌, ◌||◌, ◌&&◌, ◌==◌, ℕ, Bool, true, false, not, codes}
+use Rattle.std.specs.Prelude.{◌≡◌, ◌≤◌, ◌⊎◌, ◌||◌, ◌&&◌, ℕ, Bool, true, false, not, codes}
 use Rattle.std.specs.Prelude.{List, [], ◌∷◌, ◌+◌, ◌-◌, drop, find, length, map, nat_lt, Option}
 use Rattle.std.specs.Prelude.{Some, None}
 use Rattle.std.specs.Option.{option_and_then, option_map}
@@ -14,6 +14,8 @@ use Rattle.clap.specs.declared.error.kind.ErrorKind.TheVariants as kind
 use Rattle.clap.specs.declared.parser.matches.ValueSource.{ValueSource}
 use Rattle.clap.specs.declared.parser.matches.ValueSource.TheVariants as source
 use Rattle.ffv1_words.specs.declared.order.Choice.{Choice}
+use Rattle.ffv1_words.specs.declared.order.CodecIdChoice.{CodecIdChoice}
+use Rattle.ffv1_words.specs.declared.order.CodecIdChoice.TheVariants as codec_id
 use Rattle.ffv1_words.specs.declared.order.CoderChoice.{CoderChoice}
 use Rattle.ffv1_words.specs.declared.order.CoderChoice.TheVariants as coder
 use Rattle.ffv1_words.specs.declared.order.ContainerChoice.{ContainerChoice}
@@ -63,6 +65,10 @@ container_word container.Auto = codes "auto"
 container_word container.Avi = codes "avi"
 container_word container.Matroska = codes "mkv"
 
+abbrev pub codec_id_word : CodecIdChoice → Text
+codec_id_word codec_id.Native = codes "native"
+codec_id_word codec_id.Vfw = codes "vfw"
+
 abbrev pub is_of_words : Option ValueSource → Bool
 is_of_words None = false
 is_of_words (Some source.DefaultValue) = false
@@ -87,6 +93,8 @@ pub record NamesChoice (rows : List Row) (c : Choice) : Type 0 where
   pub rate : NamesNumber rows (codes "rate") 1 4294967295 c.rate
   pub scale : NamesNumber rows (codes "scale") 1 4294967295 c.scale
   pub verify : NamesFlag rows (codes "verify") c.verify
+  pub codec_id : first_of (codes "codec-id") rows ≡ Some (codec_id_word c.codec_id)
+  pub codec_id_given : c.codec_id_given ≡ is_given rows (codes "codec-id")
 
 -- ---- what a line names
 
@@ -113,7 +121,7 @@ Names (order.Trial i) (Some p) = (p.0 ≡ codes "trial") × NamesFile p.1 (codes
 abbrev pub NamesNone : Option (Text × List Row) → Type 0
 NamesNone line = (o : Order) → Names o line → ⊥
 
--- ---- files in conflict
+-- ---- files in conflict, and what an output lacks
 
 abbrev pub is_standard_output : Text → Bool
 is_standard_output path = bytes_eq path (codes "/dev/stdout")
@@ -150,6 +158,10 @@ is_matroska container.Auto path = is_matroska_name path
 is_matroska container.Avi path = false
 is_matroska container.Matroska path = true
 
+-- the line gives an ID of the codec, and what holds the frames of this output has none
+abbrev pub lacks_codec_id : Choice → ContainerChoice → Text → Bool
+lacks_codec_id c holder path = c.codec_id_given && not (is_matroska holder path)
+
 -- what is written would be read, or stand among what is printed; with a hyphen for both nothing is
 -- read that is written
 abbrev pub is_conflict : Text → Text → Bool
@@ -167,7 +179,7 @@ are_in_conflict paths = nat_lt 1 (hyphens paths)
 
 abbrev pub is_in_conflict : Order → Bool
 is_in_conflict (order.Pack i w c holder no_clobber progress) =
-    is_conflict i.now w.now || is_misnamed holder w.now
+    is_conflict i.now w.now || (is_misnamed holder w.now || lacks_codec_id c holder w.now)
 is_in_conflict (order.Unpack i w no_clobber progress) = is_conflict i.now w.now
 is_in_conflict (order.Check is all place progress) = are_in_conflict (map (λ i. i.now) is.now)
 is_in_conflict (order.Show is cost) = are_in_conflict (map (λ i. i.now) is.now)

@@ -8,12 +8,13 @@ ghost use Rattle.ffv1_words.specs.CommandLine.{file_rule, files_rule, flag_rule,
 ghost use Rattle.ffv1_words.specs.CommandLine.{word_rule};
 ghost use Rattle.ffv1_words.specs.CommandLine.{one_file, some_files, two_files, with_model};
 ghost use Rattle.ffv1_words.specs.CommandLine.{with_no_clobber};
-ghost use Rattle.ffv1_words.specs.CommandLine.{with_container, with_pace, with_progress};
+ghost use Rattle.ffv1_words.specs.CommandLine.{with_codec_id, with_container, with_pace};
+ghost use Rattle.ffv1_words.specs.CommandLine.{with_progress};
 ghost use Rattle.ffv1_words.specs.CommandLine.{with_slices};
 ghost use Rattle.ffv1_words.specs.CommandLine.{with_verify};
 ghost use Rattle.ffv1_words.specs.CommandLine.{pack_app, unpack_app, check_app, show_app, top_app};
 ghost use Rattle.ffv1_words.specs.CommandLine.{files_app, looks_app, line_app, AreContainers};
-ghost use Rattle.ffv1_words.specs.CommandLine.{AreContexts};
+ghost use Rattle.ffv1_words.specs.CommandLine.{AreCodecIds, AreContexts};
 ghost use Rattle.ffv1_words.specs.CommandLine.{OnLine};
 ghost use Rattle.ffv1_words.specs.Order.{IsOrder, IsRefused, IsRefusedIfTaken, is_in_conflict};
 
@@ -27,6 +28,8 @@ static CONTEXTS: [&str; 2] = ["small", "large"];
 
 static CONTAINERS: [&str; 3] = ["auto", "avi", "mkv"];
 
+static CODEC_IDS: [&str; 2] = ["native", "vfw"];
+
 const NAME: &str = "ffv1";
 
 /// The version of the program.
@@ -37,7 +40,7 @@ const CODED_FILE: &str = "The AVI or Matroska file, or - for standard input";
 const CODED_FILES: &str = "The AVI or Matroska files, or - for standard input";
 
 const PICTURE_FILES: &str =
-    "The files, or - for standard input: video as for pack where it begins with P or Y";
+    "The files, or - for standard input: video as for pack if it begins with P or Y";
 
 const STATUSES: &str = "Exit status: 0 all done, 1 a fault, by its number, 2 a line refused";
 
@@ -194,7 +197,7 @@ fn add_slices<'a>(alloc: Global, command: Command<'a>) -> Result<Command<'a>, Al
 {
     let columns = "Columns of slices, 1 to 32; in Matroska, without both, by the picture's size";
     let rows = "Rows of slices, 1 to 32; in Matroska, without both, by the picture's size";
-    let ec = "1 where each slice carries its parity, 0 where none does";
+    let ec = "1 if each slice carries its parity, 0 if none does";
     command
         .arg(number_arg(alloc, "columns", 1, 32, "1", columns))?
         .arg(number_arg(alloc, "rows", 1, 32, "1", rows))?
@@ -228,6 +231,21 @@ fn add_container<'a>(
     command.arg(word_arg(alloc, "container", containers, "auto", help))
 }
 
+fn add_codec_id<'a>(
+    alloc: Global,
+    codec_ids: &'a [&'a str],
+    command: Command<'a>,
+) -> Result<Command<'a>, AllocError>
+    requires { (fields_of command).has_globals ≡ false }
+    ensures { IfOk result (λ c.
+        (app_of c ≡ with_codec_id codec_ids.entry (app_of command.entry))
+        × ((fields_of c).has_globals ≡ false)) }
+{
+    let help =
+        "In Matroska V_FFV1, as RFC 9043 asks, or V_MS/VFW/FOURCC, which other programs play";
+    command.arg(word_arg(alloc, "codec-id", codec_ids, "native", help))
+}
+
 fn add_verify<'a>(alloc: Global, command: Command<'a>) -> Result<Command<'a>, AllocError>
     requires { (fields_of command).has_globals ≡ false }
     ensures { IfOk result (λ c.
@@ -241,18 +259,21 @@ fn pack_command<'a>(
     alloc: Global,
     contexts: &'a [&'a str],
     containers: &'a [&'a str],
+    codec_ids: &'a [&'a str],
 ) -> Result<Command<'a>, AllocError>
-    ensures { IfOk result (λ c. (app_of c ≡ pack_app contexts.entry containers.entry)
+    ensures { IfOk result (λ c.
+        (app_of c ≡ pack_app contexts.entry containers.entry codec_ids.entry)
         × ((fields_of c).has_globals ≡ false)) }
 {
     let about = "Code a video, YUV4MPEG2 or binary PPM, as FFV1 in AVI or Matroska";
-    let input = "The video, or - for standard input: PPM where its first byte is P, else YUV4MPEG2";
+    let input = "The video, or - for standard input: PPM if its first byte is P, else YUV4MPEG2";
     let output = "The file, or - for standard output: written anew as soon as it has a byte";
     let command = two_files_command(alloc, "pack", about, input, output)?;
     let command = add_model(alloc, contexts, command)?;
     let command = add_slices(alloc, command)?;
     let command = add_pace(alloc, command)?;
     let command = add_container(alloc, containers, command)?;
+    let command = add_codec_id(alloc, codec_ids, command)?;
     let command = add_verify(alloc, command)?;
     add_making(alloc, command)
 }
@@ -261,7 +282,7 @@ fn unpack_command<'a>(alloc: Global) -> Result<Command<'a>, AllocError>
     ensures { IfOk result (λ c.
         (app_of c ≡ unpack_app) × ((fields_of c).has_globals ≡ false)) }
 {
-    let about = "Decode a file into YUV4MPEG2, or into PPM where it holds RGB";
+    let about = "Decode a file into YUV4MPEG2, or into PPM if it holds RGB";
     let output = "The video, or - for standard output: written anew as soon as it has a byte";
     let command = two_files_command(alloc, "unpack", about, CODED_FILE, output)?;
     add_making(alloc, command)
@@ -328,12 +349,14 @@ fn files_command<'a>(
     alloc: Global,
     contexts: &'a [&'a str],
     containers: &'a [&'a str],
+    codec_ids: &'a [&'a str],
 ) -> Result<Command<'a>, AllocError>
-    ensures { IfOk result (λ c. (app_of c ≡ files_app contexts.entry containers.entry)
+    ensures { IfOk result (λ c.
+        (app_of c ≡ files_app contexts.entry containers.entry codec_ids.entry)
         × ((fields_of c).has_globals ≡ false)) }
 {
     top_command(alloc)
-        .subcommand(pack_command(alloc, contexts, containers)?)?
+        .subcommand(pack_command(alloc, contexts, containers, codec_ids)?)?
         .subcommand(unpack_command(alloc)?)
 }
 
@@ -341,11 +364,13 @@ fn looks_command<'a>(
     alloc: Global,
     contexts: &'a [&'a str],
     containers: &'a [&'a str],
+    codec_ids: &'a [&'a str],
 ) -> Result<Command<'a>, AllocError>
-    ensures { IfOk result (λ c. (app_of c ≡ looks_app contexts.entry containers.entry)
+    ensures { IfOk result (λ c.
+        (app_of c ≡ looks_app contexts.entry containers.entry codec_ids.entry)
         × ((fields_of c).has_globals ≡ false)) }
 {
-    files_command(alloc, contexts, containers)?
+    files_command(alloc, contexts, containers, codec_ids)?
         .subcommand(check_command(alloc)?)?
         .subcommand(show_command(alloc)?)
 }
@@ -354,11 +379,13 @@ fn line_command<'a>(
     alloc: Global,
     contexts: &'a [&'a str],
     containers: &'a [&'a str],
+    codec_ids: &'a [&'a str],
 ) -> Result<Command<'a>, AllocError>
-    ensures { IfOk result (λ c. (app_of c ≡ line_app contexts.entry containers.entry)
+    ensures { IfOk result (λ c.
+        (app_of c ≡ line_app contexts.entry containers.entry codec_ids.entry)
         × ((fields_of c).has_globals ≡ false)) }
 {
-    looks_command(alloc, contexts, containers)?
+    looks_command(alloc, contexts, containers, codec_ids)?
         .subcommand(framemd5_command(alloc)?)?
         .subcommand(trial_command(alloc)?)
 }
@@ -366,7 +393,8 @@ fn line_command<'a>(
 fn refusal(alloc: Global, kind: ErrorKind, why: &str) -> Result<Error, AllocError>
     ensures { IfOk result (λ e. kind_of e ≡ kind) }
 {
-    line_command(alloc, CONTEXTS.as_slice(), CONTAINERS.as_slice())?.error(kind, why)
+    let (contexts, containers) = (CONTEXTS.as_slice(), CONTAINERS.as_slice());
+    line_command(alloc, contexts, containers, CODEC_IDS.as_slice())?.error(kind, why)
 }
 
 fn without_conflict<'a>(alloc: Global, order: Order<'a>) -> Result<Order<'a>, Error>
@@ -380,23 +408,28 @@ fn without_conflict<'a>(alloc: Global, order: Order<'a>) -> Result<Order<'a>, Er
     }
 }
 
-/// `words`, by a line whose `--contexts` and `--container` take these words.
+/// `words`, by a line whose `--contexts`, `--container` and `--codec-id` take these words.
 fn read<'a>(
     alloc: Global,
     contexts: &'a [&'a str],
     containers: &'a [&'a str],
+    codec_ids: &'a [&'a str],
     words: &'a [&'a str],
 ) -> Result<Order<'a>, Error>
     requires contexts { AreContexts contexts }
     requires containers { AreContainers containers }
-    ensures ok { IfOk result (IsOrder (line_app contexts.entry containers.entry)
+    requires codec_ids { AreCodecIds codec_ids }
+    ensures ok { IfOk result (IsOrder (line_app contexts.entry containers.entry codec_ids.entry)
         (map (λ w. w.now) words.entry.now)) }
-    ensures err { IfErr result (IsRefused (line_app contexts.entry containers.entry)
+    ensures err { IfErr result (IsRefused (line_app contexts.entry containers.entry codec_ids.entry)
         (map (λ w. w.now) words.entry.now)) }
-    ensures taken { IfErr result (IsRefusedIfTaken (line_app contexts.entry containers.entry)
+    ensures taken { IfErr result (IsRefusedIfTaken
+        (line_app contexts.entry containers.entry codec_ids.entry)
         (map (λ w. w.now) words.entry.now)) }
 {
-    let matches = line_command(alloc, contexts, containers)?.try_get_matches_from(words)?;
+    let matches = line_command(alloc, contexts, containers, codec_ids)?.try_get_matches_from(
+        words,
+    )?;
     if let Some((name, rows)) = matches.subcommand() {
         let inputs = paths(alloc, rows, "IN")?;
         if let Some(order) = order_of(name, rows, inputs) {
@@ -415,8 +448,9 @@ fn read<'a>(
 /// order, which none does; or an `ArgumentConflict`, if `pack` or `unpack` has one
 /// text for both its files other than `-`, or writes to `/dev/stdout`, `/dev/fd/1` or
 /// `/proc/self/fd/1`, if `pack` without a container writes to a name that ends in `.mov`,
-/// `.mp4`, `.mxf`, `.y4m` or `.ppm`, in letters of either case, or `check`, `show` or `framemd5`
-/// have `-` more than once; or memory was refused. A line that clap takes names an order, and fails
+/// `.mp4`, `.mxf`, `.y4m` or `.ppm`, in letters of either case, if `pack` is given a codec ID
+/// and does not write Matroska, or `check`, `show` or `framemd5` have `-` more than once; or memory
+/// was refused. A line that clap takes names an order, and fails
 /// for want of memory and for such a conflict alone.
 ///
 /// The list of the files of `check`, `show` and `framemd5` is kept until the program ends.
@@ -428,5 +462,6 @@ pub fn words<'a>(alloc: Global, words: &'a [&'a str]) -> Result<Order<'a>, Error
     ensures taken { IfErr result (λ e.
         OnLine (λ line. IsRefusedIfTaken line (map (λ w. w.now) words.entry.now) e)) }
 {
-    read(alloc, CONTEXTS.as_slice(), CONTAINERS.as_slice(), words)
+    let (contexts, containers) = (CONTEXTS.as_slice(), CONTAINERS.as_slice());
+    read(alloc, contexts, containers, CODEC_IDS.as_slice(), words)
 }

@@ -2,8 +2,9 @@
 //! The words of a command line, read as an order: what the program `ffv1` is asked for.
 //!
 //! `words` reads a line as an `Order`, by `clap`'s meaning of it. An `Order` has the paths and
-//! switches of one command, `Choice` how `pack` codes, and `ContainerChoice` what it writes. The
-//! test `trials::example` of `ffv1_tests` runs this:
+//! switches of one command, `Choice` how `pack` codes, and `ContainerChoice` what it writes.
+//! `help_topic` reads a line that asks for help on faults. The test `trials::example` of
+//! `ffv1_tests` runs this:
 //!
 //! ```text
 //! if let Order::Trial { input } = words(alloc, &["ffv1", "trial", "disc.y4m"])? { .. }
@@ -13,6 +14,8 @@
 mod command_line;
 mod matched;
 mod order;
+mod topic;
 
 pub use command_line::{VERSION, words};
-pub use order::{Choice, CoderChoice, ContainerChoice, Order, is_hyphen};
+pub use order::{Choice, CodecIdChoice, CoderChoice, ContainerChoice, Order, is_hyphen};
+pub use topic::{Topic, help_topic};

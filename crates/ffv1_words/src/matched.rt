@@ -4,14 +4,16 @@ ghost use Rattle.std.specs.Prelude.{◌≡◌, IfOk, IfSome, IsNone, ℕ, Bool, 
 ghost use Rattle.std.specs.Option.{option_map};
 ghost use Rattle.clap.specs.Words.{all_of, found_of, first_of, rows_of};
 ghost use Rattle.ffv1_words.specs.declared.order.Choice.{Choice};
+ghost use Rattle.ffv1_words.specs.declared.order.CodecIdChoice.{CodecIdChoice};
 ghost use Rattle.ffv1_words.specs.declared.order.CoderChoice.{CoderChoice};
 ghost use Rattle.ffv1_words.specs.declared.order.ContainerChoice.{ContainerChoice};
 ghost use Rattle.ffv1_words.specs.Order.{ArePaths, Names, NamesChoice, NamesFlag, NamesNone};
 ghost use Rattle.ffv1_words.specs.Order.{NamesNumber};
-ghost use Rattle.ffv1_words.specs.Order.{bit_number, coder_number, container_word, contexts_word};
+ghost use Rattle.ffv1_words.specs.Order.{bit_number, codec_id_word, coder_number, container_word};
+ghost use Rattle.ffv1_words.specs.Order.{contexts_word};
 ghost use Rattle.ffv1_words.specs.Order.{is_given, is_of_words, names_no_grid};
 
-use crate::order::{Choice, CoderChoice, ContainerChoice, Order};
+use crate::order::{Choice, CodecIdChoice, CoderChoice, ContainerChoice, Order};
 use clap::ArgMatches;
 use clap::parser::ValueSource;
 use std::alloc::{AllocError, Global};
@@ -121,6 +123,22 @@ fn container(rows: &ArgMatches<'_>) -> Option<ContainerChoice>
     }
 }
 
+fn codec_id(rows: &ArgMatches<'_>) -> Option<CodecIdChoice>
+    ensures some { IfSome result (λ c.
+        first_of (codes "codec-id") (rows_of (found_of rows.now)) ≡ Some (codec_id_word c)) }
+    ensures none { IsNone result → (c : CodecIdChoice)
+        → first_of (codes "codec-id") (rows_of (found_of rows.now)) ≡ Some (codec_id_word c) → ⊥ }
+{
+    let word = path(rows, "codec-id")?;
+    if word == "native" {
+        Some(CodecIdChoice::Native)
+    } else if word == "vfw" {
+        Some(CodecIdChoice::Vfw)
+    } else {
+        None
+    }
+}
+
 fn is_of_words(source: ValueSource) -> bool
     ensures { result ≡ is_of_words (Some source) }
 {
@@ -160,6 +178,7 @@ fn choice(matches: &ArgMatches<'_>) -> Option<Choice>
     let rate = number(matches, "rate", 1, 4294967295)?;
     let scale = number(matches, "scale", 1, 4294967295)?;
     let verify = flag(matches, "verify")?;
+    let codec_id = codec_id(matches)?;
     Some(Choice {
         coder,
         large,
@@ -170,6 +189,8 @@ fn choice(matches: &ArgMatches<'_>) -> Option<Choice>
         rate,
         scale,
         verify,
+        codec_id,
+        codec_id_given: is_given(matches, "codec-id"),
     })
 }
 

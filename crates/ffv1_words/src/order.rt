@@ -3,7 +3,7 @@
 ghost use Rattle.std.specs.Prelude.{◌≡◌, ◌||◌, is_some, map};
 ghost use Rattle.ffv1_words.specs.Order.{are_in_conflict, has_ending, is_another_name, is_conflict};
 ghost use Rattle.ffv1_words.specs.Order.{is_hyphen, is_in_conflict, is_matroska, is_matroska_name};
-ghost use Rattle.ffv1_words.specs.Order.{is_misnamed, is_standard_output};
+ghost use Rattle.ffv1_words.specs.Order.{is_misnamed, is_standard_output, lacks_codec_id};
 
 /// Which state transition table `pack` codes with.
 #[derive(Clone, Copy, Debug, PartialEq, Eq)]
@@ -23,6 +23,15 @@ pub enum ContainerChoice {
     Avi,
     /// Matroska.
     Matroska,
+}
+
+/// What `pack` calls the codec in Matroska.
+#[derive(Clone, Copy, Debug, PartialEq, Eq)]
+pub enum CodecIdChoice {
+    /// `V_FFV1`, as RFC 9043, section 4.3.3 asks.
+    Native,
+    /// `V_MS/VFW/FOURCC` with a BITMAPINFOHEADER, which other programs play.
+    Vfw,
 }
 
 /// How `pack` codes.
@@ -47,6 +56,20 @@ pub struct Choice {
     pub scale: u32,
     /// Whether each frame is decoded as soon as it is coded, and compared with its picture.
     pub verify: bool,
+    /// What Matroska calls the codec.
+    pub codec_id: CodecIdChoice,
+    /// Whether the line gives that: such a line is refused if no Matroska is written.
+    pub codec_id_given: bool,
+}
+
+impl Choice {
+    /// Whether the line gives an ID of the codec, and what this container writes to an output of
+    /// this name has none.
+    fn lacks_codec_id(&self, container: ContainerChoice, output: &str) -> bool
+        ensures { result ≡ lacks_codec_id self.now container output.now }
+    {
+        self.codec_id_given && !container.is_matroska(output)
+    }
 }
 
 /// What a command line asks for.
@@ -188,9 +211,15 @@ fn conflict_of(input: &str, output: &str) -> Option<&'static str>
     None
 }
 
-fn pack_conflict(input: &str, output: &str, container: ContainerChoice) -> Option<&'static str>
+fn pack_conflict(
+    input: &str,
+    output: &str,
+    choice: &Choice,
+    container: ContainerChoice,
+) -> Option<&'static str>
     ensures { is_some result
-        ≡ (is_conflict input.now output.now || is_misnamed container output.now) }
+        ≡ (is_conflict input.now output.now || (is_misnamed container output.now
+        || lacks_codec_id choice.now container output.now)) }
 {
     if let Some(why) = conflict_of(input, output) {
         return Some(why);
@@ -199,6 +228,9 @@ fn pack_conflict(input: &str, output: &str, container: ContainerChoice) -> Optio
         return Some(
             "OUT is named as what pack does not write: end it in .mkv or .avi, or give --container",
         );
+    }
+    if choice.lacks_codec_id(container, output) {
+        return Some("AVI has no --codec-id: end OUT in .mkv, or give --container mkv");
     }
     None
 }
@@ -220,7 +252,7 @@ fn has_hyphens(paths: &[&str]) -> bool
 }
 
 impl<'a> Order<'a> {
-    /// Why its files are in conflict, if they are.
+    /// Why its files are in conflict, or with its options, if they are.
     pub(crate) fn conflict(self) -> Option<&'static str>
         ensures { is_some result ≡ is_in_conflict self.entry }
     {
@@ -228,9 +260,10 @@ impl<'a> Order<'a> {
             Order::Pack {
                 input,
                 output,
+                choice,
                 container,
                 ..
-            } => pack_conflict(input, output, container),
+            } => pack_conflict(input, output, &choice, container),
             Order::Unpack { input, output, .. } => conflict_of(input, output),
             Order::Check { inputs, .. } | Order::Show { inputs, .. } | Order::FrameMd5 { inputs } =>
                 {

@@ -1,4 +1,4 @@
--- Calls that may come to the end of the input, where there is nothing more.
+-- Calls that may come to the end of the input if there is nothing more.
 use Rattle.std.specs.Prelude.{◌≡◌, ◌⊎◌, ℕ, List, [], ◌∷◌, Option, Some, None, Result, Ok, Err}
 use Rattle.std.specs.Io.KnownBytes.{IsAtEnd}
 use Rattle.ffv1_wire.specs.Failures.{one_more}
@@ -10,14 +10,14 @@ use Rattle.ffv1_avi.specs.declared.place.Extent.TheVariants.{FirstMovi, EveryRif
 use Rattle.ffv1_reads.specs.Ends.{Stops}
 use Rattle.ffv1_reads.specs.Reads.{Read, Reading, Refused, Wants}
 
--- bytes were read, and where nothing stands after them, there is nothing more; the first movi does
--- not end so
+-- bytes were read, and if nothing comes after them, there is nothing more; the first movi does not
+-- end so
 abbrev pub Halts : {X : Type 0} → Extent → Reading (Option X) → Option (List ℕ) →
     Option (List ℕ) → Type 0
 Halts FirstMovi reading old new = ⊥
 Halts EveryRiff reading old new = Stops reading old new None
 
--- why a call was refused: a read may also fail where the end would be an answer
+-- why a call was refused: a read may also fail if the end would be an answer
 abbrev pub RefusedOrNone : {X : Type 0} → Extent → Reading (Option X) → Option (List ℕ) →
     Option (List ℕ) → ℕ → ℕ → FileFault → Type 0
 RefusedOrNone extent reading old new before after fault.Read =
@@ -30,7 +30,7 @@ abbrev pub ReadOrNone : {X : Type 0} → Extent → Reading (Option X) → Optio
 ReadOrNone extent reading old new x =
     Read reading old new x ⊎ ((Halts extent reading old new × IsAtEnd new) × (x ≡ None))
 
--- the answer of a call where the end of the input may be one
+-- the answer of a call if the end of the input may be one
 abbrev pub AnswersOrNone : {X Y : Type 0} → Extent → (Y → Option X) → Reading (Option X) →
     Passage → Result Y FileFault → Type 0
 AnswersOrNone extent view reading p (Ok y) =

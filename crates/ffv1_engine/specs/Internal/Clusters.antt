@@ -8,29 +8,31 @@ use Rattle.ffv1_record.specs.Accepted.{Accepted}
 use Rattle.ffv1_codec.specs.Frame.{frame_of, HasLongSlice}
 use Rattle.ffv1_codec.specs.Picture.{Planes}
 use Rattle.ffv1_reads.specs.Known.{Known}
-use Rattle.ffv1_reads.specs.Head.{limit}
 use Rattle.ffv1_matroska.specs.Writers.{Writing as Writer, writing_of}
 use Rattle.ffv1_matroska.specs.Written.{begun_of, end_place}
 use Rattle.ffv1_matroska.specs.WrittenPlaces.{cluster_bytes, last_place}
 use Rattle.ffv1_engine.specs.declared.fault.Fault.{Fault}
 use Rattle.ffv1_engine.specs.declared.fault.Fault.TheVariants as fault
 use Rattle.ffv1_engine.specs.declared.packing.Packed.{Packed}
-use Rattle.ffv1_engine.specs.Internal.Encoding.{EncodesAll, EndsAt, PicturesKnown}
+use Rattle.ffv1_engine.specs.Internal.Encoding.{EncodesAll, EndsAt, EndsLong, PicturesKnown}
 use Rattle.ffv1_engine.specs.Faults.{Cause, cause_of}
 use Rattle.ffv1_engine.specs.Faults.Cause.{Reading, Writing, Memory, Content}
-use Rattle.ffv1_engine.specs.Packing.{AllShort, AreReadable, bytes_in, frames_for, said_for}
+use Rattle.ffv1_engine.specs.Packing.{AllShort, AreReadable, bytes_in, frames_for, most_frame}
+use Rattle.ffv1_engine.specs.Packing.{said_for}
+use Rattle.ffv1_record.specs.declared.config.Profile.{Profile as RecordProfile}
 use Rattle.ffv1_engine.specs.Play.{WritesUpTo}
 use Rattle.ffv1_engine.specs.Video.{ReadsPictures, at_first, picture_next}
 use Rattle.ffv1_engine.specs.VideoReads.{PictureLacks, PictureWants}
 use Rattle.ffv1_engine.specs.Internal.VideoReads.{VideoReading}
 
--- the Clusters of these frames were written, and counted, by a writer that was new
-pub record PutAll (old new : Writer) (frames : List (List ℕ)) (output : Passage) (packed : Packed)
-    : Type 0 where
-  pub is : new ≡ writing_of old.head old.shown frames
-  pub readable : AreReadable frames
+-- the Clusters of these frames, which are read in a profile, were written, and counted, by a writer
+-- that was new
+pub record PutAll (p : RecordProfile) (old new : Writer) (frames : List (List ℕ))
+    (output : Passage) (packed : Packed) : Type 0 where
+  pub is : new ≡ writing_of old.head old.details frames
+  pub readable : AreReadable p frames
   pub near : 0 < length frames → new.at ≤ last_place
-  pub writes : Appends output.old output.new (begun_of old.head old.shown frames)
+  pub writes : Appends output.old output.new (begun_of old.head old.details frames)
   pub kept : output.after ≡ output.before
   pub frames_are : packed.frames ≡ length frames
   pub bytes_are : packed.bytes ≡ bytes_in frames
@@ -39,20 +41,20 @@ pub record PutAll (old new : Writer) (frames : List (List ℕ)) (output : Passag
 pub record AreClusters (a : Accepted) (r : VideoReading) (w : Writer) (pictures : List Planes)
     : Type 0 where
   pub short : AllShort a r.head pictures
-  pub readable : AreReadable (frames_for a r.head pictures)
+  pub readable : AreReadable a.profile (frames_for a r.head pictures)
   pub near : 0 < length pictures →
-      end_place w.head w.shown (frames_for a r.head pictures) ≤ last_place
+      end_place w.head w.details (frames_for a r.head pictures) ≤ last_place
 
 -- their Clusters
 abbrev pub begun_for : Accepted → VideoReading → Writer → List Planes → List ℕ
-begun_for a r w pictures = begun_of w.head w.shown (frames_for a r.head pictures)
+begun_for a r w pictures = begun_of w.head w.details (frames_for a r.head pictures)
 
 -- all pictures have Clusters, which were written
 pub record PutsAll (a : Accepted) (r : VideoReading) (old new : Writer) (input output : Passage)
     (packed : Packed) : Type 0 where
   pub frames : List (List ℕ)
   pub all : EncodesAll input a r frames
-  pub put : PutAll old new frames output packed
+  pub put : PutAll a.profile old new frames output packed
 
 -- the Clusters of these pictures were written, and of the text, if it is known, these pictures
 -- were read, and then so much as this says
@@ -65,22 +67,14 @@ pub record PutsSome (Next : List Planes → List ℕ → List ℕ → Type 0) (a
       × Next pictures left rest)
   pub writes : Appends output.old output.new (begun_for a r w pictures)
 
--- the frame of the next picture is too long to be read
-abbrev pub EndsLong : Accepted → VideoReading → List Planes → List ℕ → List ℕ → Fault → Type 0
-EndsLong a r pictures left rest f =
-    (p : Planes) × (picture_next r.ppm r.most r.head (at_first pictures) left ≡ Ok (Some p, rest))
-    × (HasLongSlice a p (said_for r.head) → ⊥)
-    × (limit < length (frame_of a p (said_for r.head)))
-    × (f ≡ fault.ChunkTooLong)
-
 -- its Cluster would end too far
 abbrev pub EndsFar : Accepted → VideoReading → Writer → List Planes → List ℕ → List ℕ → Fault →
     Type 0
 EndsFar a r w pictures left rest f =
     (p : Planes) × (picture_next r.ppm r.most r.head (at_first pictures) left ≡ Ok (Some p, rest))
     × (HasLongSlice a p (said_for r.head) → ⊥)
-    × (length (frame_of a p (said_for r.head)) ≤ limit)
-    × (last_place < end_place w.head w.shown (frames_for a r.head pictures)
+    × (length (frame_of a p (said_for r.head)) ≤ most_frame a.profile)
+    × (last_place < end_place w.head w.details (frames_for a r.head pictures)
     + cluster_bytes + length (frame_of a p (said_for r.head)))
     × (f ≡ fault.TooLarge)
 
@@ -88,7 +82,8 @@ EndsFar a r w pictures left rest f =
 abbrev pub EndsPutting : Accepted → VideoReading → Writer → Fault → List Planes → List ℕ →
     List ℕ → Type 0
 EndsPutting a r w f pictures left rest =
-    EndsAt a r pictures left rest f ⊎ EndsLong a r pictures left rest f
+    EndsAt a r pictures left rest f
+    ⊎ EndsLong (λ frame. most_frame a.profile < length frame) a r pictures left rest f
     ⊎ EndsFar a r w pictures left rest f
 
 -- the Clusters of these pictures were written, and of the Cluster of the next one a beginning; of
@@ -100,8 +95,8 @@ pub record PutsBeginning (a : Accepted) (r : VideoReading) (w : Writer) (input o
   pub next : Planes
   pub reads : PicturesKnown input.old input.new r (pictures ++ next ∷ [])
   pub short : HasLongSlice a next (said_for r.head) → ⊥
-  pub readable : length (frame_of a next (said_for r.head)) ≤ limit
-  pub near : end_place w.head w.shown (frames_for a r.head pictures) + cluster_bytes
+  pub readable : length (frame_of a next (said_for r.head)) ≤ most_frame a.profile
+  pub near : end_place w.head w.details (frames_for a r.head pictures) + cluster_bytes
       + length (frame_of a next (said_for r.head)) ≤ last_place
   pub writes : WritesUpTo output.old output.new (length (begun_for a r w pictures))
       (begun_for a r w (pictures ++ next ∷ []))

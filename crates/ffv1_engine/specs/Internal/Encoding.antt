@@ -1,6 +1,5 @@
 -- What encoding the next picture of a video answers.
-use Rattle.std.specs.Prelude.{◌≡◌, ◌⊎◌, ℕ, Bool, true, false, List, [], ◌∷◌, ◌++◌, Option, Some}
-use Rattle.std.specs.Prelude.{None, Ok, Err}
+use Rattle.std.specs.Prelude.{◌≡◌, ◌⊎◌, ℕ, true, List, Option, Some, None, Ok, Err}
 use Rattle.std.specs.declared.vec.Vec.{Vec}
 use Rattle.ffv1_wire.specs.Failures.{one_more}
 use Rattle.ffv1_wire.specs.Passage.{Passage}
@@ -13,7 +12,8 @@ use Rattle.ffv1_engine.specs.declared.fault.Fault.TheVariants as fault
 use Rattle.ffv1_y4m.specs.declared.fault.Fault.{Fault as Y4mFault}
 use Rattle.ffv1_engine.specs.Faults.{Cause, cause_of, of_y4m}
 use Rattle.ffv1_engine.specs.Faults.Cause.{Reading, Writing, Memory, Content}
-use Rattle.ffv1_engine.specs.Packing.{AllShort, frames_for, said_for}
+use Rattle.ffv1_engine.specs.Packing.{AllShort, AreReadableIn, IsLongIn, frames_for, said_for}
+use Rattle.ffv1_engine.specs.VideoReads.{PictureLacks, PictureWants}
 use Rattle.ffv1_engine.specs.Video.{ReadsPictures, at_first, picture_next}
 use Rattle.ffv1_engine.specs.Internal.VideoReads.{NextRead, NextRefusedBy, StopsKnown, VideoReading}
 
@@ -29,16 +29,6 @@ EncodesOne p a r s (Some frame) =
 abbrev pub frame_in : {A : Type 0} → Option (Vec ℕ A) → Option (List ℕ)
 frame_in None = None
 frame_in (Some frame) = Some frame.items
-
--- a picture was read and its frame stands after the others; or there was none, and nothing is
--- changed
-abbrev pub EncodesNext : Passage → Accepted → VideoReading → VideoReading → List (List ℕ) →
-    List (List ℕ) → Bool → Type 0
-EncodesNext p a r s old new false = NextRead p r None s × (new ≡ old)
-EncodesNext p a r s old new true =
-    (planes : Planes) × NextRead p r (Some planes) s
-    × (HasLongSlice a planes (said_for r.head) → ⊥)
-    × (new ≡ old ++ (frame_of a planes (said_for r.head) ∷ []))
 
 -- a picture was read that has a slice that is too long
 pub record IsTooLong (p : Passage) (a : Accepted) (r : VideoReading) (f : Fault) : Type 0 where
@@ -106,6 +96,15 @@ EndsAt a r pictures left rest f =
     × (picture_next r.ppm r.most r.head (at_first pictures) left ≡ Ok (Some q, rest))
     × HasLongSlice a q (said_for r.head) × (f ≡ fault.SliceTooLong))
 
+-- the frame of the picture after some is so long
+abbrev pub EndsLong : (List ℕ → Type 0) → Accepted → VideoReading → List Planes → List ℕ → List ℕ →
+    Fault → Type 0
+EndsLong IsLong a r pictures left rest f =
+    (p : Planes) × (picture_next r.ppm r.most r.head (at_first pictures) left ≡ Ok (Some p, rest))
+    × (HasLongSlice a p (said_for r.head) → ⊥)
+    × IsLong (frame_of a p (said_for r.head))
+    × (f ≡ fault.ChunkTooLong)
+
 -- if the text is known, so it ends
 abbrev pub EndsKnown : Option (List ℕ) → Option (List ℕ) → Accepted → VideoReading → List Planes →
     Fault → Type 0
@@ -113,18 +112,32 @@ EndsKnown old new a r pictures f = Known old new (λ text rest.
     (left : List ℕ) × ReadsPictures r.ppm r.most r.head true text pictures left
     × EndsAt a r pictures left rest f)
 
-pub record EndsEncoding (p : Passage) (a : Accepted) (r : VideoReading) (f : Fault) : Type 0 where
+-- some pictures were encoded for an AVI, and of the text, if it is known, these pictures were read,
+-- and then so much as this says
+pub record EncodesUpTo (Next : List Planes → List ℕ → List ℕ → Type 0) (p : Passage)
+    (a : Accepted) (r : VideoReading) : Type 0 where
   pub pictures : List Planes
-  pub known : EndsKnown p.old p.new a r pictures f
-  pub kept : p.after ≡ p.before
+  pub taken : Known p.old p.new (λ text rest.
+      (left : List ℕ) × ReadsPictures r.ppm r.most r.head true text pictures left
+      × Next pictures left rest)
   pub short : AllShort a r.head pictures
+  pub readable : AreReadableIn a.profile (frames_for a r.head pictures)
 
--- why not all were encoded
+-- and then the next one has a fault, or too long a frame
+abbrev pub EndsOne : Accepted → VideoReading → Fault → List Planes → List ℕ → List ℕ → Type 0
+EndsOne a r f pictures left rest =
+    EndsAt a r pictures left rest f ⊎ EndsLong (IsLongIn a.profile) a r pictures left rest f
+
+-- why not all were encoded: a read of the next picture failed, which was counted; memory was
+-- refused for it; or it has a fault, or no frame
 abbrev pub StopsEncodingBy : Cause → Passage → Accepted → VideoReading → Fault → Type 0
-StopsEncodingBy Reading p a r f = p.after ≡ one_more p.before
+StopsEncodingBy Reading p a r f =
+    (p.after ≡ one_more p.before) × EncodesUpTo (PictureWants r.ppm r.most r.head) p a r
 StopsEncodingBy Writing p a r f = ⊥
-StopsEncodingBy Memory p a r f = p.after ≡ p.before
-StopsEncodingBy Content p a r f = EndsEncoding p a r f
+StopsEncodingBy Memory p a r f =
+    (p.after ≡ p.before) × EncodesUpTo (PictureLacks r.ppm r.most r.head) p a r
+StopsEncodingBy Content p a r f =
+    (p.after ≡ p.before) × EncodesUpTo (EndsOne a r f) p a r
 
 abbrev pub StopsEncoding : Passage → Accepted → VideoReading → Fault → Type 0
 StopsEncoding p a r f = StopsEncodingBy (cause_of f) p a r f

@@ -12,7 +12,7 @@ use Rattle.ffv1_engine.specs.declared.fault.Fault.{Fault}
 use Rattle.ffv1_engine.specs.Faults.{Cause, cause_of}
 use Rattle.ffv1_engine.specs.Faults.Cause.{Reading, Writing, Memory, Content}
 use Rattle.ffv1_engine.specs.Grids.{choice_for}
-use Rattle.ffv1_engine.specs.Pack.{HasHead}
+use Rattle.ffv1_engine.specs.Pack.{HasHead, HeadWants, StandsAfterHead}
 use Rattle.ffv1_engine.specs.declared.profile.Profile.{Profile}
 use Rattle.ffv1_engine.specs.Profiles.{greatest_depth}
 use Rattle.ffv1_engine.specs.Packing.{IsFor}
@@ -21,7 +21,7 @@ use Rattle.ffv1_engine.specs.Video.{video_head}
 use Rattle.ffv1_engine.specs.Internal.VideoReads.{HeadRead, IsHeadOf}
 use Rattle.ffv1_engine.specs.VideoReads.{Taken}
 use Rattle.ffv1_engine.specs.Internal.VideoReads.{VideoReading}
-use Rattle.ffv1_engine.specs.PackMatroska.{FaultsBefore, StandsAfterHead, shown_for}
+use Rattle.ffv1_engine.specs.PackMatroska.{FaultsBefore, details_for}
 
 -- a head was read, and its rate and a configuration for it are such as they have to be; the writer
 -- has written nothing
@@ -32,13 +32,13 @@ pub record OpensMatroska (profile : Profile) (choice : Choice) (p : Passage) (r 
   pub for : IsFor profile (choice_for profile choice r.head) r.ppm r.head a
   pub timed : IsTimed (rate_in (head_for choice r.ppm r.head a.configuration))
   pub fresh : w
-      ≡ writing_of (head_for choice r.ppm r.head a.configuration) (shown_for r.head) []
+      ≡ writing_of (head_for choice r.ppm r.head a.configuration) (details_for choice r.head) []
 
 -- why not
 abbrev pub LacksMatroskaBy : Profile → Cause → Choice → Passage → Fault → Type 0
 LacksMatroskaBy profile Reading choice p f =
     (p.after ≡ one_more p.before)
-    × Known p.old p.new (Taken (Wants (video_head (greatest_depth profile))))
+    × HeadWants (greatest_depth profile) p.old p.new
 LacksMatroskaBy profile Writing choice p f = ⊥
 LacksMatroskaBy profile Memory choice p f =
     (p.after ≡ p.before) × HasHead (greatest_depth profile) p.old

@@ -35,4 +35,4 @@ pub record Keeping (w : Writing) (room : ℕ) : Type 0 where
   pub begins : 148 ≤ w.at
   pub fits : w.at < 2 ^ 63 + 2 ^ 20
   pub ends : 0 < w.count → w.at ≤ last_place
-  pub first : w.count ≡ 0 → w.at ≡ first_place w.head w.shown
+  pub first : w.count ≡ 0 → w.at ≡ first_place w.head w.details

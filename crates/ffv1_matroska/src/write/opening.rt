@@ -1,4 +1,4 @@
-//! What stands before Tracks.
+//! What comes before Tracks.
 
 ghost use Rattle.std.specs.Prelude.{◌≡◌, ◌≤◌, ◌<◌, ◌-◌, ◌^◌, ◌++◌, length, Option, IfSome};
 ghost use Rattle.ffv1_ebml.specs.Spelled.{ident_bytes};
@@ -180,7 +180,7 @@ fn segment_header(finish: Option<Finish>) -> Bytes
     header
 }
 
-/// All that stands before Tracks: open, or once all is written.
+/// All that comes before Tracks: open, or once all is written.
 #[tactic(auto, unfolding(crate::specs::Written::opening))]
 pub(crate) fn opening<A: Allocator>(head: &FileHead<A>, finish: Option<Finish>) -> Bytes
     requires some { IfSome finish (λ f. 0 < f.count) }

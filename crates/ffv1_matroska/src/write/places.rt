@@ -22,8 +22,9 @@ fn halve<A: Allocator>(places: &mut Vec<u64, A>)
     places.truncate(half);
 }
 
-/// Keeps the place of a Cluster that has so many before it, where a cue is for it: then every
-/// second one is kept of 8192 places, for twice the stride. It answers the stride.
+/// Keeps the place of a Cluster that has so many before it, if it has a cue. If there are 8192
+/// places already, only every second one of them is kept, for twice the stride. It answers the
+/// stride.
 pub(crate) fn keep_place<A: Allocator>(
     places: &mut Vec<u64, A>,
     stride: u64,

@@ -1,15 +1,19 @@
 //! Writes Tracks.
 
 ghost use Rattle.std.specs.Prelude.{◌≡◌, ◌≤◌, ◌<◌, ◌+◌, ◌*◌, ◌-◌, ◌^◌, ◌++◌};
-ghost use Rattle.std.specs.Prelude.{length};
+ghost use Rattle.std.specs.Prelude.{◌%◌, length, replicate};
 ghost use Rattle.ffv1_wire.specs.Passage.{passage};
-ghost use Rattle.ffv1_reads.specs.Head.{head_of};
+ghost use Rattle.ffv1_reads.specs.Head.{Head, head_of};
+ghost use Rattle.ffv1_matroska.specs.Tracks.{codec_id};
+ghost use Rattle.ffv1_matroska.specs.Written.{codec_name, private_content, private_end};
+ghost use Rattle.ffv1_matroska.specs.Written.{private_front, short_element};
+ghost use Rattle.ffv1_matroska.specs.declared.track_entry.CodecId.TheVariants.{Vfw};
 ghost use Rattle.ffv1_reads.specs.Writes.{Writes};
 ghost use Rattle.ffv1_matroska.specs.Written.{display, duration_field, entry_fields, interlaced_of};
 ghost use Rattle.ffv1_matroska.specs.Written.{order_element, tracks_element, video_content};
 
 use crate::rate::duration_of;
-use crate::shown::Shown;
+use crate::track_entry::{CodecId, TrackEntry};
 use crate::write::bytes::Bytes;
 use crate::write::send::send;
 use ffv1_reads::{FileFault, FileHead};
@@ -20,6 +24,8 @@ use std::alloc::Allocator;
 const TRACKS: u32 = 0x1654_AE6B;
 
 const TRACK_ENTRY: u32 = 0xAE;
+
+const CODEC_ID: u32 = 0x86;
 
 const CODEC_PRIVATE: u32 = 0x63A2;
 
@@ -56,38 +62,38 @@ fn product(side: u32, parts: u16) -> u64
     u64::from(side) * u64::from(parts)
 }
 
-/// The shape of a picture where the aspect of a sample is known.
+/// The shape of a picture if the aspect of a sample is known.
 #[tactic(auto, unfolding(crate::specs::Written::display))]
-fn display<A: Allocator>(head: &FileHead<A>, shown: Shown) -> Bytes
-    ensures value { result ≡ display (head_of head.now) shown }
+fn display<A: Allocator>(head: &FileHead<A>, details: TrackEntry) -> Bytes
+    ensures value { result ≡ display (head_of head.now) details }
     ensures len { length result ≤ 39 }
 {
     let mut elements = Bytes::new();
-    if shown.sar_num == 0 || shown.sar_den == 0 {
+    if details.sar_num == 0 || details.sar_den == 0 {
         return elements;
     }
-    elements.number(0x54B0, 8, product(head.width, shown.sar_num)); // DisplayWidth
-    elements.number(0x54BA, 8, product(head.height, shown.sar_den)); // DisplayHeight
+    elements.number(0x54B0, 8, product(head.width, details.sar_num)); // DisplayWidth
+    elements.number(0x54BA, 8, product(head.height, details.sar_den)); // DisplayHeight
     elements.number(0x54B2, 1, 3); // DisplayUnit: an aspect
     elements
 }
 
 /// The content of Video.
 #[tactic(auto, unfolding(crate::specs::Written::video_content))]
-fn video_content<A: Allocator>(head: &FileHead<A>, shown: Shown) -> Bytes
-    ensures value { result ≡ video_content (head_of head.now) shown }
+fn video_content<A: Allocator>(head: &FileHead<A>, details: TrackEntry) -> Bytes
+    ensures value { result ≡ video_content (head_of head.now) details }
     ensures len { length result ≤ 91 }
 {
     let mut content = Bytes::new();
     content.number(0xB0, 4, u64::from(head.width)); // PixelWidth
     content.number(0xBA, 4, u64::from(head.height)); // PixelHeight
-    content.number(0x9A, 1, interlaced_of(shown.structure)); // FlagInterlaced
-    content.put(order_element(shown.structure).as_slice());
-    content.put(display(head, shown).as_slice());
+    content.number(0x9A, 1, interlaced_of(details.structure)); // FlagInterlaced
+    content.put(order_element(details.structure).as_slice());
+    content.put(display(head, details).as_slice());
     content
 }
 
-/// How long a frame lasts, where there is a rate.
+/// How long a frame lasts, if there is a rate.
 #[tactic(auto, unfolding(crate::specs::Written::duration_field))]
 fn duration_field<A: Allocator>(head: &FileHead<A>) -> Bytes
     ensures value { result ≡ duration_field (head_of head.now) }
@@ -102,11 +108,23 @@ fn duration_field<A: Allocator>(head: &FileHead<A>) -> Bytes
     field
 }
 
+/// The element CodecID.
+fn put_codec(fields: &mut Bytes, id: CodecId)
+    requires { length fields.old ≤ 300 }
+    ensures value { fields.new ≡ fields.old ++ short_element codec_id (codec_name id) }
+    ensures len { length fields.new ≤ length fields.old + 20 }
+{
+    match id {
+        CodecId::Native => fields.short(CODEC_ID, b"V_FFV1"),
+        CodecId::Vfw => fields.short(CODEC_ID, b"V_MS/VFW/FOURCC"),
+    }
+}
+
 /// What the track is, before its configuration record.
 #[tactic(auto, unfolding(crate::specs::Written::entry_fields))]
-fn entry_fields<A: Allocator>(head: &FileHead<A>, shown: Shown) -> Bytes
-    ensures value { result ≡ entry_fields (head_of head.now) shown }
-    ensures len { length result ≤ 180 }
+fn entry_fields<A: Allocator>(head: &FileHead<A>, details: TrackEntry) -> Bytes
+    ensures value { result ≡ entry_fields (head_of head.now) details }
+    ensures len { length result ≤ 200 }
 {
     let mut fields = Bytes::new();
     fields.number(0xD7, 1, 1); // TrackNumber
@@ -114,51 +132,128 @@ fn entry_fields<A: Allocator>(head: &FileHead<A>, shown: Shown) -> Bytes
     fields.number(0x83, 1, 1); // TrackType: video
     fields.number(0x9C, 1, 0); // FlagLacing
     fields.short(0x22_B59C, b"und"); // Language
-    fields.short(0x86, b"V_FFV1"); // CodecID
+    put_codec(&mut fields, details.codec_id);
     fields.put(duration_field(head).as_slice());
-    fields.short(0xE0, video_content(head, shown).as_slice()); // Video
+    fields.short(0xE0, video_content(head, details).as_slice()); // Video
     fields
 }
 
-/// The bytes of Tracks.
-pub(crate) fn tracks_size<A: Allocator>(head: &FileHead<A>, shown: Shown) -> u64
-    ensures value { result ≡ length (tracks_element (head_of head.now) shown) }
-    ensures fits { result < 2 ^ 63 + 2 ^ 10 }
+/// The bytes of a picture, three a sample.
+fn picture_bytes(width: u32, height: u32) -> u128
+    ensures { result ≡ width * height * 3 }
 {
-    let fields = entry_fields(head, shown).len();
-    (37 + fields) as u64 + head.config_record.len() as u64
+    u128::from(u64::from(width) * u64::from(height)) * 3
 }
 
-/// Tracks up to the configuration record, which ends them.
-pub(crate) fn tracks_front<A: Allocator>(head: &FileHead<A>, shown: Shown) -> Bytes
-    requires { length head.now.config_record.items < 2 ^ 56 - 512 }
-    ensures { result ++ head.now.config_record.items ≡ tracks_element (head_of head.now) shown }
+/// BITMAPINFOHEADER, for a record of so many bytes.
+fn bitmap_header<A: Allocator>(head: &FileHead<A>, len: usize) -> Bytes
+    requires record { len ≡ length head.now.config_record.items }
+    requires short { len < 2 ^ 56 }
+    ensures value { result ≡ private_front Vfw (head_of head.now) }
+    ensures len { length result ≡ 40 }
+{
+    let mut header = Bytes::new();
+    header.put(&(40 + len as u64).to_le_bytes()[..4]); // biSize
+    header.put(&head.width.to_le_bytes()); // biWidth
+    header.put(&head.height.to_le_bytes()); // biHeight
+    header.put(&[1, 0, 24, 0]); // biPlanes, which is always 1; biBitCount, of three samples of 8
+    header.put(b"FFV1"); // biCompression
+    header.put(&picture_bytes(head.width, head.height).to_le_bytes()[..4]); // biSizeImage
+    // biXPelsPerMeter, biYPelsPerMeter, biClrUsed, biClrImportant
+    header.put(&[0u8; 16]);
+    header
+}
+
+/// What stands in CodecPrivate before the configuration record, of so many bytes.
+fn private_front<A: Allocator>(head: &FileHead<A>, id: CodecId, len: usize) -> Bytes
+    requires record { len ≡ length head.now.config_record.items }
+    requires short { len < 2 ^ 56 }
+    ensures value { result ≡ private_front id (head_of head.now) }
+    ensures len { length result ≤ 40 }
+{
+    match id {
+        CodecId::Native => Bytes::new(),
+        CodecId::Vfw => bitmap_header(head, len),
+    }
+}
+
+/// How many bytes stand in CodecPrivate after a configuration record of so many bytes.
+fn padding(id: CodecId, len: usize) -> usize
+    ensures value { (head : Head) → len ≡ length head.config_record →
+        result ≡ length (private_end id head) }
+    ensures zeros { (head : Head) → len ≡ length head.config_record →
+        replicate result 0 ≡ private_end id head }
+    ensures most { result ≤ 1 }
+{
+    match id {
+        CodecId::Native => 0,
+        CodecId::Vfw => len % 2,
+    }
+}
+
+/// The bytes of CodecPrivate beside the configuration record.
+fn beside_record(id: CodecId, len: usize) -> u64
+    ensures value { (head : Head) → len ≡ length head.config_record →
+        result + len ≡ length (private_content id head) }
+    ensures most { result ≤ 41 }
+{
+    match id {
+        CodecId::Native => 0,
+        CodecId::Vfw => 40 + padding(id, len) as u64,
+    }
+}
+
+/// The bytes of Tracks.
+pub(crate) fn tracks_size<A: Allocator>(head: &FileHead<A>, details: TrackEntry) -> u64
+    ensures value { result ≡ length (tracks_element (head_of head.now) details) }
+    ensures fits { result < 2 ^ 63 + 2 ^ 10 }
+{
+    let fields = entry_fields(head, details).len();
+    let len = head.config_record.len();
+    (37 + fields) as u64 + beside_record(details.codec_id, len) + len as u64
+}
+
+/// Tracks up to the configuration record, after which so many bytes stand that are 0.
+pub(crate) fn tracks_front<A: Allocator>(
+    head: &FileHead<A>,
+    details: TrackEntry,
+    zeros: &[u8],
+) -> Bytes
+    requires short { length head.now.config_record.items < 2 ^ 56 - 512 }
+    requires zeros { zeros.now ≡ private_end details.codec_id (head_of head.now) }
+    ensures { result ++ (head.now.config_record.items ++ zeros.now)
+        ≡ tracks_element (head_of head.now) details }
 {
     let record = head.config_record.as_slice();
-    let len = record.len();
-    let mut content = entry_fields(head, shown);
-    content.long(CODEC_PRIVATE, len as u64);
+    let len = record.len() + zeros.len();
+    let front = private_front(head, details.codec_id, record.len());
+    let mut content = entry_fields(head, details);
+    content.long(CODEC_PRIVATE, (front.len() + len) as u64);
+    content.put(front.as_slice());
     let mut entry = Bytes::new();
     entry.long(TRACK_ENTRY, (content.len() + len) as u64);
     entry.put(content.as_slice());
-    let sum = more(more(!0, entry.as_slice()), record) ^ !0;
-    let mut front = Bytes::new();
-    front.long(TRACKS, (6 + entry.len() + len) as u64);
-    front.sum(sum);
-    front.put(entry.as_slice());
-    front
+    let sum = more(more(more(!0, entry.as_slice()), record), zeros) ^ !0;
+    let mut tracks = Bytes::new();
+    tracks.long(TRACKS, (6 + entry.len() + len) as u64);
+    tracks.sum(sum);
+    tracks.put(entry.as_slice());
+    tracks
 }
 
 /// Writes Tracks.
 pub(crate) fn put_tracks<W: ByteOut, A: Allocator>(
     out: &mut W,
     head: &FileHead<A>,
-    shown: Shown,
+    details: TrackEntry,
 ) -> Result<(), FileFault>
     requires { length head.now.config_record.items < 2 ^ 56 - 512 }
     ensures { Writes (passage W.contents W.failures out.old out.new)
-        (tracks_element (head_of head.now) shown) result }
+        (tracks_element (head_of head.now) details) result }
 {
-    send(out, tracks_front(head, shown).as_slice())?;
-    send(out, head.config_record.as_slice())
+    let zero = [0u8];
+    let zeros = &zero[..padding(details.codec_id, head.config_record.len())];
+    send(out, tracks_front(head, details, zeros).as_slice())?;
+    send(out, head.config_record.as_slice())?;
+    send(out, zeros)
 }

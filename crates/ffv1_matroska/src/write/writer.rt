@@ -10,7 +10,7 @@ ghost use Rattle.ffv1_matroska.specs.WrittenPlaces.{cluster_bytes, last_place};
 ghost use Rattle.ffv1_matroska.specs.Writers.{Finishes, Makes, Puts, piece};
 
 use crate::rate::{duration_of, rate_of};
-use crate::shown::Shown;
+use crate::track_entry::TrackEntry;
 use crate::write::clusters::put_cluster;
 use crate::write::cues::{cues_size, put_cues};
 use crate::write::opening::{Finish, opening};
@@ -42,7 +42,7 @@ const SEGMENT_PLACE: u64 = 52;
 #[derive(Drop)]
 pub struct MatroskaWriter<A: Allocator = Global> {
     head: FileHead<A>,
-    shown: Shown,
+    details: TrackEntry,
     count: u64,
     at: u64,
     stride: u64,
@@ -61,7 +61,7 @@ impl<A: Allocator> Model for MatroskaWriter<A> {
 
     ghost view = { λ w. record {
       head = head_of w.head;
-      shown = w.shown;
+      details = w.details;
       count = w.count;
       at = w.at;
       stride = w.stride;
@@ -71,7 +71,7 @@ impl<A: Allocator> Model for MatroskaWriter<A> {
 
     ghost invariant = { λ w. Keeping (record {
       head = head_of w.head;
-      shown = w.shown;
+      details = w.details;
       count = w.count;
       at = w.at;
       stride = w.stride;
@@ -92,38 +92,42 @@ fn is_too_far(at: u64, len: usize) -> bool
 fn put_piece<W: ByteOut, A: Allocator>(
     out: &mut W,
     head: &FileHead<A>,
-    shown: Shown,
+    details: TrackEntry,
     count: u64,
     frame: &[u8],
 ) -> Result<(), FileFault>
     requires record { count ≡ 0 → length head.now.config_record.items < 2 ^ 56 - 512 }
     requires frame { length frame.now < 2 ^ 56 - 512 }
     ensures { Writes (passage W.contents W.failures out.old out.new)
-        (piece (head_of head.now) shown count frame.now) result }
+        (piece (head_of head.now) details count frame.now) result }
 {
     if count == 0 {
         send(out, opening(head, None).as_slice())?;
-        put_tracks(out, head, shown)?;
+        put_tracks(out, head, details)?;
         return put_cluster(out, 0, frame);
     }
     put_cluster(out, count, frame)
 }
 
 impl<A: Allocator> MatroskaWriter<A> {
-    /// A writer of a file of this head, whose pictures are so shown. Nothing is written yet.
+    /// A writer of a file of this head, with such a TrackEntry. Nothing is written yet.
     ///
-    /// `Rate` exactly where the rate does not come back from the whole nanoseconds of a frame, as
+    /// `Rate` exactly if the rate does not come back from the whole nanoseconds of a frame, as
     /// `rate_of(duration_of(rate, scale))`; `OutOfMemory` for a copy of the configuration record,
     /// or for 8192 places.
-    pub fn new(alloc: A, head: &FileHead<A>, shown: Shown) -> Result<MatroskaWriter<A>, FileFault>
+    pub fn new(
+        alloc: A,
+        head: &FileHead<A>,
+        details: TrackEntry,
+    ) -> Result<MatroskaWriter<A>, FileFault>
     where
         A: Copy,
-        ensures { Makes (head_of head.now) shown result }
+        ensures { Makes (head_of head.now) details result }
     {
         if rate_of(duration_of(head.rate, head.scale)) != (head.rate, head.scale) {
             return Err(FileFault::Rate);
         }
-        let at = TRACKS_PLACE + tracks_size(head, shown);
+        let at = TRACKS_PLACE + tracks_size(head, details);
         let config_record = Vec::from_slice(alloc, head.config_record.as_slice())?;
         let places = Vec::with_capacity(alloc, MOST_CUES)?;
         let head = FileHead {
@@ -135,7 +139,7 @@ impl<A: Allocator> MatroskaWriter<A> {
         };
         Ok(MatroskaWriter {
             head,
-            shown,
+            details,
             count: 0,
             at,
             stride: 1,
@@ -144,12 +148,12 @@ impl<A: Allocator> MatroskaWriter<A> {
         })
     }
 
-    /// Writes the next frame: its Cluster, and before the first one all that stands before the
+    /// Writes the next frame: its Cluster, and before the first one all that comes before the
     /// Clusters, of a Segment of unknown size.
     ///
-    /// The output has to be the same at each call. `TooLarge` where the Cluster would end more than
-    /// 2^56 - 2^20 bytes after the first byte of the Segment's content: nothing is written then,
-    /// and the writer is as it was. `Write` where a write failed: a beginning of the bytes was
+    /// The output has to be the same at each call. `TooLarge` if the Cluster would end more than
+    /// 2^56 - 2^20 bytes after the first byte of the Segment's content: nothing is then written,
+    /// and the writer is as it was. `Write` if a write failed: a beginning of the bytes was
     /// written, and each further call answers `Write` again and writes nothing. It takes no memory.
     pub fn put<W: ByteOut>(&mut self, out: &mut W, frame: &[u8]) -> Result<(), FileFault>
         ensures answer { self.old.failed ≡ false → Puts
@@ -164,7 +168,7 @@ impl<A: Allocator> MatroskaWriter<A> {
         if is_too_far(self.at, frame.len()) {
             return Err(FileFault::TooLarge);
         }
-        if put_piece(out, &self.head, self.shown, self.count, frame).is_err() {
+        if put_piece(out, &self.head, self.details, self.count, frame).is_err() {
             self.failed = true;
             return Err(FileFault::Write);
         }
@@ -174,14 +178,13 @@ impl<A: Allocator> MatroskaWriter<A> {
         Ok(())
     }
 
-    /// Writes Cues, and then writes over all that stands before Tracks: the Segment's size, where
-    /// Cues begin and how long the frames last become known. It answers true then; false where the
-    /// output can't be written over: it then has all frames and Cues, and a Segment of unknown
-    /// size. Where no frame was put nothing is written, and the answer is false.
+    /// Writes Cues, and then writes over all that comes before Tracks: the Segment's size, where
+    /// Cues begin and how long the frames last become known. It then answers true. It answers false
+    /// if the output can't be written over: that then has all frames and Cues, and a Segment of
+    /// unknown size. If no frame was put, nothing is written, and the answer is false.
     ///
-    /// `Write` where a write failed: a beginning of Cues was written, or all of them and a
-    /// beginning of what is written over; or where one had failed before, and then nothing is
-    /// written.
+    /// `Write` if a write failed: a beginning of Cues was written, or all of them and a beginning
+    /// of what is written over. `Write` also if one had failed before; nothing is then written.
     pub fn finish<W: PatchOut>(self, out: &mut W) -> Result<bool, FileFault>
         ensures answer { self.failed ≡ false → 0 < self.count →
             Finishes (passage W.contents W.failures out.old out.new) self result }

@@ -76,7 +76,7 @@ impl LineSink for KeepSamples {
 }
 
 /// The fault of a picture of two lines whose sink refuses one after so many, the decisions up to
-/// there, and the refusals; and whether the sink then has these samples, and takes all of the
+/// there, and the refusals. Also whether the sink then has these samples, and takes all of the
 /// picture when it is decoded again.
 fn refused_line(
     alloc: Global,

@@ -114,7 +114,7 @@ fn fields(rt: HostRuntime) -> Result<(), Fail> {
     Ok(())
 }
 
-/// A bad element after the one that is sought is not seen; one before it is the fault.
+/// A bad element after the one that is looked for is not seen; one before it is the fault.
 #[test]
 fn bad_elements(rt: HostRuntime) {
     let bytes = [0xD7, 0x81, 7, 0xEC, 0x85, 0];

@@ -142,8 +142,8 @@ fn decoder<A: Allocator + Copy>(alloc: A, checked: Checked<A>, frame: &[u8]) -> 
     }
 }
 
-/// The same of a kind, where the request after so many others is refused once the configuration
-/// is made.
+/// The same of a kind, if the request after so many others is refused once the configuration is
+/// made.
 fn decoder_of(alloc: Global, kind: &Kind<'_>, before: u64) -> Option<(Came, bool)> {
     let ample = Scarce::new(alloc, u64::MAX);
     let scarce = Scarce::new(alloc, before);
@@ -191,7 +191,7 @@ fn wide<A: Allocator + Copy>(alloc: A) -> Option<Checked<A>> {
     made::mono(alloc, 32, 1, 32, false).ok()?.check().ok()
 }
 
-/// Whether the making of their decoder is refused, where the request after so many others is.
+/// Whether the making of their decoder is refused, if the request after so many others is.
 fn wide_is_refused(alloc: Global, before: u64) -> Option<bool> {
     let ample = Scarce::new(alloc, u64::MAX);
     let scarce = Scarce::new(alloc, before);

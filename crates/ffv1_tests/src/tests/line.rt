@@ -45,7 +45,7 @@ fn put_samples(
     Ok(())
 }
 
-/// Whether such rows from fresh states, and after them others from fresh states, have these bytes
+/// Whether these rows from fresh states, and after them others from fresh states, have these bytes
 /// by the sentinel ending, else by the full one. Also how many decisions they are.
 fn codes(
     alloc: Global,

@@ -1,8 +1,9 @@
 //! Command lines: the orders that they name.
 
+mod codec_ids;
 mod refused;
 
-use ffv1_engine::{Choice, CoderChoice, ContainerChoice, Order, words};
+use ffv1_engine::{Choice, CodecIdChoice, CoderChoice, ContainerChoice, Order, words};
 use std::alloc::Global;
 use std::process::Abort;
 
@@ -17,6 +18,8 @@ const DEFAULTS: Choice = Choice {
     rate: 25,
     scale: 1,
     verify: false,
+    codec_id: CodecIdChoice::Native,
+    codec_id_given: false,
 };
 
 fn names<'a>(rt: &impl Abort, alloc: Global, line: &'a [&'a str], order: Order<'a>) {
@@ -315,6 +318,8 @@ static MORE: [(&[&str], Order<'static>); 4] = [
                 rate: 30000,
                 scale: 1001,
                 verify: true,
+                codec_id: CodecIdChoice::Native,
+                codec_id_given: false,
             },
             container: ContainerChoice::Auto,
             no_clobber: false,
@@ -361,7 +366,7 @@ fn more_options(rt: HostRuntime) {
     names_each(&rt, rt.alloc(), &MORE);
 }
 
-/// Which names of OUT are Matroska: where a container is named, and where none is.
+/// Which names of OUT are Matroska: if a container is named, and if none is.
 #[test]
 fn names_of_matroska(rt: HostRuntime) {
     for (container, by_name) in [

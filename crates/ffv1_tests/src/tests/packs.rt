@@ -1,6 +1,6 @@
 //! Videos that are packed, with files and frames computed outside the program, and their faults.
 
-use ffv1_engine::{Choice, CoderChoice, Fault, Packed, Profile, pack};
+use ffv1_engine::{Choice, CodecIdChoice, CoderChoice, Fault, Packed, Profile, pack};
 use ffv1_wire::{FromRead, ToWrite};
 use std::alloc::Global;
 use std::process::Abort;
@@ -16,6 +16,8 @@ const PLAIN: Choice = Choice {
     rate: 25,
     scale: 1,
     verify: false,
+    codec_id: CodecIdChoice::Native,
+    codec_id_given: false,
 };
 
 /// A text of 4:2:0 with one picture of 2 by 2.

@@ -257,8 +257,8 @@ fn chooses_by_signs(rt: HostRuntime) {
     }
 }
 
-/// A sample of so many bits has these residuals, plain and flipped, and comes back from each, but
-/// for bits above those.
+/// A sample of so many bits has these residuals, plain and flipped, and comes back from each,
+/// except for bits above those.
 fn takes(rt: &impl Abort, pred: i32, sample: u16, bits: u8, residuals: (i32, i32), lowest: u16)
     requires bits { (bits ≡ 8) ⊎ (bits ≡ 9) }
 {

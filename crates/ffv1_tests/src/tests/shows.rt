@@ -43,7 +43,7 @@ fn mono(alloc: Global) -> Result<Config, RecordFault> {
     made::mono(alloc, 1, 1, 1, false)
 }
 
-/// A file of such a rate and scale, and of so many of these frames.
+/// A file of this rate and scale, and of so many of these frames.
 pub(super) fn file_of(
     alloc: Global,
     config: Config,

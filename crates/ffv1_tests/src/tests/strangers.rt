@@ -1,6 +1,6 @@
 //! Records that no encoder wrote: damaged bit by bit.
 
-use ffv1_engine::{Choice, CoderChoice, Fault, Profile, check, pack};
+use ffv1_engine::{Choice, CodecIdChoice, CoderChoice, Fault, Profile, check, pack};
 use ffv1_wire::{FromRead, ToWrite};
 use std::alloc::Global;
 use std::test::Fail;
@@ -17,6 +17,8 @@ fn file(alloc: Global) -> Result<Vec<u8>, Fault> {
         rate: 25,
         scale: 1,
         verify: false,
+        codec_id: CodecIdChoice::Native,
+        codec_id_given: false,
     };
     let mut input = FromRead::new(b"YUV4MPEG2 W1 H1 Cmono\nFRAME\n\0".as_slice());
     let mut output = ToWrite::new(Vec::new(alloc));

@@ -4,7 +4,9 @@
 use super::made;
 use ffv1_avi::write_avi;
 use ffv1_doubles::{FailingWriter, Scarce};
-use ffv1_engine::{Choice, CoderChoice, Fault, Profile, framemd5, framemd5_text, pack};
+use ffv1_engine::{
+    Choice, CodecIdChoice, CoderChoice, Fault, Profile, framemd5, framemd5_text, pack,
+};
 use ffv1_reads::FileHead;
 use ffv1_record::write_record;
 use ffv1_wire::{FromRead, ToWrite};
@@ -24,6 +26,8 @@ const PLAIN: Choice = Choice {
     rate: 25,
     scale: 1,
     verify: false,
+    codec_id: CodecIdChoice::Native,
+    codec_id_given: false,
 };
 
 /// The file of a text.
@@ -170,10 +174,10 @@ fn file_with(alloc: Global, frames: &[Vec<u8>]) -> Result<Vec<u8>, Fault> {
     Ok(out.into_inner())
 }
 
-/// A frame of such a file.
+/// A frame of one of these files.
 const FRAME: &[u8] = b"\xFE\x7B\x00\x00\x02";
 
-/// A file of one such frame.
+/// A file of one of these frames.
 fn one_frame(alloc: Global) -> Result<Vec<u8>, Fault> {
     let mut frames = Vec::new(alloc);
     frames.push(Vec::from_slice(alloc, FRAME)?)?;

@@ -1,10 +1,11 @@
 //! Each request for memory, each read and each write of each command, refused or cut in turn: the
-//! fault that is answered, and the beginning of what is owed that stands written then. What is owed
-//! is what `model/commands.py` writes of the same input.
+//! fault that is answered, and the beginning of what is owed that is then written. What is owed is
+//! what `model/commands.py` writes of the same input.
 
 use ffv1_doubles::{FailingReader, Scarce, ShortWriter};
 use ffv1_engine::{
-    Choice, CoderChoice, Fault, Profile, check, pack, pack_matroska, show, trial, unpack,
+    Choice, CodecIdChoice, CoderChoice, Fault, Profile, check, pack, pack_matroska, show, trial,
+    unpack,
 };
 use ffv1_wire::{ByteIn, ByteOut, FromRead, PatchOut, ToWrite};
 use std::alloc::{Allocator, Global};
@@ -84,7 +85,7 @@ struct Case<'a> {
     owed: &'a [u8],
     /// From so many bytes on, a write that fails is not told.
     told: usize,
-    /// The answer where nothing is refused.
+    /// The answer if nothing is refused.
     ends: Result<(), Fault>,
 }
 
@@ -99,6 +100,8 @@ const PLAIN: Choice = Choice {
     rate: 25,
     scale: 1,
     verify: false,
+    codec_id: CodecIdChoice::Native,
+    codec_id_given: false,
 };
 
 /// Packs without parity into Matroska.
@@ -157,7 +160,7 @@ fn run<R: ByteIn, W: PatchOut, A: Allocator + Copy>(
     (output, answer)
 }
 
-/// How many bytes were written, where they are a beginning of those that are owed.
+/// How many bytes were written, if they are a beginning of those that are owed.
 fn beginning(owed: &[u8], written: &[u8]) -> Option<usize> {
     if owed.starts_with(written) {
         return Some(written.len());
@@ -181,7 +184,7 @@ fn is_step(steps: &[(usize, usize)], written: usize) -> bool {
     written == 0 || steps.iter().any(|step| step.1 == written)
 }
 
-/// The answer, and what was written, where the request after so many others is refused.
+/// The answer, and what was written, if the request after so many others is refused.
 fn refused(alloc: Global, case: &Case<'_>, before: u64) -> (Result<(), Fault>, Option<usize>) {
     let heap = Scarce::new(alloc, before);
     let output = ToWrite::new(Vec::new(alloc));
@@ -189,7 +192,7 @@ fn refused(alloc: Global, case: &Case<'_>, before: u64) -> (Result<(), Fault>, O
     (answer, beginning(case.owed, &output.into_inner()))
 }
 
-/// The same, where the read after so many of one byte fails.
+/// The same, if the read after so many of one byte fails.
 fn unread(alloc: Global, case: &Case<'_>, before: usize) -> (Result<(), Fault>, Option<usize>) {
     let mut input = FromRead::new(FailingReader::new(case.input, before, 1, ErrorKind::Other));
     let output = ToWrite::new(Vec::new(alloc));
@@ -197,7 +200,7 @@ fn unread(alloc: Global, case: &Case<'_>, before: usize) -> (Result<(), Fault>, 
     (answer, beginning(case.owed, &output.into_inner()))
 }
 
-/// The same, where the writer takes so many bytes, seven at a time, and then fails.
+/// The same, if the writer takes so many bytes, seven at a time, and then fails.
 fn unwritten(alloc: Global, case: &Case<'_>, room: usize) -> (Result<(), Fault>, Option<usize>) {
     let output = ToWrite::new(ShortWriter::new(alloc, room, 7, Some(ErrorKind::Other)));
     let (output, answer) = run(alloc, case.command, &mut FromRead::new(case.input), output);
@@ -227,7 +230,7 @@ fn each_request(rt: &impl Abort, alloc: Global, case: &Case<'_>) -> (u64, u64) {
     (begun, lost)
 }
 
-/// Each read fails in turn: `Read`, and what stands after the bytes that were read.
+/// Each read fails in turn: `Read`, and as much is written as the bytes that were read give.
 fn each_read(rt: &impl Abort, alloc: Global, case: &Case<'_>) {
     let all = match case.steps.last() {
         Some(step) => step.0,
@@ -314,7 +317,7 @@ fn trials(rt: HostRuntime) {
     assert!(rt; in_turn(&rt, rt.alloc(), &case) == (0, 0));
 }
 
-/// The file of a text, whose last frame begins with a byte of 0 where it is to be damaged.
+/// The file of a text, whose last frame begins with a byte of 0 if it is to be damaged.
 fn file_of(alloc: Global, text: &[u8], damage: bool) -> Result<Vec<u8>, Fault> {
     let mut output = ToWrite::new(Vec::new(alloc));
     pack_plain(alloc, &mut FromRead::new(text), &mut output)?;
@@ -357,7 +360,7 @@ fn unpacking_one(rt: HostRuntime) {
     assert!(rt; plays(&rt, rt.alloc(), unpack, IMAGE_FILE, &[(268, 14)], IMAGE) == 0);
 }
 
-/// The second frame takes memory where it is longer than the first.
+/// The second frame takes memory if it is longer than the first.
 #[test]
 fn unpacking_two(rt: HostRuntime) -> Result<(), Fail> {
     let unpack = Command::Unpack;
@@ -413,8 +416,8 @@ fn showing(rt: HostRuntime) -> Result<(), Fail> {
     Ok(())
 }
 
-/// The line of where a frame is refused takes no memory. Where it cannot be written, the fault is
-/// still that of the frame.
+/// The line that says where a frame is refused takes no memory. If it cannot be written, the fault
+/// is still that of the frame.
 #[test]
 fn places(rt: HostRuntime) -> Result<(), Fail> {
     let file = file_of(rt.alloc(), MONO, true)?;

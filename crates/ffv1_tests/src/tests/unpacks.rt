@@ -2,7 +2,7 @@
 
 use super::made;
 use ffv1_avi::write_avi;
-use ffv1_engine::{Choice, CoderChoice, Fault, Profile, pack, unpack};
+use ffv1_engine::{Choice, CodecIdChoice, CoderChoice, Fault, Profile, pack, unpack};
 use ffv1_reads::FileHead;
 use ffv1_record::{Colour, Config, write_record};
 use ffv1_wire::{FromRead, ToWrite};
@@ -21,6 +21,8 @@ const PLAIN: Choice = Choice {
     rate: 25,
     scale: 1,
     verify: false,
+    codec_id: CodecIdChoice::Native,
+    codec_id_given: false,
 };
 
 /// A text of 4:2:0 with one picture of 2 by 2, and what comes back of it.

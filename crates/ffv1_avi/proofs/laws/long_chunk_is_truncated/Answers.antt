@@ -1,6 +1,6 @@
--- A chunk that passes its list is truncated, and nothing after its header is read: in `movi` after
--- chunks that are no frames, in RIFF and in `hdrl` after chunks whose first stream, if there is
--- one, is FFV1, and in the first stream after chunks of which no format is too long.
+-- A chunk that passes its list is truncated, and nothing after its header is read. So it is in
+-- `movi` after chunks that are no frames, in RIFF and in `hdrl` after chunks whose first stream, if
+-- there is one, is FFV1, and in the first stream after chunks of which no format is too long.
 use Rattle.ffv1_avi.proofs.RefusalLaws.{chunk_long}
 use Rattle.ffv1_avi.proofs.LongLaws.{header_long, riff_long, stream_long}
 use Rattle.ffv1_avi.proofs.laws.long_chunk_is_truncated.Goals as goal

@@ -1,4 +1,4 @@
--- Where every RIFF is read, a movi holds only what a name lists.
+-- If every RIFF is read, a movi holds only what a name lists.
 use Rattle.ffv1_avi.proofs.ListedNames.{barred_refused, frames_named, listed_named, named_listed}
 use Rattle.ffv1_avi.proofs.ListedNames.{unsized_refused}
 use Rattle.ffv1_avi.proofs.laws.movi_holds_listed_chunks.Goals as goal

@@ -1,4 +1,4 @@
--- A beginning of a file that is read, up to the end of `movi`, ends where more bytes are wanted.
+-- A beginning of a file that is read, up to the end of `movi`, ends when more bytes are wanted.
 use Rattle.ffv1_avi.proofs.BeginningLaws.{file_beginning}
 use Rattle.ffv1_avi.proofs.FileLaws.{file_complete}
 use Rattle.ffv1_avi.proofs.laws.shorter_file_wants_more_bytes.Goals as goal

@@ -1,4 +1,4 @@
--- A beginning of a file of which every RIFF is read ends where more bytes are wanted, but at the
+-- A beginning of a file of which every RIFF is read ends when more bytes are wanted, except at the
 -- edge of an RIFF.
 use Rattle.ffv1_avi.proofs.EdgeLaws.{every_edge, every_within, owed_given}
 use Rattle.ffv1_avi.proofs.laws.shorter_riffs_want_more_bytes.Goals as goal

@@ -1,5 +1,5 @@
 -- What is written is a file of its head and frames, by its chunks, of one RIFF, and is read back,
--- where the first `movi` alone is read and where every RIFF is.
+-- if the first `movi` alone is read and if every RIFF is.
 use Rattle.std.proofs.Common.{◌∙◌}
 use Rattle.ffv1_avi.proofs.EveryRiffLaws.{every_complete}
 use Rattle.ffv1_avi.proofs.FileLaws.{file_complete}

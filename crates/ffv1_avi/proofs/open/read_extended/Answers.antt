@@ -1,4 +1,4 @@
--- The list odml of such a size after its own name, with its padding.
+-- The list odml of a given size after its own name, with its padding.
 use Rattle.ffv1_reads.proofs.Reading.{goes_read}
 use Rattle.ffv1_avi.proofs.ChunkByChunk.{goes_entry}
 use Rattle.ffv1_reads.proofs.Answered.{answers_err, answers_first, answers_given}

@@ -1,4 +1,4 @@
--- A list of hdrl of such a size, by its own name.
+-- A list of hdrl of a given size, by its own name.
 use Rattle.std.proofs.Common.{◌≡◌, ℕ, List, [], true, false, codes, refl, sym, ap}
 use Rattle.ffv1_avi.specs.Files.{Headers, extended_visited, header_list, header_named, list_skipped}
 use Rattle.ffv1_avi.specs.Files.{stream_came, stream_visited}

@@ -1,4 +1,4 @@
--- A stream's list, of such a size, after its own name, with its padding.
+-- A stream's list, of a given size, after its own name, with its padding.
 use Rattle.std.proofs.Common.{rules, ◌≡◌, ◌<◌, ◌≤◌, ◌-◌, ◌%◌, ◌∙◌, ap, ℕ, List, Option, Some, None}
 use Rattle.std.proofs.Common.{refl, arith}
 use Rattle.std.proofs.lemmas.Bool.{lt-ltb, le-ltb}

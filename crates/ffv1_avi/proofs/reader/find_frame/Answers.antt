@@ -63,10 +63,12 @@ loop-size-preserved g c =
     let start = goes_same _ (movi_found place.names place.movi >>= found_or_on frame_found place)
     (frame_step place) c.loop-size.invariant.0 in
     let here = goes_read (movi_found place.names place.movi) (found_or_on frame_found place) _ _
-    None start (rw c.in_default.is at c.in_ok-size.ensures.answer) in (
+    None start (rw c.in_default.is at c.in_ok-size.ensures.answer) in
+    let less = moved_less place next (read.bytes ++ []) [] (read.is []) in (
       none_read (extent_of place) (moved place) (sought_on frame_found) _ _ next here answer,
-      (moved_less place next (read.bytes ++ []) [] (read.is [])).1 ∙ c.loop-size.invariant.1,
-      up_to_then c.loop-size.invariant.2 (up_to_then
+      less.1 ∙ c.loop-size.invariant.1,
+      less.2 ∙ c.loop-size.invariant.2,
+      up_to_then c.loop-size.invariant.3 (up_to_then
           (rw c.in_default.is at c.in_ok-size.ensures.from)
           (rw c.in-Some-2.is at c.in_ok-next.ensures.from)),
     )
@@ -76,6 +78,7 @@ loop-size-init g c = (
   goes_none (frame_found c.args.place) (g.R.ByteIn.remaining c.args.input.now)
       (g.R.ByteIn.failures c.args.input.now),
   refl,
+  refl,
   reads_still,
 )
 
@@ -83,7 +86,7 @@ pub returns-in_err-size-clause-from : goal.returns-in_err-size-clause-from
 returns-in_err-size-clause-from g c =
     let p = err_from_is_err_and c.from_residual.result c.from_residual.ensures.1 in
     let inv = c.loop-size.invariant in
-    rw (p.1, p.2) (stops_then c.in_err-size.field-0.0 inv.0.same inv.2 c.in_err-size.ensures.from)
+    rw (p.1, p.2) (stops_then c.in_err-size.field-0.0 inv.0.same inv.3 c.in_err-size.ensures.from)
 
 pub returns-in-Some-clause-from : goal.returns-in-Some-clause-from
 returns-in-Some-clause-from g c =
@@ -95,7 +98,7 @@ returns-in-Some-clause-from g c =
       from.2,
       sym from.3,
       up_to_then
-          c.loop-size.invariant.2 from.4,
+          c.loop-size.invariant.3 from.4,
     )
 
 pub returns-in_err-next-clause-from : goal.returns-in_err-next-clause-from
@@ -104,6 +107,11 @@ returns-in_err-next-clause-from g c =
     c.from_residual-in_err-next.ensures.1 in
     let inv = c.loop-size.invariant in
     let f = c.in_err-next.field-0.0 in
-    rw (p.1, p.2) (stops_then f inv.0.same inv.2
+    rw (p.1, p.2) (stops_then f inv.0.same inv.3
     (stops_then f (rw c.in_default.is at c.in_ok-size.ensures.answer).0
     (rw c.in_default.is at c.in_ok-size.ensures.from) c.in_err-next.ensures.from))
+
+pub returns-in-Some-clause-sized : goal.returns-in-Some-clause-sized
+returns-in-Some-clause-sized g c =
+    let size = rw c.in-Some.is at c.in_ok-size.ensures.sized in
+    rw (← c.loop-size.invariant.2) size

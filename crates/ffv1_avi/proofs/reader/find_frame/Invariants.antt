@@ -10,7 +10,7 @@ invariant-loop-size g l =
     Goes (frame_found l.fn.place) (g.R.ByteIn.remaining l.initial.input)
     (g.R.ByteIn.failures l.initial.input) (frame_found l.place) (g.R.ByteIn.remaining l.input)
     (g.R.ByteIn.failures l.input)
-    × (extent_of l.place ≡ extent_of l.fn.place)
+    × (extent_of l.place ≡ extent_of l.fn.place) × (l.place.names ≡ l.fn.place.names)
     × ReadsUpTo l.fn.place (g.R.ByteIn.remaining l.initial.input) (g.R.ByteIn.remaining l.input)
     l.place l.initial.offset l.offset
 

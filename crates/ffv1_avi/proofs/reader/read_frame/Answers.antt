@@ -191,3 +191,10 @@ returns-clause-from g c =
     let pad = rw c.from.ensures at c.in_ok-pass.ensures in
     rw from.4 (frame_next from.0 c.in-Some.size from.2 c.fill.new.bytes.items from.5 from.3
     c.in_ok-fill.ensures.answer.1 pad.1 (rw c.padded.ensures at c.saturating_add.ensures))
+
+pub returns-clause-names : goal.returns-clause-names
+returns-clause-names g c =
+    let frame : ℕ × Place = (c.in-Some.size, c.in-Some.after) in
+    let read = some_read (extent_of c.args.place) (frame_found c.args.place) _ _ frame
+    (rw c.in-Some.is at c.in_ok-size.ensures.answer).1 in
+    (frame_less_at c.args.place c.in-Some.after c.in-Some.size (read.bytes ++ []) [] (read.is [])).2

@@ -1,4 +1,4 @@
--- `count_riff`: the same, which counts its first twelve bytes where there is one.
+-- `count_riff`: the same, which counts its first twelve bytes if there is one.
 use Rattle.ffv1_avi.specs.declared.place.Extent.TheVariants.{EveryRiff}
 use Rattle.ffv1_avi.specs.Files.{riff_begun}
 use Rattle.ffv1_avi.proofs.EndReadings.{some_read}

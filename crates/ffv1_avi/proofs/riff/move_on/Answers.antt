@@ -1,4 +1,4 @@
--- Where frames are sought next after the end of a movi; None at the end.
+-- Where frames are looked for next after the end of a movi; None at the end.
 use Rattle.std.proofs.Common.{◌<◌, [], Option, None, inl, refl, arith}
 use Rattle.std.proofs.lemmas.Result.{err_from_is_err_and}
 use Rattle.ffv1_avi.specs.declared.place.Extent.TheVariants.{EveryRiff}

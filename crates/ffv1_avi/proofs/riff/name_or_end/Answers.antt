@@ -1,4 +1,4 @@
--- The next four bytes; or None at the end of the input, where no frame is owed.
+-- The next four bytes; or None at the end of the input, if no frame is owed.
 use Rattle.std.proofs.Common.{◌≡◌, ◌<◌, ◌≤◌, ◌++◌, ◌∷◌, [], ℕ, List, Option, Some, None, suc, zero}
 use Rattle.std.proofs.Common.{length, slice_index_or, inl, inr, refl, arith}
 use Rattle.std.proofs.lemmas.Bool.{cases_lt, lt-ltb, le-ltb}

@@ -1,4 +1,4 @@
--- What a stream says, at its end: None where it is no FFV1 video.
+-- What a stream says, at its end: None if it is no FFV1 video.
 use Rattle.std.proofs.Common.{rules, ◌≡◌, ℕ, Option, None, Some, refl}
 use Rattle.ffv1_avi.specs.Streams.{no_video, stream_judged}
 use Rattle.ffv1_avi.specs.declared.place.Extent.{Extent}

@@ -1,5 +1,5 @@
--- The width and the height of a stream's format of such a size, and its record in place of what the
--- vector has, where it is FFV1.
+-- The width and the height of a stream's format of a given size, and its record in place of what
+-- the vector has, if it is FFV1.
 use Rattle.std.proofs.Common.{◌≡◌, ◌∙◌, ap, sym, drop, arith}
 use Rattle.std.proofs.lemmas.Grind.{common_steps}
 use Rattle.std.proofs.lemmas.Result.{err_from_is_err_and}

@@ -1,4 +1,4 @@
--- The rate and the scale of a stream's header of such a size, where it is one of video.
+-- The rate and the scale of a stream's header of a given size, if it is one of video.
 use Rattle.std.proofs.Common.{◌≡◌, ◌∙◌, refl, sym, codes, true, Some, None, take, drop, arith}
 use Rattle.byteorder.specs.Endian.{little_number}
 use Rattle.ffv1_avi.specs.Walk.{is_name}

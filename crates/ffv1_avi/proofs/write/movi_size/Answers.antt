@@ -1,4 +1,4 @@
--- The size of movi, where that of RIFF, which has so many bytes beside it, is not too great.
+-- The size of movi, if that of RIFF, which has so many bytes beside it, is not too great.
 use Rattle.std.proofs.Common.{◌≡◌, ◌+◌, ◌<◌, length, get_or, arith, refl}
 use Rattle.std.proofs.lemmas.Bool.{lt-leb}
 use Rattle.std.proofs.lemmas.Grind.{common_steps}

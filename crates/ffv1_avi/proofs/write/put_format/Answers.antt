@@ -1,4 +1,4 @@
--- The format, BITMAPINFOHEADER, of such a size, up to the record that stands after it (RFC 9043,
+-- The format, BITMAPINFOHEADER, of a given size, up to the record that comes after it (RFC 9043,
 -- 4.3.3).
 use Rattle.ffv1_avi.proofs.write.put_format.Goals as goal
 

@@ -1,7 +1,8 @@
 -- A frame's chunk.
 use Rattle.std.proofs.Common.{List, ℕ, [], ◌∷◌, ◌++◌, length, codes, ◌∙◌}
 use Rattle.std.proofs.lemmas.Result.{err_from_is_err_and}
-use Rattle.ffv1_avi.specs.Written.{number, padding, spelled}
+use Rattle.ffv1_reads.specs.Bitmap.{number}
+use Rattle.ffv1_avi.specs.Written.{padding, spelled}
 use Rattle.ffv1_reads.proofs.Writing.{appends_then, stops_then, writes_stop, writes_then}
 use Rattle.ffv1_avi.proofs.write.put_frame.Goals as goal
 

@@ -1,4 +1,4 @@
--- The file's parts before movi, where the format has such a size, and RIFF such a one.
+-- The file's parts before movi, for the given sizes of the format and of RIFF.
 use Rattle.std.proofs.Common.{◌≡◌, ℕ, List, ◌+◌, ◌++◌, ◌∙◌, ap, length, Option, Err, arith}
 use Rattle.std.proofs.lemmas.Result.{err_from_is_err_and}
 use Rattle.ffv1_reads.specs.declared.fault.FileFault.{FileFault}

@@ -1,4 +1,4 @@
--- The list movi of such a size, and the frames.
+-- The list movi of a given size, and the frames.
 use Rattle.std.proofs.Common.{◌≡◌, ℕ, List, ◌+◌, ◌≤◌, ◌∙◌, sym, length, get_or, flat_map, arith}
 use Rattle.std.proofs.lemmas.Result.{err_from_is_err_and}
 use Rattle.std.proofs.lemmas.List.{take_all}

@@ -1,4 +1,4 @@
--- The content of the first element with this ID, or None where there is none.
+-- The content of the first element with this ID, or None if there is none.
 use Rattle.std.proofs.Common.{◌∙◌, sym, arith}
 use Rattle.std.proofs.lemmas.Result.{err_from_is_err_and}
 use Rattle.ffv1_ebml.specs.Children.{part_of}

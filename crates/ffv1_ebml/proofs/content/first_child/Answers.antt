@@ -1,4 +1,4 @@
--- The first element of some content, or None where that has no bytes.
+-- The first element of some content, or None if that has no bytes.
 use Rattle.std.proofs.Common.{◌≡◌, ◌∙◌, length, sym, rules, arith}
 use Rattle.std.proofs.lemmas.List.{take_rest}
 use Rattle.std.proofs.lemmas.Result.{err_from_is_err_and}

@@ -1,4 +1,4 @@
--- The bytes of a variable-size integer of at most `most` bytes, and what stands after them.
+-- The bytes of a variable-size integer of at most `most` bytes, and what comes after them.
 use Rattle.std.proofs.Common.{drop, rules, arith}
 use Rattle.std.proofs.lemmas.List.{take_rest}
 use Rattle.ffv1_ebml.proofs.MemoryReadings.{vint_bad, vint_none, vint_short, vint_there}

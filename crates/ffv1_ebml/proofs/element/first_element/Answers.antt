@@ -1,5 +1,5 @@
--- Reads the header of the next element of a parent that has `left` bytes left, or answers None
--- where the input has ended before it.
+-- Reads the header of the next element of a parent that has `left` bytes left, or answers None if
+-- the input has ended before it.
 use Rattle.std.specs.Io.KnownBytes.{Consumes}
 use Rattle.std.proofs.Common.{◌≡◌, ◌∷◌, [], ℕ, List, Option, Some, None, refl, inr, arith}
 use Rattle.std.proofs.lemmas.Result.{err_from_is_err_and}

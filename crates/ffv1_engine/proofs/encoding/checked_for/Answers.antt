@@ -29,6 +29,7 @@ returns-clause-ok g c = record {
       c.in_ok-config.ensures.ok;
   accepted = c.in_ok-check_in.ensures.accepted;
   passes = rw c.of_record.ensures at c.in_ok-check_in.ensures.passes;
+  profiled = c.in_ok-check_in.ensures.profile ∙ c.of_record.ensures;
 }
 
 pub returns-in_err-check_in-clause-own : goal.returns-in_err-check_in-clause-own

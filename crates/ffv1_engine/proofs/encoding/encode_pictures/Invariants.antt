@@ -3,6 +3,7 @@ use Rattle.ffv1_wire.specs.Passage.{passage}
 use Rattle.ffv1_avi.specs.Written.{frames_of}
 use Rattle.ffv1_engine.specs.Internal.Encoding.{Encoded}
 use Rattle.ffv1_engine.specs.Internal.VideoReads.{reading_of}
+use Rattle.ffv1_engine.specs.Packing.{AreReadableIn}
 use Rattle.ffv1_engine.proofs.encoding.encode_pictures.Given as goal
 
 abbrev pub invariant-loop-planes : goal.invariant-loop-planes
@@ -11,6 +12,7 @@ invariant-loop-planes g l =
     l.initial.encoder.accepted (reading_of l.initial.reader) (reading_of l.reader)
     (frames_of l.frames.items)
     × (l.encoder.accepted ≡ l.initial.encoder.accepted)
+    × AreReadableIn l.initial.encoder.accepted.profile (frames_of l.frames.items)
 
 abbrev pub decreases-loop-planes : goal.decreases-loop-planes
 decreases-loop-planes g l = 2 ^ 64 - length l.frames.items

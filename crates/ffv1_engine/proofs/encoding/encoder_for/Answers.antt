@@ -1,5 +1,5 @@
 -- What encodes the pictures of a video, in a profile that reads its depth, and decodes each frame
--- again where the choice asks for that.
+-- again if the choice asks for that.
 use Rattle.std.proofs.Common.{sym, ◌∙◌}
 use Rattle.ffv1_engine.proofs.FrameBack.{same_accepted}
 use Rattle.ffv1_engine.proofs.encoding.encoder_for.Goals as goal

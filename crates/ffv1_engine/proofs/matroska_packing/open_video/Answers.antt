@@ -27,7 +27,7 @@ pub returns-in_err-writer-clause-err : goal.returns-in_err-writer-clause-err
 returns-in_err-writer-clause-err g c =
     let p = err_from_is_err_and c.from_residual-in_err-writer.result
     c.from_residual-in_err-writer.ensures.1 in
-    rw (p.1, p.2) (not_made c.args.profile c.args.choice.now _ _ _ _ c.shown_for.result c.in_err-writer.field-0.0
+    rw (p.1, p.2) (not_made c.args.profile c.args.choice.now _ _ _ _ c.details_for.result c.in_err-writer.field-0.0
     c.in_ok-reader.ensures.ok c.in_ok-encoder.ensures.ok
     (rw c.config.ensures at c.in_ok-head.ensures.ok) c.in_err-writer.ensures).0
 
@@ -35,7 +35,7 @@ pub returns-in_err-writer-clause-own : goal.returns-in_err-writer-clause-own
 returns-in_err-writer-clause-own g c =
     let p = err_from_is_err_and c.from_residual-in_err-writer.result
     c.from_residual-in_err-writer.ensures.1 in
-    rw (p.1, p.2) (inl (not_made c.args.profile c.args.choice.now _ _ _ _ c.shown_for.result
+    rw (p.1, p.2) (inl (not_made c.args.profile c.args.choice.now _ _ _ _ c.details_for.result
     c.in_err-writer.field-0.0 c.in_ok-reader.ensures.ok c.in_ok-encoder.ensures.ok
     (rw c.config.ensures at c.in_ok-head.ensures.ok) c.in_err-writer.ensures).1)
 
@@ -43,4 +43,4 @@ pub returns-clause-ok : goal.returns-clause-ok
 returns-clause-ok g c =
     made c.args.profile c.args.choice.now _ _ _ _ _ _ c.in_ok-reader.ensures.ok c.in_ok-reader.ensures.head
     c.in_ok-encoder.ensures.ok (rw c.config.ensures at c.in_ok-head.ensures.ok)
-    c.shown_for.ensures c.in_ok-writer.ensures
+    c.details_for.ensures c.in_ok-writer.ensures

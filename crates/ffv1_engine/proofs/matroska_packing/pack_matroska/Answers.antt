@@ -1,4 +1,4 @@
--- Packs a video into Matroska, picture by picture: YUV4MPEG2 or, where the first byte is `P`,
+-- Packs a video into Matroska, picture by picture: YUV4MPEG2 or, if the first byte is `P`,
 -- binary PPM is read, and the Cluster of a picture is written as soon as it is encoded (RFC 9559,
 -- 5.1.3, with FFV1 as RFC 9043, 4.3.3, has it).
 use Rattle.std.proofs.lemmas.Result.{err_from_is_err_and}

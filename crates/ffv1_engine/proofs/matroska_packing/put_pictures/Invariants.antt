@@ -11,7 +11,7 @@ invariant-loop-planes g l =
     × Encoded (passage g.R.ByteIn.remaining g.R.ByteIn.failures l.initial.input l.input)
     l.initial.encoder.accepted (reading_of l.initial.reader) (reading_of l.reader) frames
     × (l.encoder.accepted ≡ l.initial.encoder.accepted)
-    × PutAll l.initial.writer l.writer frames (passage g.W.ByteOut.contents g.W.ByteOut.failures
+    × PutAll l.initial.encoder.accepted.profile l.initial.writer l.writer frames (passage g.W.ByteOut.contents g.W.ByteOut.failures
     l.initial.output l.output) l.packed
     × (l.packed.frames + l.packed.bytes ≤ l.writer.at)
 

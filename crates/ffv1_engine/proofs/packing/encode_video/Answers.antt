@@ -1,10 +1,14 @@
 -- Reads a video and encodes it.
 use Rattle.std.proofs.lemmas.Result.{err_from_is_err_and}
-use Rattle.std.proofs.Common.{refl, ◌≡◌, ◌<◌, length, arith}
+use Rattle.std.proofs.Common.{refl, ◌≡◌, ◌⊎◌, ◌<◌, length, arith, subst, true}
 use Rattle.std.proofs.lemmas.Grind.{common_steps}
 use Rattle.ffv1_engine.proofs.FrameBytes.{empty_of}
 use Rattle.ffv1_engine.proofs.VideoEnds.{encodes_video, no_frames, some_frames}
 use Rattle.ffv1_engine.proofs.VideoEncoded.{no_head, none, rejected, stops, wants_memory}
+use Rattle.ffv1_engine.specs.declared.fault.Fault.TheVariants as fault
+use Rattle.ffv1_engine.specs.Pack.{is_pack_fault}
+use Rattle.ffv1_engine.proofs.ReadableFrames.{own_in}
+use Rattle.ffv1_record.specs.declared.config.Profile.TheVariants as record_profiles
 use Rattle.ffv1_engine.proofs.packing.encode_video.Goals as goal
 
 pub returns-in_err-reader-clause-err : goal.returns-in_err-reader-clause-err
@@ -31,8 +35,17 @@ returns-in_err-encode_pictures-clause-err g c =
     let p = err_from_is_err_and c.from_residual-in_err-encode_pictures.result
     c.from_residual-in_err-encode_pictures.ensures.1 in
     let for = c.in_ok-encoder.ensures.ok in
-    rw (p.1, p.2) (stops c.args.profile c.args.choice.now _ _ _ _ c.in_err-encode_pictures.field-0.0 refl refl
-    c.in_ok-reader.ensures.ok for c.in_err-encode_pictures.ensures.err)
+    rw (p.1, p.2) (stops c.args.profile c.args.choice.now _ _ _ _ refl refl
+    c.in_ok-reader.ensures.ok for c.in_err-encode_pictures.field-0.0 c.in_err-encode_pictures.ensures.err)
+
+pub returns-in_err-encode_pictures-clause-own : goal.returns-in_err-encode_pictures-clause-own
+returns-in_err-encode_pictures-clause-own g c =
+    let p = err_from_is_err_and c.from_residual-in_err-encode_pictures.result
+    c.from_residual-in_err-encode_pictures.ensures.1 in
+    rw (p.1, p.2) (own_in c.args.profile c.in_err-encode_pictures.field-0.0
+    (subst (λ k. (is_pack_fault c.in_err-encode_pictures.field-0.0 ≡ true)
+    ⊎ ((k ≡ record_profiles.Wide) × (c.in_err-encode_pictures.field-0.0 ≡ fault.ChunkTooLong)))
+    c.in_ok-encoder.ensures.ok.profiled c.in_err-encode_pictures.ensures.own))
 
 pub returns-then-is_empty-clause-err : goal.returns-then-is_empty-clause-err
 returns-then-is_empty-clause-err g c =
@@ -51,4 +64,4 @@ returns-clause-ok g c =
     encodes_video c.text_is_read_as_its_pictures.ensures.only
     c.text_is_read_as_its_images.ensures.told c.args.profile c.args.choice.now _ _ _ _ _ _ refl refl
     c.in_ok-reader.ensures.ok c.in_ok-reader.ensures.head for c.in_ok-encode_pictures.ensures.ok
-    (some_frames _ some) head
+    c.in_ok-encode_pictures.ensures.readable (some_frames _ some) head

@@ -1,4 +1,4 @@
--- Packs a video: YUV4MPEG2 or, where the first byte is `P`, binary PPM is read, each picture is
+-- Packs a video: YUV4MPEG2 or, if the first byte is `P`, binary PPM is read, each picture is
 -- encoded, and an AVI of the frames is written (RFC 9043, 4.3.3).
 use Rattle.std.proofs.lemmas.Result.{err_from_is_err_and}
 use Rattle.std.proofs.Common.{◌∙◌, sym, ap, subst, ◌≤◌, Ok, Err, arith}

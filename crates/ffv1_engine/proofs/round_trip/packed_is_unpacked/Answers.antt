@@ -1,4 +1,4 @@
--- A text that `pack` has packed, no frame of it longer than 67108864 bytes, is unpacked again.
+-- A text that `pack` has packed is unpacked again.
 use Rattle.std.proofs.Common.{arith, refl}
 use Rattle.ffv1_engine.specs.Grids.{choice_for}
 use Rattle.ffv1_engine.specs.Profiles.{greatest_depth}
@@ -13,7 +13,7 @@ use Rattle.ffv1_engine.specs.RoundTrip.{IsFileIn}
 use Rattle.ffv1_engine.proofs.MatroskaUnpacked.{MatroskaLaws, accepted_wide, begun_read, file_is}
 use Rattle.ffv1_engine.proofs.MatroskaUnpacked.{file_reads, given as of_matroska}
 use Rattle.ffv1_engine.proofs.MatroskaUnpacked.{packed_so as matroska_so, read_wide, writable}
-use Rattle.ffv1_engine.proofs.PackedIsUnpacked.{FileLaws, accepted_in, avi_is, avi_reads}
+use Rattle.ffv1_engine.proofs.PackedIsUnpacked.{FileLaws, accepted_as, avi_is, avi_reads}
 use Rattle.ffv1_engine.proofs.PackedIsUnpacked.{check_refused, given, holds, lined_by, packed_so}
 use Rattle.ffv1_engine.proofs.PackedIsUnpacked.{ppm_by, read_in, same_by, same_ppm, same_video}
 use Rattle.ffv1_engine.proofs.PackedIsUnpacked.{show_refused, unpack_refused, written}
@@ -100,8 +100,8 @@ returns-clause-read c = read_in
 pub returns-clause-holds : goal.returns-clause-holds
 returns-clause-holds c = λ packing profile choice text w read.
     holds profile (file_laws profile c) (frame_laws c) (record_laws c) choice text w.packs.video
-    (accepted_in profile w) refl read.deep (given packing profile choice text w read)
-    (packed_file choice w.packs.video (accepted_in profile w))
+    (accepted_as profile w) refl read.deep (given packing profile choice text w read)
+    (packed_file choice w.packs.video (accepted_as profile w))
     (avi_reads packing profile (file_laws profile c) (frame_laws c) (record_laws c) choice text w
     read) (IsFileIn profile) (avi_is packing profile (file_laws profile c) (frame_laws c)
     (record_laws c) choice text w read)
@@ -109,32 +109,32 @@ returns-clause-holds c = λ packing profile choice text w read.
 pub returns-clause-written : goal.returns-clause-written
 returns-clause-written c = λ packing profile choice text w input output count read.
     written profile (file_laws profile c) (frame_laws c) (record_laws c) choice text w.packs.video
-    (accepted_in profile w) refl read.deep (given packing profile choice text w read)
-    (packed_file choice w.packs.video (accepted_in profile w))
+    (accepted_as profile w) refl read.deep (given packing profile choice text w read)
+    (packed_file choice w.packs.video (accepted_as profile w))
     (avi_reads packing profile (file_laws profile c) (frame_laws c) (record_laws c) choice text w
     read) input output count
 
 pub returns-clause-refused : goal.returns-clause-refused
 returns-clause-refused c = λ packing profile choice text w input output f read known stops.
     unpack_refused profile (file_laws profile c) (frame_laws c) (record_laws c) choice text
-    w.packs.video (accepted_in profile w) refl read.deep (given packing profile choice text w read)
-    (packed_file choice w.packs.video (accepted_in profile w))
+    w.packs.video (accepted_as profile w) refl read.deep (given packing profile choice text w read)
+    (packed_file choice w.packs.video (accepted_as profile w))
     (avi_reads packing profile (file_laws profile c) (frame_laws c) (record_laws c) choice text w
     read) input output known f stops
 
 pub returns-clause-checked : goal.returns-clause-checked
 returns-clause-checked c = λ packing profile choice text w place input output f read known stops.
     check_refused profile (file_laws profile c) (frame_laws c) (record_laws c) choice text
-    w.packs.video (accepted_in profile w) refl read.deep (given packing profile choice text w read)
-    (packed_file choice w.packs.video (accepted_in profile w))
+    w.packs.video (accepted_as profile w) refl read.deep (given packing profile choice text w read)
+    (packed_file choice w.packs.video (accepted_as profile w))
     (avi_reads packing profile (file_laws profile c) (frame_laws c) (record_laws c) choice text w
     read) input output known place f stops
 
 pub returns-clause-shown : goal.returns-clause-shown
 returns-clause-shown c = λ packing profile choice text w cost input output f read known stops.
     show_refused profile (file_laws profile c) (frame_laws c) (record_laws c) choice text
-    w.packs.video (accepted_in profile w) refl read.deep (given packing profile choice text w read)
-    (packed_file choice w.packs.video (accepted_in profile w))
+    w.packs.video (accepted_as profile w) refl read.deep (given packing profile choice text w read)
+    (packed_file choice w.packs.video (accepted_as profile w))
     (avi_reads packing profile (file_laws profile c) (frame_laws c) (record_laws c) choice text w
     read) input output known cost f stops
 

@@ -1,4 +1,4 @@
--- Writes the line of the place where a frame is refused, where it is asked for.
+-- Writes the line of the place where a frame is refused, if it is asked for.
 use Rattle.ffv1_wire.specs.Passage.{passage}
 use Rattle.ffv1_codec.specs.Answer.{decided_by}
 use Rattle.ffv1_engine.specs.FrameLines.{place_line}

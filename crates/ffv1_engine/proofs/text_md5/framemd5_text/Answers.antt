@@ -1,4 +1,4 @@
--- Reads all pictures of a text that the profile reads, YUV4MPEG2 or, where its first byte is `P`,
+-- Reads all pictures of a text that the profile reads, YUV4MPEG2 or, if its first byte is `P`,
 -- binary PPM, and writes of them the lines that `framemd5` writes of a file that they are packed
 -- into, so that the two compare by `diff`; of PPM where that is packed at 25 frames a second.
 use Rattle.std.proofs.Common.{◌≡◌, ◌<◌, refl, arith, rules}

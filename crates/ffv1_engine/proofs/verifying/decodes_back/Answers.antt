@@ -1,5 +1,5 @@
--- Whether a frame decodes to this picture, of which it says this: where it codes that, and nowhere
--- else.
+-- Whether a frame decodes to this picture, of which it says this: if it codes that, and not
+-- otherwise.
 use Rattle.std.proofs.Common.{rules, ◌≡◌, ◌≢◌, refl, sym, subst, ◌∙◌, Bool, false, not, ◌&&◌, ◌==◌}
 use Rattle.ffv1_codec.specs.SliceList.{Said}
 use Rattle.ffv1_record.specs.Accepted.{Accepted, IsAccepted}
@@ -7,7 +7,7 @@ use Rattle.ffv1_engine.specs.Internal.PicturesOut.{IsKeptFor}
 use Rattle.ffv1_engine.proofs.FrameBack.{picture_coded}
 use Rattle.ffv1_engine.proofs.verifying.decodes_back.Goals as goal
 
--- what is said of two pictures is the same where no part of it differs
+-- what is said of two pictures is the same if no part of it differs
 says_same : (s t : Said) (differ : Bool) → differ ≡ not
     ((s.structure == t.structure) && ((s.sar_num == t.sar_num) && (s.sar_den == t.sar_den))) →
     differ ≡ false → s ≡ t

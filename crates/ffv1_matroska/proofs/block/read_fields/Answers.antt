@@ -1,6 +1,6 @@
--- What stands after the track number of a block: two bytes of time, and flags.
+-- What comes after the track number of a block: two bytes of time, and flags.
 use Rattle.std.proofs.Common.{◌≡◌, ◌<◌, ◌≤◌, ◌-◌, slice_index, refl, inl, inr, arith}
-use Rattle.ffv1_reads.specs.Head.{limit}
+use Rattle.ffv1_reads.specs.Head.{frame_limit}
 use Rattle.ffv1_reads.specs.declared.fault.FileFault.TheVariants as fault
 use Rattle.ffv1_matroska.specs.Blocks.{fields_read, lacing_of}
 use Rattle.ffv1_reads.proofs.Answered.{answers_differ, answers_equal, answers_err, answers_fault}
@@ -29,12 +29,12 @@ returns-then-fields-ne0-clause-answer g c =
     (answers_most _ c.if-left-lt3.false (answers_next _ c.in_ok-take_summed.ensures.answer
     (answers_differ _ laced (answers_refused _ (inl refl)))))
 
-pub returns-then-size-gt-LIMIT-clause-answer : goal.returns-then-size-gt-LIMIT-clause-answer
+pub returns-then-size-gt-FRAME_LIMIT-clause-answer : goal.returns-then-size-gt-FRAME_LIMIT-clause-answer
 unfolding fields_read
-returns-then-size-gt-LIMIT-clause-answer g c =
+returns-then-size-gt-FRAME_LIMIT-clause-answer g c =
     let plain : lacing_of (slice_index c.take_summed.new.buf 2) ≡ 0 = omega
     (arith, c.if-fields-ne0.false) in
-    let long : limit < c.args.left - 3 = omega (arith, c.if-size-gt-LIMIT.true) in
+    let long : frame_limit < c.args.left - 3 = omega (arith, c.if-size-gt-FRAME_LIMIT.true) in
     answers_fault fault.ChunkTooLong (fields_read c.args.left c.args.place)
     (answers_most _ c.if-left-lt3.false (answers_next _ c.in_ok-take_summed.ensures.answer
     (answers_equal _ plain (answers_less _ long (answers_refused _ (inl refl))))))
@@ -44,7 +44,7 @@ unfolding fields_read
 returns-then-size-eq0-clause-answer g c =
     let plain : lacing_of (slice_index c.take_summed.new.buf 2) ≡ 0 = omega
     (arith, c.if-fields-ne0.false) in
-    let fits : c.args.left - 3 ≤ limit = omega (arith, c.if-size-gt-LIMIT.false) in
+    let fits : c.args.left - 3 ≤ frame_limit = omega (arith, c.if-size-gt-FRAME_LIMIT.false) in
     let none : c.args.left - 3 ≡ 0 = omega (arith, c.if-size-eq0.true) in
     answers_fault fault.EmptyFrame (fields_read c.args.left c.args.place)
     (answers_most _ c.if-left-lt3.false (answers_next _ c.in_ok-take_summed.ensures.answer
@@ -56,7 +56,7 @@ unfolding fields_read
 returns-clause-answer g c =
     let plain : lacing_of (slice_index c.take_summed.new.buf 2) ≡ 0 = omega
     (arith, c.if-fields-ne0.false) in
-    let fits : c.args.left - 3 ≤ limit = omega (arith, c.if-size-gt-LIMIT.false) in
+    let fits : c.args.left - 3 ≤ frame_limit = omega (arith, c.if-size-gt-FRAME_LIMIT.false) in
     let some : c.args.left - 3 ≡ 0 → ⊥ = λ z. omega (arith, z, c.if-size-eq0.false) in
     rw c.summed_at.ensures (answers_ok (answers_most _ c.if-left-lt3.false
     (answers_next _ c.in_ok-take_summed.ensures.answer (answers_equal _ plain

@@ -1,4 +1,4 @@
--- The size of the next frame, and the place after it, but for its sum; None at the end.
+-- The size of the next frame, and the place after it, except its sum; None at the end.
 use Rattle.std.proofs.Common.{refl, arith}
 use Rattle.std.proofs.lemmas.Result.{err_from_is_err_and}
 use Rattle.ffv1_reads.proofs.Reading.{goes_none}

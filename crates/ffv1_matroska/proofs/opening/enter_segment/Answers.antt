@@ -1,4 +1,4 @@
--- The size of the Segment, which stands next, or None where it is unknown.
+-- The size of the Segment, which comes next, or None if it is unknown.
 use Rattle.ffv1_matroska.specs.Opening.{segment_entered}
 use Rattle.ffv1_matroska.proofs.SpotReadings.{segment_counted}
 use Rattle.ffv1_reads.proofs.Answered.{answers_next, answers_of, answers_tail}

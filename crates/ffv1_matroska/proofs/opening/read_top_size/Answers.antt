@@ -1,4 +1,4 @@
--- A size, or None where it is unknown, whose bytes are counted.
+-- A size, or None if it is unknown, whose bytes are counted.
 use Rattle.std.proofs.Common.{◌+◌, ◌-◌, ◌^◌, ◌∙◌, arith}
 use Rattle.ffv1_reads.specs.Reads.{given}
 use Rattle.ffv1_reads.proofs.OffsetLaws.{counted_given, counted_then, offset_same, reads_counted}

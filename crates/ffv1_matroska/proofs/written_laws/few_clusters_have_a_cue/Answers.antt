@@ -8,9 +8,9 @@ use Rattle.ffv1_matroska.proofs.WrittenStands.{stride_least, stride_power}
 use Rattle.ffv1_matroska.proofs.written_laws.few_clusters_have_a_cue.Goals as goal
 
 pub returns-clause-few : goal.returns-clause-few
-returns-clause-few c = λ head shown frames few.
-    let ps = places_from (first_place head shown) frames in
-    let long = places_count (first_place head shown) frames in
+returns-clause-few c = λ head details frames few.
+    let ps = places_from (first_place head details) frames in
+    let long = places_count (first_place head details) frames in
     let small : length ps < 2 ^ 56 = omega (arith, long, few) in
     rw (← long) (cues_few ps small)
 

@@ -1,6 +1,6 @@
 -- An output that held nothing before the first frame, and whose bytes are known, holds the file
--- that is begun of the frames that were put, a beginning of it after a write that failed, and at
--- the end the whole file, or the open one.
+-- that is begun of the frames that were put. After a write that failed it holds a beginning of
+-- that, and at the end the whole file, or the open one.
 use Rattle.ffv1_matroska.proofs.KnownFiles.{finished_known, open_known, put_failed, put_known}
 use Rattle.ffv1_matroska.proofs.written_laws.known_output_holds_the_file.Goals as goal
 

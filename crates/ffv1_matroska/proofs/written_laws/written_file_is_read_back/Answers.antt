@@ -4,13 +4,14 @@ use Rattle.ffv1_matroska.proofs.WrittenFile.{begun_file, finished_file, open_fil
 use Rattle.ffv1_matroska.proofs.written_laws.written_file_is_read_back.Goals as goal
 
 pub returns-clause-finished : goal.returns-clause-finished
-returns-clause-finished c = λ head shown frames is. let r = finished_file head shown frames is in
+returns-clause-finished c = λ head details frames is.
+    let r = finished_file head details frames is in
     (r.is, r.read)
 
 pub returns-clause-open : goal.returns-clause-open
-returns-clause-open c = λ head shown frames is. let r = open_file head shown frames is in
+returns-clause-open c = λ head details frames is. let r = open_file head details frames is in
     (r.is, r.read)
 
 pub returns-clause-begun : goal.returns-clause-begun
-returns-clause-begun c = λ head shown frames some is. let r = begun_file head shown frames some
+returns-clause-begun c = λ head details frames some is. let r = begun_file head details frames some
     is in (r.is, r.read)

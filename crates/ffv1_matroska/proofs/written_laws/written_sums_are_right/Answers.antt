@@ -1,5 +1,5 @@
--- Each CRC-32 that is written is right, where the record and the frames are bytes: in SeekHead,
--- Info, Tracks, each Cluster and Cues, as any content after its CRC-32 is judged.
+-- Each CRC-32 that is written is right, if the record and the frames are bytes: in SeekHead, Info,
+-- Tracks, each Cluster and Cues, as any content after its CRC-32 is judged.
 use Rattle.ffv1_matroska.specs.Written.{cluster_content, cues_from, entry_element, info_content}
 use Rattle.ffv1_matroska.specs.Written.{seeks}
 use Rattle.ffv1_matroska.proofs.WrittenChecks.{checked_told}
@@ -17,8 +17,8 @@ returns-clause-info c = λ head finish. checked_told (info_content head finish)
     (info_are head finish)
 
 pub returns-clause-tracks : goal.returns-clause-tracks
-returns-clause-tracks c = λ head shown all. checked_told (entry_element head shown)
-    (entry_are head shown all)
+returns-clause-tracks c = λ head details all. checked_told (entry_element head details)
+    (entry_are head details all)
 
 pub returns-clause-cluster : goal.returns-clause-cluster
 returns-clause-cluster c = λ number frame all. checked_told (cluster_content number frame)

@@ -1,4 +1,4 @@
--- Fills `buf`, which has room for a byte at least: first by a byte that was read before, where
+-- Fills `buf`, which has room for a byte at least: a byte that was read before comes first, if
 -- there is one.
 use Rattle.std.proofs.Common.{◌∷◌, length, subst, Some, ℕ, List, arith}
 use Rattle.std.proofs.lemmas.Grind.{common_steps}

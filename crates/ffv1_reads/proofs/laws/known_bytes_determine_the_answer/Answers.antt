@@ -1,4 +1,4 @@
--- Where the bytes are known, a value that a call answers is what they read as, and a fault is the
+-- If the bytes are known, a value that a call answers is what they read as, and a fault is the
 -- first that they have; what is left is known too.
 use Rattle.ffv1_reads.proofs.KnownLaws.{known_end, known_end_fault, known_fault, known_fault_there}
 use Rattle.ffv1_reads.proofs.KnownLaws.{known_lack, known_read, known_stop}

@@ -1,5 +1,5 @@
--- Where the bytes are known, a call that was refused in an element after others, other than by a
--- read that failed or by memory, says where the fault is: the bytes begin with elements of so many
+-- If the bytes are known, a call that was refused in an element after others, other than by a
+-- read that failed or by memory, says where the fault is. The bytes begin with elements of so many
 -- bytes that are read whole, and the next one has the fault.
 use Rattle.ffv1_reads.proofs.FirstFaults.{known_fault, one_fault}
 use Rattle.ffv1_reads.proofs.laws.refusal_says_where_the_fault_is.Goals as goal

@@ -1,4 +1,4 @@
-//! What stands in movi beside frames, and after it, where every RIFF is read.
+//! What stands in movi beside frames, and after it, if every RIFF is read.
 
 use ffv1_avi::AviReader;
 use ffv1_reads::FileFault;
@@ -115,7 +115,7 @@ fn read(alloc: Global, file: &[u8]) -> Answer {
     (count, None, 1)
 }
 
-/// The same of the file with these bytes behind its head.
+/// The same of the file with these bytes after its head.
 fn behind(alloc: Global, bytes: &[u8]) -> Result<Answer, AllocError> {
     let mut file = Vec::from_slice(alloc, &HEAD)?;
     file.extend_from_slice(bytes)?;

@@ -89,8 +89,8 @@ fn failing_in_a_frame(rt: HostRuntime) -> Result<(), Fail> {
     Ok(())
 }
 
-/// Writes the example where there is room for so many bytes: the answer, whether it is without
-/// failures, and whether as many bytes of the example are written as there is room for.
+/// Writes the example with room for so many bytes: the answer, whether it is without failures, and
+/// whether as many bytes of the example are written as there is room for.
 fn write_short(
     alloc: Global,
     head: &FileHead,
@@ -108,7 +108,7 @@ fn write_short(
     (answer, whole, filled)
 }
 
-/// The example is written where there is room for it, and fails with less.
+/// The example is written if there is room for it, and fails with less.
 fn writes_where_room(rt: &impl Abort, alloc: Global, head: &FileHead, frames: &[Vec<u8>])
     requires width { head.now.width ≤ 8192 }
     requires height { head.now.height ≤ 8192 }

@@ -141,6 +141,27 @@ pub(super) fn twice<A: Allocator + Copy>(
     Ok((first, second, len, input.into_inner().len()))
 }
 
+/// What the first frame is read as where every RIFF is, how long the vector then is, and how many
+/// bytes are left.
+fn first_of_all<A: Allocator + Copy>(
+    alloc: A,
+    file: &[u8],
+) -> Result<(Result<bool, FileFault>, usize, usize), FileFault> {
+    let mut input = FromRead::new(file);
+    let mut reader = AviReader::open_all(alloc, &mut input)?;
+    let mut frame = Vec::new(alloc);
+    let first = reader.next_frame(&mut input, &mut frame);
+    Ok((first, frame.len(), input.into_inner().len()))
+}
+
+#[test]
+fn long_frames_of_all(rt: HostRuntime) {
+    let (long_one, short) = (Err(FileFault::ChunkTooLong), Err(FileFault::Truncated));
+    assert!(rt; first_of_all(rt.alloc(), &long(1073741825)) == Ok((long_one, 0, 6)));
+    assert!(rt; first_of_all(rt.alloc(), &long(1073741824)) == Ok((short, 6, 0)));
+    assert!(rt; first_of_all(rt.alloc(), &long(67108865)) == Ok((short, 6, 0)));
+}
+
 #[test]
 fn long_frames(rt: HostRuntime) {
     let long_one = Err(FileFault::ChunkTooLong);

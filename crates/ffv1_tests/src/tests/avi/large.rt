@@ -24,7 +24,7 @@ fn frames_of(alloc: Global, zeros_before: usize) -> Result<Vec<Vec<u8>>, Fail> {
     Ok(frames)
 }
 
-/// A file of one such frame.
+/// A file of one of these frames.
 pub fn file_of_one(alloc: Global, zeros_before: usize) -> Result<Vec<u8>, Fail> {
     let frames = frames_of(alloc, zeros_before)?;
     let head = FileHead {

@@ -23,7 +23,7 @@ fn microseconds(alloc: Global, rate: u32, scale: u32) -> Result<[u8; 4], FileFau
     Ok(bytes)
 }
 
-/// Frames at such a rate last so many microseconds.
+/// Frames at this rate last so many microseconds.
 fn lasts(rt: &impl Abort, alloc: Global, rate: u32, scale: u32, expected: u32) {
     assert!(rt; microseconds(alloc, rate, scale) == Ok(expected.to_le_bytes()));
 }

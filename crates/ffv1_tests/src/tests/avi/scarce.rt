@@ -54,7 +54,7 @@ fn read_two<A: Allocator + Copy>(
     Ok((first, len, second))
 }
 
-/// The same where the request after `before` others is refused.
+/// The same if the request after `before` others is refused.
 fn read_scarcely(
     alloc: Global,
     file: &[u8],

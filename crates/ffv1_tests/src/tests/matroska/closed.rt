@@ -122,6 +122,26 @@ fn closed_clusters(rt: HostRuntime) {
     assert!(rt; read(rt.alloc(), &NUMBER) == (1, Some(FileFault::BadElement), 172));
 }
 
+/// The same with a number of two bytes, and a byte less of the frame.
+fn numbered(first: u8, second: u8) -> [u8; 209] {
+    let mut file = NUMBER;
+    file[174] = first;
+    file[175] = second;
+    file[177] = 0;
+    file[178] = 0x80;
+    file[179] = 0xFE;
+    file
+}
+
+/// Nor has any track a number above 127.
+#[test]
+fn great_numbers(rt: HostRuntime) {
+    let bad = Some(FileFault::BadElement);
+    assert!(rt; read(rt.alloc(), &numbered(0x40, 0x7F)) == (1, bad, 172));
+    assert!(rt; read(rt.alloc(), &numbered(0x40, 0x80)) == (1, bad, 172));
+    assert!(rt; read(rt.alloc(), &numbered(0x7F, 0xFE)) == (1, bad, 172));
+}
+
 /// A file whose first Cluster says this size, and whose second one has this ID.
 fn changed(size: u8, ident: [u8; 4]) -> [u8; 209] {
     let mut file = INNER;

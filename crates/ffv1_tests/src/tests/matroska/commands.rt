@@ -1,4 +1,4 @@
-//! Matroska files where a file of either container is read.
+//! Matroska files by the calls that read a file of either container.
 
 use super::written_example::EXAMPLE;
 use ffv1_engine::{Fault, Profile, check};

@@ -1,7 +1,9 @@
 //! Videos that are packed into Matroska: what is written of a whole one, and before a fault.
 
 use super::written_example::EXAMPLE;
-use ffv1_engine::{Choice, CoderChoice, Fault, PackedMatroska, Profile, pack_matroska};
+use ffv1_engine::{
+    Choice, CodecIdChoice, CoderChoice, Fault, PackedMatroska, Profile, pack_matroska,
+};
 use ffv1_wire::{FromRead, ToMemory};
 use std::alloc::Allocator;
 use std::process::Abort;
@@ -17,6 +19,8 @@ const PLAIN: Choice = Choice {
     rate: 50,
     scale: 2,
     verify: false,
+    codec_id: CodecIdChoice::Native,
+    codec_id_given: false,
 };
 
 /// The video of the example.
@@ -66,6 +70,31 @@ fn finishes(rt: HostRuntime) -> Result<(), Fail> {
     };
     assert!(rt; packed == want);
     assert!(rt; output.bytes() == EXAMPLE.as_slice());
+    Ok(())
+}
+
+/// CodecID of Video for Windows.
+const CODEC_ID: &[u8] = b"\x86\x8FV_MS/VFW/FOURCC";
+
+/// What FFmpeg writes before a record of 26 bytes, of pictures of 1 by 1, for the codec ID of Video
+/// for Windows.
+const HEADER: &[u8] =
+    b"\x42\0\0\0\x01\0\0\0\x01\0\0\0\x01\0\x18\0FFV1\x03\0\0\0\0\0\0\0\0\0\0\0\0\0\0\0\0\0\0\0";
+
+#[test]
+fn codec_id_of_video_for_windows(rt: HostRuntime) -> Result<(), Fail> {
+    let mut output = ToMemory::new(rt.alloc());
+    let mut input = FromRead::new(ONE);
+    let choice = Choice {
+        codec_id: CodecIdChoice::Vfw,
+        ..PLAIN
+    };
+    let packed = pack_matroska(rt.alloc(), Profile::Wide, &mut input, &mut output, &choice)?;
+    assert!(rt; packed.bytes == 5);
+    assert!(rt; output.bytes().len() == 448);
+    assert!(rt; output.bytes()[247..264] == CODEC_ID[..]);
+    assert!(rt; output.bytes()[291..331] == HEADER[..]);
+    assert!(rt; output.bytes()[331..357] == EXAMPLE[282..308]);
     Ok(())
 }
 

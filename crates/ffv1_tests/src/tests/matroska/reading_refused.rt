@@ -8,13 +8,13 @@ use ffv1_wire::FromRead;
 use std::alloc::Global;
 use std::io::ErrorKind;
 
-/// How many frames the smallest file gives where a read fails after so many, and the fault.
+/// How many frames the smallest file gives if a read fails after so many, and the fault.
 fn failing(alloc: Global, before: usize) -> (u32, Option<FileFault>) {
     let mut input = FromRead::new(FailingReader::new(&EXAMPLE, before, 40, ErrorKind::Other));
     frames_of(alloc, &mut input)
 }
 
-/// A read that fails is the fault, wherever it comes.
+/// A read that fails is the fault, whenever it comes.
 #[test]
 fn failing_reads(rt: HostRuntime) {
     let mut frames = 0u32;
@@ -32,7 +32,7 @@ fn failing_reads(rt: HostRuntime) {
     assert!(rt; 1 <= frames && frames < 12);
 }
 
-/// The same where the request of memory after so many others is refused.
+/// The same if the request of memory after so many others is refused.
 fn scarce(alloc: Global, before: u64) -> (u32, Option<FileFault>) {
     let heap = Scarce::new(alloc, before);
     let mut input = FromRead::new(EXAMPLE.as_slice());

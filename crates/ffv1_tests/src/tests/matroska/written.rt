@@ -2,7 +2,7 @@
 
 use super::written_example::{EXAMPLE, FILE, FRAME, RECORD, SECOND};
 use ffv1_doubles::{FailingWriter, Scarce};
-use ffv1_matroska::{MatroskaWriter, Shown};
+use ffv1_matroska::{CodecId, MatroskaWriter, TrackEntry};
 use ffv1_reads::{FileFault, FileHead};
 use ffv1_sum::crc32;
 use ffv1_wire::{ByteOut, PatchOut, ToMemory, ToWrite};
@@ -11,8 +11,9 @@ use std::io::ErrorKind;
 use std::process::Abort;
 use std::test::Fail;
 
-/// Nothing is known of how pictures are shown.
-const PLAIN: Shown = Shown {
+/// The record alone in CodecPrivate, and nothing is known of how pictures are shown.
+const PLAIN: TrackEntry = TrackEntry {
+    codec_id: CodecId::Native,
     structure: 0,
     sar_num: 0,
     sar_den: 0,
@@ -33,15 +34,15 @@ fn head_of<A: Allocator>(
     })
 }
 
-/// Writes two frames, or one where the second is empty, and ends the file.
+/// Writes two frames, or one if the second is empty, and ends the file.
 fn put_all<W: PatchOut>(
     alloc: Global,
     out: &mut W,
     head: &FileHead,
-    shown: Shown,
+    details: TrackEntry,
     second: &[u8],
 ) -> Result<bool, FileFault> {
-    let mut writer = MatroskaWriter::new(alloc, head, shown)?;
+    let mut writer = MatroskaWriter::new(alloc, head, details)?;
     writer.put(out, FRAME)?;
     if !second.is_empty() {
         writer.put(out, second)?;
@@ -64,20 +65,21 @@ fn open_example() -> [u8; 399] {
 fn is_finished(
     alloc: Global,
     numbers: [(u32, u32); 2],
-    shown: Shown,
+    details: TrackEntry,
     second: &[u8],
     bytes: &[u8],
 ) -> Result<bool, FileFault> {
     let [size, rate] = numbers;
     let head = head_of(alloc, size, rate)?;
     let mut out = ToMemory::new(alloc);
-    let is_ended = put_all(alloc, &mut out, &head, shown, second)?;
+    let is_ended = put_all(alloc, &mut out, &head, details, second)?;
     Ok(is_ended && out.bytes() == bytes)
 }
 
 #[test]
 fn finished(rt: HostRuntime) {
-    let said = Shown {
+    let said = TrackEntry {
+        codec_id: CodecId::Native,
         structure: 1,
         sar_num: 10,
         sar_den: 11,
@@ -114,14 +116,15 @@ fn begun(rt: HostRuntime) -> Result<(), Fail> {
 
 /// The bytes and the CRC-32 of a file of two frames of 720 by 576 at 25.
 fn summed(alloc: Global, structure: u8, aspect: (u16, u16)) -> Result<(usize, u32), FileFault> {
-    let shown = Shown {
+    let details = TrackEntry {
+        codec_id: CodecId::Native,
         structure,
         sar_num: aspect.0,
         sar_den: aspect.1,
     };
     let mut out = ToMemory::new(alloc);
     let head = head_of(alloc, (720, 576), (25, 1))?;
-    put_all(alloc, &mut out, &head, shown, SECOND)?;
+    put_all(alloc, &mut out, &head, details, SECOND)?;
     Ok((out.bytes().len(), crc32(out.bytes())))
 }
 
@@ -140,6 +143,38 @@ fn structures_and_aspects(rt: HostRuntime) {
     for &(structure, aspect, length, sum) in &SUMS {
         let found = summed(rt.alloc(), structure, aspect);
         assert!(rt; found == Ok((length, sum)), "{structure} {length}");
+    }
+}
+
+/// The bytes and the CRC-32 of a file of Video for Windows of this size, whose record has so many
+/// bytes.
+fn of_windows(alloc: Global, size: (u32, u32), count: usize) -> Result<(usize, u32), FileFault> {
+    let mut head = head_of(alloc, size, (25, 1))?;
+    head.config_record.truncate(count);
+    let mut out = ToMemory::new(alloc);
+    let entry = TrackEntry {
+        codec_id: CodecId::Vfw,
+        structure: 0,
+        sar_num: 0,
+        sar_den: 0,
+    };
+    put_all(alloc, &mut out, &head, entry, SECOND)?;
+    Ok((out.bytes().len(), crc32(out.bytes())))
+}
+
+/// Sizes and bytes of records, and the bytes and the CRC-32 of their files.
+static OF_WINDOWS: [((u32, u32), usize, usize, u32); 4] = [
+    ((720, 576), 26, 531, 0xAB86_BB91),
+    ((720, 576), 25, 531, 0xDF4C_EFF1),
+    ((4294967295, 4294967295), 25, 531, 0x606A_5CD4),
+    ((720, 576), 0, 505, 0x7513_C7DF),
+];
+
+#[test]
+fn video_for_windows(rt: HostRuntime) {
+    for &(size, count, length, sum) in &OF_WINDOWS {
+        let found = of_windows(rt.alloc(), size, count);
+        assert!(rt; found == Ok((length, sum)), "{count} {length}");
     }
 }
 
@@ -172,7 +207,7 @@ fn cues_are_thinned(rt: HostRuntime) {
     assert!(rt; many(rt.alloc(), 16385) == Ok((799_115, 0x4538_C0F5)));
 }
 
-/// What a writer answers where so many requests for memory are passed on.
+/// What a writer answers if so many requests for memory are passed on.
 fn in_scarce<'a>(heap: &'a Scarce<Global>) -> Result<(), FileFault> {
     let head = head_of(heap, (1, 1), (0, 0))?;
     let _writer = MatroskaWriter::new(heap, &head, PLAIN)?;

@@ -37,7 +37,9 @@ static OUT_OF_RANGE: [&[&str]; 16] = [
 ];
 
 /// Other values than those that there are, and none.
-static INVALID: [&[&str]; 4] = [
+static INVALID: [&[&str]; 6] = [
+    &["ffv1", "pack", "--codec-id=V_FFV1", "a", "b.mkv"],
+    &["ffv1", "pack", "--codec-id=", "a", "b.mkv"],
     &["ffv1", "pack", "--contexts=medium", "a", "b"],
     &["ffv1", "pack", "--contexts=", "a", "b"],
     &["ffv1", "pack", "--contexts=Large", "a", "b"],
@@ -113,9 +115,19 @@ fn calls_for_help(rt: HostRuntime) {
     refuses(&rt, rt.alloc(), &version, ErrorKind::DisplayVersion);
 }
 
-/// Options that are given twice, and files that are one, or are standard output.
-static CONFLICTS: [&[&str]; 16] = [
+/// Options that are given twice, or that the file has not, and files that are one, or are standard
+/// output.
+static CONFLICTS: [&[&str]; 18] = [
     &["ffv1", "pack", "a", "b", "--ec=1", "--ec=1"],
+    &["ffv1", "pack", "--codec-id=vfw", "a", "b"],
+    &[
+        "ffv1",
+        "pack",
+        "--codec-id=native",
+        "--container=avi",
+        "a",
+        "b.mkv",
+    ],
     &["ffv1", "check", "a", "--place", "--place"],
     &["ffv1", "pack", "a", "a"],
     &["ffv1", "pack", "", ""],

@@ -1,5 +1,5 @@
-//! Over a megabyte by each call that writes, and by both endings: no call gives up where memory is
-//! to be had.
+//! Over a megabyte by each call that writes, and by both endings: no call gives up if memory is to
+//! be had.
 
 ghost use Rattle.std.specs.Prelude.{◌<◌, ◌^◌, unsigned_abs};
 

@@ -36,7 +36,7 @@ fn eleven_ones(rt: HostRuntime) -> Result<(), Fault> {
 }
 
 /// The decoder of a slice after its eleven decisions, parked and woken between any two of them;
-/// nothing where one is a 0.
+/// nothing if one is a 0.
 fn parked_after(bytes: &[u8]) -> Option<Parked> {
     let table = StateTable::standard();
     let (mut key, mut residual, mut head) = (128, 128, [128; 32]);

@@ -87,7 +87,7 @@ fn each_growth_of_each_call(rt: HostRuntime) {
     }
 }
 
-/// Whether the first ending, else the other, of so many decisions is refused, where the decisions
+/// Whether the first ending, else the other, of so many decisions is refused, if the decisions
 /// themselves are not.
 fn ending_is_refused(
     alloc: Global,

@@ -164,7 +164,7 @@ fn long_exponent(rt: &HostRuntime, table: &StateTable) -> Result<Vec<u8>, Fault>
     encoder.finish_full()
 }
 
-/// Such bytes are refused after 32 decisions, as a number with a sign and as one without.
+/// These bytes are refused after 32 decisions, as a number with a sign and as one without.
 fn refuses(rt: &impl Abort, table: &StateTable, bytes: &[u8]) -> Result<(), Fault>
     requires { AreHeld table.now (replicate 32 128) }
 {

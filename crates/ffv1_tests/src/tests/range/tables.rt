@@ -13,7 +13,7 @@ fn floors(rt: HostRuntime) -> Result<(), Fault> {
     Ok(())
 }
 
-/// The fault of the table of deltas 0 but for those of the states 1 and 128.
+/// The fault of the table whose deltas are 0, except those of the states 1 and 128.
 fn fault_of(first: i32, middle: i32) -> Option<Fault> {
     let mut deltas = [0; 255];
     deltas[0] = first;
@@ -72,7 +72,7 @@ fn are_carried(bytes: &[u8], zeros: usize) -> bool {
     }
 }
 
-/// Whether so many pairs, by states that never move, have such bytes.
+/// Whether so many pairs, by states that never move, have bytes of this form.
 fn carries_to(
     rt: &HostRuntime,
     table: &StateTable,

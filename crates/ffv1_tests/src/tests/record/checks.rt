@@ -149,8 +149,8 @@ fn parities(rt: HostRuntime) {
     assert!(rt; (parity(&[1]), parity(&[0, 0, 0])) == (0x04C1_1DB7, 0));
 }
 
-/// The profiles of a configuration that is checked, and of its record that is read: where none is
-/// named, and where one is.
+/// The profiles of a configuration that is checked, and of its record that is read: if none is
+/// named, and if one is.
 fn profiles(alloc: Global, profile: Profile) -> Result<[Profile; 4], RecordFault> {
     let checked = mono(alloc, 1, 1)?.check()?;
     let checked_in = mono(alloc, 1, 1)?.check_in(profile, 8, 8)?;
@@ -181,7 +181,7 @@ fn kept_profiles(rt: HostRuntime) -> Result<(), Fail> {
     Ok(())
 }
 
-/// Why a configuration of this width is refused at a depth; None where it is accepted.
+/// Why a configuration of this width is refused at a depth; None if it is accepted.
 fn fault_at(alloc: Global, width: u32, depth: u32) -> Option<RecordFault> {
     match mono(alloc, width, 1) {
         Ok(config) => config.check_in(Profile::Wide, depth, 8).err(),

@@ -142,7 +142,7 @@ fn held_bytes(rt: HostRuntime) -> Result<(), Fail> {
     Ok(())
 }
 
-/// Why a configuration of this width is refused at a depth in `Wide`; None where it is accepted.
+/// Why a configuration of this width is refused at a depth in `Wide`; None if it is accepted.
 fn fault_at(alloc: Global, width: u32, rct: bool, depth: u32) -> Option<RecordFault> {
     match colours(alloc, width, rct) {
         Ok(config) => config.check_in(Profile::Wide, depth, 16).err(),

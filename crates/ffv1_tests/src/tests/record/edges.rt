@@ -1,4 +1,4 @@
-//! Which grids are accepted where slices share chroma samples, by values from outside the program:
+//! Which grids are accepted if slices share chroma samples, by values from outside the program:
 //! those of an independent model.
 
 use super::made::mono;
@@ -25,7 +25,7 @@ static SIDES: [(u32, u32, u32, bool, bool); 13] = [
     (720, 6, 1, true, true),
 ];
 
-/// Why pictures of a width in columns are refused in a profile; None where they are accepted.
+/// Why pictures of a width in columns are refused in a profile; None if they are accepted.
 fn refusal_across(
     alloc: Global,
     profile: Profile,
@@ -92,7 +92,7 @@ struct Row {
     record: &'static [u8],
     /// Whether `Strict` accepts it.
     strict: bool,
-    /// States, samples and bytes of output that are held, where `Wide` accepts it.
+    /// States, samples and bytes of output that are held, if `Wide` accepts it.
     held: Option<(usize, usize, usize)>,
 }
 

@@ -88,8 +88,8 @@ fn example(rt: HostRuntime) -> Result<(), Fail> {
     Ok(())
 }
 
-/// What is written of a checked configuration is read in its profile as that one, but for want of
-/// memory.
+/// What is written of a checked configuration is read in its profile as that one, unless memory is
+/// refused.
 fn written_and_read_back(
     alloc: Global,
     checked: &Checked<Global>,

@@ -74,7 +74,7 @@ fn made(alloc: Global, checked: &Checked, numbers: [u32; 3]) -> Result<Vec<u8>, 
     Ok(encoder.finish_sentinel()?)
 }
 
-/// The structure and the aspect that such a head is read as.
+/// The structure and the aspect that a head of these numbers is read as.
 fn read(
     alloc: Global,
     checked: &Checked,

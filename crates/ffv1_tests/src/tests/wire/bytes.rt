@@ -1,4 +1,4 @@
-//! Bytes read and written where calls fail, and the laws of lines at a sink.
+//! Bytes read and written when calls fail, and the laws of lines at a sink.
 
 ghost use Rattle.std.specs.Prelude.{◌≡◌, ◌≤◌, ◌++◌, ◌+◌, ◌<◌, length, drop, IfOk};
 
@@ -102,7 +102,7 @@ fn appends(alloc: Global, first: &[u8], others: &[u8], all: &[u8]) -> Result<boo
     Ok(appended.as_slice() == all)
 }
 
-/// How many bytes are written where none are given, and whether all of none are, without failures.
+/// How many bytes are written if none are given, and whether all of none are, without failures.
 fn write_nothing<W: Write + Drop>(out: W) -> (Result<usize, Failed>, Result<(), Failed>, u64) {
     let mut out = ToWrite::new(out);
     let some = out.write(b"");
@@ -210,7 +210,7 @@ fn failing_skips(rt: HostRuntime) {
     }
 }
 
-/// Reads that fail where the input ends.
+/// Reads that fail when the input ends.
 fn fails_at_the_end(rt: &impl Abort, kind: ErrorKind) {
     let mut room = [0u8; 7];
     let filled = fill_twice(FailingReader::new(&BYTES, 6, 1, kind), &mut room, 6);
@@ -257,8 +257,8 @@ fn failing_writes(rt: HostRuntime) {
     fails_to_write(&rt, rt.alloc(), Some(ErrorKind::WouldBlock));
 }
 
-/// Writes where there is room for so many bytes: whether that succeeds, whether it is without
-/// failures, and whether as many bytes are written as there is room for.
+/// Writes with room for so many bytes: whether that succeeds, whether it is without failures, and
+/// whether as many bytes are written as there is room for.
 fn write_short(
     alloc: Global,
     room: usize,

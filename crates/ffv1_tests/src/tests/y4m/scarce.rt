@@ -1,4 +1,4 @@
-//! Readers and writers of YUV4MPEG2 and PPM where memory is refused, a read or a write fails.
+//! Readers and writers of YUV4MPEG2 and PPM, if memory is refused, or if a read or a write fails.
 
 use ffv1_doubles::{FailingReader, Scarce, ShortWriter};
 use ffv1_wire::{FromRead, LineSink, ToWrite};
@@ -12,7 +12,7 @@ static PICTURES: &[u8] = b"YUV4MPEG2 W2 H2 F25:1 I? A0:0 C420jpeg\nFRAME\nabcdef
 
 static IMAGES: &[u8] = b"P6\n2 1\n255\nabcdefP6\n2 1\n255\nghijkl";
 
-/// How many pictures of YUV4MPEG2 an input has; the fault, where it comes again.
+/// How many pictures of YUV4MPEG2 an input has; the fault, if it comes again.
 fn pictures<R: Read, A: Allocator + Copy>(alloc: A, input: &mut FromRead<R>) -> Result<u32, Fault> {
     let mut reader = Y4mReader::open(alloc, None, input)?;
     let mut planes = Vec::new(alloc);
@@ -28,7 +28,7 @@ fn pictures<R: Read, A: Allocator + Copy>(alloc: A, input: &mut FromRead<R>) -> 
     Ok(count)
 }
 
-/// How many images of PPM an input has; the fault, where it comes again.
+/// How many images of PPM an input has; the fault, if it comes again.
 fn images<R: Read, A: Allocator + Copy>(alloc: A, input: &mut FromRead<R>) -> Result<u32, Fault> {
     let mut reader = PpmReader::open(alloc, None, input)?;
     let mut planes = Vec::new(alloc);
@@ -121,7 +121,7 @@ fn write_pictures(
     Ok(failed)
 }
 
-/// Whether a write failed: then `Write` is answered, where one failed before as well.
+/// Whether a write failed: then `Write` is answered, also if one failed before.
 fn fails_from_here(rt: &impl Abort, answer: Result<(), Fault>, failed: bool) -> bool {
     match answer {
         Ok(()) => assert!(rt; !failed),
@@ -130,7 +130,7 @@ fn fails_from_here(rt: &impl Abort, answer: Result<(), Fault>, failed: bool) -> 
     answer.is_err()
 }
 
-/// A writer with such a room: a beginning is written.
+/// A writer with so much room: a beginning is written.
 fn cut_at(rt: &impl Abort, alloc: Global, room: usize) -> Result<(), Fault> {
     let mut output = ToWrite::new(ShortWriter::new(alloc, room, 3, Some(ErrorKind::Other)));
     let failed = write_pictures(rt, alloc, &mut output)?;
@@ -169,7 +169,7 @@ fn lines_refused(rt: &impl Abort, sink: &mut PpmWriter<ToWrite<ShortWriter>>) ->
     refused
 }
 
-/// A sink with such a room for images: so many lines are refused, and a beginning is written.
+/// A sink with so much room for images: so many lines are refused, and a beginning is written.
 fn image_cut_at(rt: &impl Abort, alloc: Global, room: usize, expected: u64) -> Result<(), Fault> {
     let output = ToWrite::new(ShortWriter::new(alloc, room, 4, Some(ErrorKind::Other)));
     let mut sink = match PpmWriter::sized(alloc, output, 2, 1) {

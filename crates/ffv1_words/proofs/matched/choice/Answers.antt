@@ -26,3 +26,7 @@ returns-in_err-scale-clause-none c = λ _ x named. c.in_err-scale.ensures.none r
 pub returns-in_err-verify-clause-none : goal.returns-in_err-verify-clause-none
 returns-in_err-verify-clause-none c = λ _ x named. c.in_err-verify.ensures.none refl x.verify
     named.verify
+
+pub returns-in_err-codec_id-clause-none : goal.returns-in_err-codec_id-clause-none
+returns-in_err-codec_id-clause-none c = λ _ x named. c.in_err-codec_id.ensures.none refl x.codec_id
+    named.codec_id

@@ -1,5 +1,5 @@
--- Reads the next frame in place of what the vector has, and answers true; or false at the end,
--- where the vector is then empty, each time again, and then nothing is read.
+-- Reads the next frame in place of what the vector has, and answers true; or false at the end. The
+-- vector is then empty. Each further call answers false again, and reads nothing.
 use Rattle.std.proofs.Common.{rules, ◌≡◌, Bool, Option, [], false, Ok, inl, refl}
 use Rattle.ffv1_avi.specs.Readers.{next_of, next_with}
 use Rattle.ffv1_avi.specs.declared.place.Place.{Place}

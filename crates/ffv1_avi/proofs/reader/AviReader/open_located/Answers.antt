@@ -1,9 +1,11 @@
--- Reads a file up to its first `movi`, to read it then so far, as `open` and `open_all` do, and
--- says where in the file a fault is: `offset` is then the number of bytes before the chunk at
--- fault, counting the byte that was read before; no greater than 2^64 - 1.
+-- Reads a file up to its first `movi`, to read it then as far as `open` and `open_all` do, and says
+-- where in the file a fault is: `offset` is then the number of bytes before the chunk at fault,
+-- counting the byte that was read before; no greater than 2^64 - 1.
 use Rattle.std.proofs.lemmas.Result.{err_from_is_err_and}
 use Rattle.ffv1_avi.proofs.ReadingFaults.{opening_own}
 use Rattle.ffv1_avi.proofs.SpotReadings.{from_zero}
+use Rattle.ffv1_avi.proofs.OpenLaws.{opened_most}
+use Rattle.std.proofs.Common.{◌++◌, []}
 use Rattle.ffv1_avi.proofs.reader.AviReader.open_located.Goals as goal
 
 pub returns-in_err-sizes-clause-own : goal.returns-in_err-sizes-clause-own
@@ -21,3 +23,8 @@ returns-in_err-sizes-clause-offset g c =
 pub returns-clause-offset : goal.returns-clause-offset
 returns-clause-offset g c = let from = c.in_ok-sizes.ensures.from in
     (from.0, from.1, from_zero _ from.0 from.2)
+
+pub returns-clause-most : goal.returns-clause-most
+returns-clause-most g c =
+    let read = c.in_ok-sizes.ensures.answer.1 in
+    opened_most c.args.extent (read.bytes ++ []) (_, []) (read.is [])

@@ -1,5 +1,5 @@
--- Keeps the place of a Cluster that has so many before it, where a cue is for it: then every second
--- one is kept of 8192 places, for twice the stride.
+-- Keeps the place of a Cluster that has so many before it, if it has a cue. If there are 8192
+-- places already, only every second one of them is kept, for twice the stride.
 use Rattle.std.proofs.Common.{◌≡◌, ◌+◌, ◌*◌, ◌∙◌, ◌∷◌, [], ℕ, List, length, arith, ap}
 use Rattle.std.proofs.Common.{length-append}
 use Rattle.ffv1_matroska.specs.Internal.Keeping.{Kept}

@@ -11,7 +11,7 @@ pub returns-in_err-send : goal.returns-in_err-send
 returns-in_err-send g c =
     let p = err_from_is_err_and c.from_residual.result c.from_residual.ensures.1 in
     let h = head_of c.args.head.now in
-    let sh = c.args.shown in
+    let sh = c.args.details in
     let f = c.args.frame.now in
     let one = rw (c.as_slice.ensures, c.opening.ensures) at c.in_err-send.ensures in
     rw (p.1, p.2, piece_first h sh c.args.count f c.if-count-eq0.true)
@@ -23,7 +23,7 @@ returns-in_err-put_tracks g c =
     let p = err_from_is_err_and c.from_residual-in_err-put_tracks.result
     c.from_residual-in_err-put_tracks.ensures.1 in
     let h = head_of c.args.head.now in
-    let sh = c.args.shown in
+    let sh = c.args.details in
     let f = c.args.frame.now in
     let one = rw (c.as_slice.ensures, c.opening.ensures) at c.in_ok-send.ensures in
     rw (p.1, p.2, piece_first h sh c.args.count f c.if-count-eq0.true)
@@ -34,7 +34,7 @@ returns-in_err-put_tracks g c =
 pub returns-then-count-eq0 : goal.returns-then-count-eq0
 returns-then-count-eq0 g c =
     let h = head_of c.args.head.now in
-    let sh = c.args.shown in
+    let sh = c.args.details in
     let f = c.args.frame.now in
     let one = rw (c.as_slice.ensures, c.opening.ensures) at c.in_ok-send.ensures in
     let two = c.in_ok-put_tracks.ensures in
@@ -44,5 +44,5 @@ returns-then-count-eq0 g c =
     (tracks_element h sh) one.1 two.1) c.put_cluster.ensures)
 
 pub returns : goal.returns
-returns g c = rw (piece_next (head_of c.args.head.now) c.args.shown c.args.count c.args.frame.now
+returns g c = rw (piece_next (head_of c.args.head.now) c.args.details c.args.count c.args.frame.now
     c.if-count-eq0.false) c.put_cluster-2.ensures

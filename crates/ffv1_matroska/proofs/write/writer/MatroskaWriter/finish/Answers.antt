@@ -1,4 +1,4 @@
--- Writes Cues, and then writes over all that stands before Tracks: the Segment's size, where Cues
+-- Writes Cues, and then writes over all that comes before Tracks: the Segment's size, where Cues
 -- begin and how long the frames last become known.
 use Rattle.std.proofs.Common.{◌≡◌, ◌+◌, ◌∙◌, length, arith, ap, sym}
 use Rattle.ffv1_reads.specs.Head.{head_of}
@@ -36,7 +36,7 @@ returns-in-Ok-clause-answer g c = λ lives some.
     (rw c.as_slice.ensures.value at c.put_cues.ensures) in
     let w : Writing = record {
       head = head_of inside.head;
-      shown = inside.shown;
+      details = inside.details;
       count =
           inside.count;
       at = inside.at;
@@ -68,7 +68,7 @@ returns-clause-answer g c = λ lives some.
     (rw c.as_slice.ensures.value at c.put_cues.ensures) in
     let w : Writing = record {
       head = head_of inside.head;
-      shown = inside.shown;
+      details = inside.details;
       count =
           inside.count;
       at = inside.at;

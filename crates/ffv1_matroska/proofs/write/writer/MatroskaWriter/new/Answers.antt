@@ -1,4 +1,4 @@
--- A writer of a file of this head, whose pictures are so shown.
+-- A writer of a file of this head, with such a TrackEntry.
 use Rattle.std.proofs.Common.{◌≡◌, ◌<◌, ◌+◌, ◌^◌, ◌∙◌, ◌&&◌, ◌==◌, ℕ, false, not, arith, rules, ap}
 use Rattle.std.proofs.Common.{sym}
 use Rattle.ffv1_reads.specs.Head.{head_of}
@@ -33,11 +33,12 @@ invariant_of-result g c =
       scale = h.scale;
       config_record = r;
     }) items in
-    let at : 148 + c.tracks_size-at.result ≡ first_place h c.args.shown = ap (λ n. 148 + n)
+    let at : 148 + c.tracks_size-at.result ≡ first_place h c.args.details = ap (λ n. 148 + n)
     c.tracks_size-at.ensures.value in
     let fits : 148 + c.tracks_size-at.result < 2 ^ 63 + 2 ^ 20 =
     omega (arith, c.tracks_size-at.ensures.fits) in
-    rw c.in_ok-places.ensures.exact (keeping_new h _ c.args.shown _ c.in_ok-places.places.items kept
+    rw c.in_ok-places.ensures.exact (keeping_new h _ c.args.details _ c.in_ok-places.places.items
+    kept
     at fits c.in_ok-places.ensures.items)
 
 both : (a b x y : ℕ) → false ≡ not ((a == x) && (b == y)) → (a ≡ x) × (b ≡ y)
@@ -62,13 +63,13 @@ returns g c =
       scale = h.scale;
       config_record = r;
     }) items in
-    let at : 148 + c.tracks_size-at.result ≡ first_place h c.args.shown = ap (λ n. 148 + n)
+    let at : 148 + c.tracks_size-at.result ≡ first_place h c.args.details = ap (λ n. 148 + n)
     c.tracks_size-at.ensures.value in
     let same = both c.rate_of.result.0 c.rate_of.result.1 h.rate h.scale c.if-ne.ensures in
     let timed : IsTimed (rate_in h) = ap rate_of (sym c.duration_of.ensures) ∙ sym c.rate_of.ensures
     ∙ ap (λ n. record { rate = n; scale = c.rate_of.result.1 }) same.0 ∙
     ap (λ n. record { rate = h.rate; scale = n }) same.1 in (
       timed,
-      new_by h _ c.args.shown _ c.in_ok-places.places.items kept at
+      new_by h _ c.args.details _ c.in_ok-places.places.items kept at
           c.in_ok-places.ensures.items,
     )

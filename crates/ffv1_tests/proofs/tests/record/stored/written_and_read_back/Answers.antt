@@ -1,5 +1,5 @@
--- What is written of a checked configuration is read in its profile as that one, but for want of
--- memory.
+-- What is written of a checked configuration is read in its profile as that one, unless memory is
+-- refused.
 use Rattle.std.proofs.Common.{◌≡◌, ◌≤◌, ℕ, ap, subst, ◌∙◌, arith}
 use Rattle.ffv1_range.specs.Table.{Table}
 use Rattle.ffv1_record.specs.declared.config.Profile.{Profile}
