@@ -14,16 +14,17 @@ _ffv1() {
         --coder) words="1 2" ;;
         --contexts) words="small large" ;;
         --container) words="auto avi mkv" ;;
+        --codec-id) words="native vfw" ;;
         --ec) words="0 1" ;;
         --columns | --rows | --rate | --scale) return ;;
     esac
     if [ -z "$words" ]; then
         case "$command" in
             "") words="pack unpack check show framemd5 trial help --help --version" ;;
-            help) words="pack unpack check show framemd5 trial" ;;
+            help) words="pack unpack check show framemd5 trial faults" ;;
             pack)
                 words="--coder --contexts --columns --rows --ec --rate --scale"
-                words="$words --container --verify --no-clobber --progress --help"
+                words="$words --container --codec-id --verify --no-clobber --progress --help"
                 ;;
             unpack) words="--no-clobber --progress --help" ;;
             check) words="--all --place --progress --help" ;;

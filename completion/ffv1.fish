@@ -12,7 +12,7 @@ complete -c ffv1 -n "not __fish_seen_subcommand_from $commands" -a show -d "Tell
 complete -c ffv1 -n "not __fish_seen_subcommand_from $commands" -a framemd5 -d "Write the MD5 of each picture"
 complete -c ffv1 -n "not __fish_seen_subcommand_from $commands" -a trial -d "Code and decode a picture"
 complete -c ffv1 -n "not __fish_seen_subcommand_from $commands" -a help -d "Tell what a command takes"
-complete -c ffv1 -n "__fish_seen_subcommand_from help" -f -a "pack unpack check show framemd5 trial"
+complete -c ffv1 -n "__fish_seen_subcommand_from help" -f -a "pack unpack check show framemd5 trial faults"
 
 complete -c ffv1 -n "__fish_seen_subcommand_from pack" -l coder -x -a "1 2" -d "State transition table"
 complete -c ffv1 -n "__fish_seen_subcommand_from pack" -l contexts -x -a "small large" -d "Contexts"
@@ -22,6 +22,7 @@ complete -c ffv1 -n "__fish_seen_subcommand_from pack" -l ec -x -a "0 1" -d "Par
 complete -c ffv1 -n "__fish_seen_subcommand_from pack" -l rate -x -d "Frames of PPM in --scale seconds"
 complete -c ffv1 -n "__fish_seen_subcommand_from pack" -l scale -x -d "Seconds of --rate frames"
 complete -c ffv1 -n "__fish_seen_subcommand_from pack" -l container -x -a "auto avi mkv" -d "What is written"
+complete -c ffv1 -n "__fish_seen_subcommand_from pack" -l codec-id -x -a "native vfw" -d "Matroska's codec"
 complete -c ffv1 -n "__fish_seen_subcommand_from pack" -l verify -d "Decode each frame and compare it"
 complete -c ffv1 -n "__fish_seen_subcommand_from pack" -l no-clobber -d "Refuse an output that exists"
 complete -c ffv1 -n "__fish_seen_subcommand_from pack" -l progress -d "Say how much is read"

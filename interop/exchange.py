@@ -8,6 +8,10 @@ import sys
 sys.dont_write_bytecode = True
 
 TOP = os.path.realpath(os.path.join(os.path.dirname(os.path.abspath(__file__)), ".."))
+sys.path.append(os.path.join(TOP, "tests"))
+
+import told
+
 BUILT = os.path.join(TOP, "crates", "ffv1", "out", "ffv1")
 PROGRAM = [os.path.abspath(word) if os.path.exists(word) else word
            for word in shlex.split(os.environ.get("FFV1", BUILT))]
@@ -22,7 +26,9 @@ def run(*words, given=None):
 
 
 def ffv1(*words):
-    return run(*PROGRAM, *words)
+    """As `run`, with the first line alone of each refusal."""
+    status, out, errors = run(*PROGRAM, *words)
+    return status, out, told.first_lines(errors)
 
 
 def ffmpeg(*words, given=None):

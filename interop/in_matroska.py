@@ -2,6 +2,7 @@
 """Files of Matroska: those of `pack` are read by FFmpeg, mkvmerge and MediaConch, sample for sample.
 Of files by FFmpeg and mkvmerge, and the model's of FFmpeg's frames, `check` counts the frames, and
 `unpack` gives FFmpeg's samples; what is not read has its fault, and damage is found."""
+import itertools
 import os
 import random
 import shutil
@@ -25,19 +26,22 @@ def pixels_of(kind):
 
 # ------------------------------------------------------------------------------------ files of ours
 
-MADE = [["--columns", "2", "--rows", "2"], ["--ec", "0"], ["--coder", "2", "--columns", "4"]]
+numbers = itertools.count()
+VFW = ["--codec-id", "vfw"]
+MADE = [["--columns", "2", "--rows", "2"], ["--ec", "0"], ["--coder", "2", "--columns", "4"], VFW]
 
 
 def packed(data, options, piped):
     """Matroska that is packed of a text: a finished file, or an open one by way of a pipe."""
     save("ours.in", data)
+    file = f"ours_{next(numbers)}.mkv"      # MediaConch keeps what it saw of a name
     if piped:
         status, out, errors = ffv1("pack", "--container", "mkv", "ours.in", "-", *options)
-        save("ours.mkv", out)
+        save(file, out)
     else:
-        status, _, errors = ffv1("pack", "ours.in", "ours.mkv", *options)
+        status, _, errors = ffv1("pack", "ours.in", file, *options)
     assert status == 0, errors
-    return "ours.mkv"
+    return file
 
 
 def write_one(results, kind, options, piped):
@@ -51,8 +55,13 @@ def write_one(results, kind, options, piped):
     if not piped:                           # of a Segment without a size MediaConch says fail
         results.same(f"{what}: MediaConch", conch(file), "pass!")
     if shutil.which("mkvmerge"):
-        results.same(f"{what}: mkvmerge", merged("ours_merged.mkv", file), 0)
-        results.same(f"{what}: mkvmerge's samples", decoded("ours_merged.mkv", kind.name)[0], samples)
+        again = f"merged_{file}"
+        results.same(f"{what}: mkvmerge", merged(again, file), 0)
+        results.same(f"{what}: mkvmerge's samples", decoded(again, kind.name)[0], samples)
+        if options == VFW:                  # MediaConch 23.03 does not know LanguageIETF
+            plain = f"plain_{file}"
+            results.same(f"{what}: mkvmerge's plain", merged(plain, "--disable-language-ietf", file), 0)
+            results.same(f"{what}: MediaConch after mkvmerge", conch(plain), "pass!")
     if not piped:
         last = ffmpeg("-ss", f"{(FRAMES - 1) / 25}", "-i", file, "-frames:v", "1", "-f", "rawvideo",
                       "-pix_fmt", kind.name, "-")
@@ -68,6 +77,21 @@ def write_plain(results):
 
 
 ENTRIES = "stream=r_frame_rate,sample_aspect_ratio,field_order,nb_read_packets:format=duration"
+
+
+def write_codec_id(results):
+    """The codec's ID, and what CodecPrivate has beside the record: that of FFmpeg's own file."""
+    samples = raw(C422, 96, 64)
+    for options, wanted in [([], "V_FFV1"), (VFW, "V_MS/VFW/FOURCC")]:
+        file = packed(text(C422, 96, 64, samples), options, False)
+        said = run("mkvmerge", "-J", file)[1].decode() if shutil.which("mkvmerge") else wanted
+        results.same(f"ours: {wanted}", f'"codec_id": "{wanted}"' in said or said == wanted, True)
+    theirs = load(encoded("theirs_vfw.mkv", C422.name, 96, 64))
+    for name, data in [("FFmpeg's", theirs), ("ours", load(file))]:
+        at = data.index(b"FFV1", data.index(b"V_MS/VFW/FOURCC") + 15) - 16
+        fields = [int.from_bytes(data[at + first:at + last], "little")
+                  for first, last in [(4, 8), (8, 12), (12, 14), (14, 16), (20, 24), (24, 40)]]
+        results.same(f"{name} header of Video for Windows", fields, [96, 64, 1, 24, 96 * 64 * 3, 0])
 
 
 def write_said(results):
@@ -305,5 +329,5 @@ def read_damaged(results):
                          (1, "ffv1: 52 Truncated\n"))
 
 
-PARTS = [write_plain, write_said, read_plain, read_around, read_archived, read_said, read_forms,
+PARTS = [write_plain, write_codec_id, write_said, read_plain, read_around, read_archived, read_said, read_forms,
          read_merged, read_outside, read_damaged]

@@ -4,6 +4,8 @@ import math
 import re
 
 import files
+from packing import is_matroska
+from range_coder import FAULTS
 
 
 # --------------------------------------------------------------------------------- the command line
@@ -54,6 +56,7 @@ COMMANDS = {
         "columns": (number(1, 32), None), "rows": (number(1, 32), None), "ec": (number(0, 1), 1),
         "rate": (number(1, 2 ** 32 - 1), 25), "scale": (number(1, 2 ** 32 - 1), 1),
         "container": (one_of("auto", "avi", "mkv"), "auto"),
+        "codec-id": (one_of("native", "vfw"), None),
     }, flags=["verify", "no-clobber", "progress"]),
     "unpack": Level(2, flags=["no-clobber", "progress"]),
     "check": Level(1, flags=["all", "place", "progress"], most=math.inf),
@@ -121,10 +124,18 @@ def taken(level, words):
     return paths, found
 
 
+def is_topic(word):
+    """Whether help knows a word: the faults, or the number of one; 2 is no fault of the model's."""
+    is_number = re.fullmatch("[+]?[0-9]+", word, re.ASCII)
+    return word == "faults" or bool(is_number) and int(word) in {2, *FAULTS}
+
+
 def words(line):
     """The order that the words of a command line, without the program's name, ask for."""
     name, *rest = line or [""]
     if name == "help" and (not rest or rest in [[known] for known in [*COMMANDS, "help"]]):
+        raise Help(name)
+    if name == "help" and len(rest) == 1 and is_topic(rest[0]):
         raise Help(name)
     if is_help(name) or name == "--version" or name.startswith("-V"):
         raise Help(name)
@@ -139,5 +150,7 @@ def words(line):
     choice = {name: default for name, (_, default) in level.options.items()}
     order = Order(name, paths, {**choice, **dict.fromkeys(level.flags, False), **found})
     if order.choice.get("container") == "auto" and paths[1].lower().endswith(OTHERS):
+        raise Refused(paths[1])
+    if order.choice.get("codec-id") and not is_matroska(order.choice["container"], paths[1]):
         raise Refused(paths[1])
     return order

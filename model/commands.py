@@ -23,6 +23,7 @@ from command_line import COMMANDS, Help, Kept, Refused, number, words
 from ffv1 import Fault
 from packing import is_matroska, pack, pack_matroska
 from record import are_multiples
+from trial import trial
 
 
 # --------------------------------------------------------------------------- unpack, check and show
@@ -296,40 +297,6 @@ def framemd5(source, out):
         raise Fault(70)
 
 
-# -------------------------------------------------------------------------------------------- trial
-
-def code_of(config, plane):
-    """The samples of a mono picture as the content of one slice: its decisions and its bytes."""
-    encoder, cell = ffv1.Encoder(), ffv1.Cell(config.width)
-    cell.lines = plane
-    for y in range(config.height):
-        ffv1.put_line(encoder, config, ffv1.SMALL, 0, cell, y)
-    return encoder.history.count, encoder.sentinel()
-
-
-def is_coded(config, plane, code):
-    """Whether bytes are decoded to a plane."""
-    decoder, cell = ffv1.Decoder(code), ffv1.Cell(config.width)
-    for _ in range(config.height):
-        ffv1.get_line(decoder, config, ffv1.SMALL, 0, cell)
-    return cell.lines == plane
-
-
-def trial(source, out):
-    """The first picture of a text, which is to be mono, coded and decoded."""
-    head = files.open_y4m(source, source.some(1), 8)
-    if head.chroma:
-        raise Fault(62)
-    planes = next(files.y4m_pictures(source, head), None)
-    if planes is None:
-        raise Fault(70)
-    config = ffv1.Config(head.width, head.height)
-    decisions, code = code_of(config, planes[0])
-    assert is_coded(config, planes[0], code)
-    out(f"samples {head.width * head.height}\ndecisions {decisions}\ncode {code.hex().upper()}\n"
-        "same yes\n")
-
-
 # -------------------------------------------------------------------------------------- the program
 
 def opened_file(path, flags, number):
@@ -477,12 +444,31 @@ def run(line, output, standard_input=0):
         return 1, f"ffv1: {fault}\n"
 
 
+def refused_words(line):
+    """The words of a command line that are not UTF-8, as the system gives them."""
+    return [word for word in line if any(0xDC80 <= ord(letter) < 0xDD00 for letter in word)]
+
+
+def run_rest(line, refused, output):
+    """Looks at the files of a line but for those whose names are not UTF-8."""
+    if line[0] not in refused and not any(word.startswith("-") for word in refused):
+        rest = [word for word in line if word not in refused]
+        try:
+            if COMMANDS[words(rest).command].files == 1 and rest[0] != "trial":
+                return run(rest, output)[1]
+        except (Refused, Help):
+            pass
+    return ""
+
+
 def main(line):
     """Runs a command line as the program does."""
-    try:
-        "".join(line).encode()
-    except UnicodeEncodeError:
-        status, errors = 2, "ffv1: an argument is not UTF-8\n"
+    refused = refused_words(line)
+    for word in refused:
+        name = os.fsencode(word).decode("utf-8", "replace")
+        os.write(2, f"ffv1: {name}: an argument is not UTF-8\n".encode())
+    if refused:
+        status, errors = 2, run_rest(line, refused, writer(1))
     else:
         status, errors = run(line, writer(1))
     os.write(2, (errors if errors is not None else "Usage: ffv1 <COMMAND>\n").encode())

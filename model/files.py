@@ -13,7 +13,8 @@ import movi
 from chunks import chunks, get_chunk, marked, padded
 from ffv1 import Fault
 
-LIMIT = 64 << 20            # own: the most bytes of a frame, and of a format, that are read
+LIMIT = 64 << 20            # own: the most bytes of a format that are read, and, strict, of a frame
+FRAME_LIMIT = 1 << 30       # own: the most bytes of a frame that are read
 MOST = 2 ** 31 - 1          # own: the greatest size of RIFF that is written
 PIECE = 1 << 16
 
@@ -423,7 +424,7 @@ def movi_frames(source, left, opening):
         if not opening.is_frame(name):
             source.skip(padded(size), 52)
             continue
-        if size > LIMIT:
+        if size > (FRAME_LIMIT if opening.wide else LIMIT):
             raise Fault(53)
         if size == 0:
             raise Fault(54)

@@ -6,11 +6,12 @@ A file is an EBML header and a Segment: Tracks, which say what the frames are, a
 have the frames in their blocks. One of unknown size is open: it ends where the input does.
 """
 import math
+import struct
 
 import ebml
 from ebml import CRC_32, VOID, get_header, known
 from ffv1 import Fault
-from files import LIMIT
+from files import FRAME_LIMIT
 
 SEGMENT, SEEK_HEAD, INFO, TRACKS = 0x18538067, 0x114D9B74, 0x1549A966, 0x1654AE6B
 CLUSTER, CUES = 0x1F43B675, 0x1C53BB6B
@@ -74,7 +75,15 @@ def record_in(entry):
     private = ebml.find(entry, CODEC_PRIVATE) or b""
     if codec == b"V_FFV1":
         return private
-    return private[40:] if len(private) >= 40 and private[16:20] == b"FFV1" else None
+    if len(private) < 40 or private[16:20] != b"FFV1":
+        return None
+    end = int.from_bytes(private[:4], "little")
+    return private[40:end] if 40 < end < len(private) else private[40:]
+
+
+def told(number):
+    """Own: as which number one of a track is told."""
+    return number if number <= MOST_KNOWN else 0
 
 
 def numbers_in(content):
@@ -83,7 +92,7 @@ def numbers_in(content):
     try:
         for ident, entry in ebml.elements(content):
             if ident == TRACK_ENTRY:
-                found.add(ebml.find_number(entry, TRACK_NUMBER, 0))
+                found.add(told(ebml.find_number(entry, TRACK_NUMBER, 0)))
     except Fault:
         pass
     return found
@@ -113,7 +122,7 @@ JUDGED = {SEEK_HEAD, INFO, TRACKS, CUES, ATTACHMENTS, CHAPTERS, TAGS}
 PASSED = {VOID, CRC_32}
 OF_CLUSTER = {TIMESTAMP, POSITION, PREV_SIZE, SILENT_TRACKS, ENCRYPTED_BLOCK}
 OUTSIDE = JUDGED | {CLUSTER, ebml.EBML, SEGMENT}    # own: their IDs are refused in a Cluster
-MOST_KNOWN = 127                # own: the greatest number of which it is known whether a track has it
+MOST_KNOWN = 127                # own: all greater numbers of tracks are told as one, as 0 is
 
 
 class Segment:
@@ -193,12 +202,12 @@ class Segment:
 
     def block(self, size, number):
         """9559, 10.1: the frame of a block of so many bytes, or none where it is of another track.
-        Own: that is a track of the file, no lacing, and a frame has from 1 to 67108864 bytes; all
+        Own: that is a track of the file, no lacing, and a frame has from 1 to 1073741824 bytes; all
         that before it is read."""
         track = ebml.vint(self.source, 8, size)
         said, left = ebml.data_of(track), size - len(track)
         if said != number:
-            if said <= MOST_KNOWN and said not in self.known:
+            if told(said) not in self.known:
                 raise Fault(81)
             self.source.skip(left, 52)
             return None
@@ -207,7 +216,7 @@ class Segment:
         flags, left = self.source.exactly(3, 52)[2], left - 3
         if flags & 6:
             raise Fault(84)
-        if left > LIMIT:
+        if left > FRAME_LIMIT:
             raise Fault(53)
         if left == 0:
             raise Fault(54)
@@ -287,10 +296,11 @@ CLUSTERS_END = 41                       # the bytes of a Cluster beside its fram
 
 class Shown:
     """How pictures are shown: their structure, 0 unknown, 1 top field first, 2 bottom field first,
-    3 progressive; and the aspect of a sample, both numbers 0 where it is not known."""
+    3 progressive; and the aspect of a sample, both numbers 0 where it is not known. And whether the
+    codec ID is that of Video for Windows."""
 
-    def __init__(self, structure=0, aspect=(0, 0)):
-        self.structure, self.aspect = structure, aspect
+    def __init__(self, structure=0, aspect=(0, 0), vfw=False):
+        self.structure, self.aspect, self.vfw = structure, aspect, vfw
 
 
 class Finish:
@@ -350,14 +360,25 @@ def video(head, shown):
     return ebml.short(VIDEO, content)
 
 
+def private_of(head, shown):
+    """The codec ID, and CodecPrivate (9559, 8; 9043, 4.3.3): the record; or, of Video for Windows,
+    BITMAPINFOHEADER and the record, with a byte more if that is odd, which biSize does not count."""
+    if not shown.vfw:
+        return b"V_FFV1", head.record
+    image = head.width * head.height * 3 % 2 ** 32
+    front = struct.pack("<3I2H4s5I", 40 + len(head.record), head.width, head.height, 1, 24, b"FFV1",
+                        image, 0, 0, 0, 0)
+    return b"V_MS/VFW/FOURCC", front + head.record + bytes(len(head.record) % 2)
+
+
 def tracks(head, shown):
     """5.1.4: the one track."""
-    duration = timed(head.rate, head.scale)
+    duration, (codec, private) = timed(head.rate, head.scale), private_of(head, shown)
     entry = ebml.number(TRACK_NUMBER, 1, 1) + ebml.number(TRACK_UID, 1, 1) \
         + ebml.number(TRACK_TYPE, 1, 1) + ebml.number(FLAG_LACING, 0, 1) \
-        + ebml.short(LANGUAGE, b"und") + ebml.short(CODEC_ID, b"V_FFV1") \
+        + ebml.short(LANGUAGE, b"und") + ebml.short(CODEC_ID, codec) \
         + (ebml.number(DEFAULT_DURATION, duration, 8) if duration else b"") \
-        + video(head, shown) + ebml.long(CODEC_PRIVATE, head.record)
+        + video(head, shown) + ebml.long(CODEC_PRIVATE, private)
     return ebml.long(TRACKS, ebml.summed(ebml.long(TRACK_ENTRY, entry)))
 
 

@@ -31,7 +31,7 @@ def blocks_of_manual(text):
 # picture's, and pack's own count is checked elsewhere.
 PACKED = r"frames 3 bytes \d+\n"
 CHECKED = r"(frame \d: \d+ bytes, \d+ slices, \d+ decisions\n){3}frames 3\n"
-BROKEN = r"ffv1: broken\.mkv: 52 Truncated\n"
+BROKEN = r"ffv1: broken\.mkv: 52 Truncated\n  broken\.mkv\n  The file is not whole.*\n"
 README = [
     PACKED + CHECKED + r"frames 3\n",
     BROKEN,

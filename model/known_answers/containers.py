@@ -114,8 +114,8 @@ REFUSED = [
      "52 Truncated"),
     ("a frame of no bytes", riff(header(), chunk_list(b"movi", chunk(b"00dc", b""))),
      "54 EmptyFrame"),
-    ("a frame too long", long_frame(67108865), "53 ChunkTooLong"),
-    ("a frame that is not there", long_frame(67108864), "52 Truncated"),
+    ("a frame too long", long_frame(1073741825), "53 ChunkTooLong"),
+    ("a frame that is not there", long_frame(1073741824), "52 Truncated"),
     ("a format too long", long_format(67108865), "53 ChunkTooLong"),
     ("a format that is not there", long_format(67108864), "52 Truncated"),
 ]

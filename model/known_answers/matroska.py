@@ -84,7 +84,7 @@ B = block()
 SEVEN = [("SeekHead", "114D9B74"), ("Info", "1549A966"), ("Tracks", "1654AE6B"),
          ("Cues", "1C53BB6B"), ("Attachments", "1941A469"), ("Chapters", "1043A770"),
          ("Tags", "1254C367")]
-MANY = 64 << 20
+MANY, MOST = 64 << 20, 1 << 30
 
 
 # ----------------------------------------------------------------------------------------- examples
@@ -403,7 +403,7 @@ BLOCKS = [
     ("a number that no track has, and no more", one("82"), 0, 81, 26),
     ("the same beside sound", beside(cluster(element("A3", "83 0000 80", FRAME)), C), 0, 81, 34),
     ("track 127, which is none", one("407F 0000 80", FRAME), 0, 81, 34),
-    ("track 128, which is none", one("4080 0000 80", FRAME), 1, 0, 0),
+    ("track 128, which is none", one("4080 0000 80", FRAME), 0, 81, 34),
     ("no time", one("81"), 0, 52, 26),
     ("no flags", one("81 0000"), 0, 52, 28),
     ("flags and no frame", one("81 0000 80"), 0, 54, 26),
@@ -413,11 +413,11 @@ BLOCKS = [
     ("all flags but lacing", one("81 0000 F9", FRAME), 2, 0, 0),
     *((f"lacing {flags}", one("81 0000", flags, FRAME), 0, 84, 31)
       for flags in ["02", "04", "06", "FB", "FD", "FF"]),
-    ("a frame that is too long", long_block(MANY + 5), 0, 53, 6),
-    ("the longest frame, cut", long_block(MANY + 4), 0, 52, 0),
+    ("a frame that is too long", long_block(MOST + 5), 0, 53, 6),
+    ("the longest frame, cut", long_block(MOST + 4), 0, 52, 0),
     ("another track that is too long", beside(
-        LOOSE, "A3", size(MANY + 5), "82 0000 80", of=open_segment), 0, 52, 0),
-    ("a long frame with lacing", opened(LOOSE, "A3", size(MANY + 5), "81 0000 82 00"), 0, 84, 1),
+        LOOSE, "A3", size(MOST + 5), "82 0000 80", of=open_segment), 0, 52, 0),
+    ("a long frame with lacing", opened(LOOSE, "A3", size(MOST + 5), "81 0000 82 00"), 0, 84, 1),
     ("a block of a group without a frame", whole(cluster("A086 A184 81000080"), C), 0, 54, 26),
     ("a block of a group with lacing", whole(cluster("A087 A185 81000084 00"), C), 0, 84, 27),
     ("a cut frame", opened(cluster(B))[:-1], 0, 52, 0),

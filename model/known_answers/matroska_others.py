@@ -36,7 +36,7 @@ ROWS = [
     ("an ID of five bytes, without Clusters", whole("088100"), 0, 81, 2),
     ("lacing", whole("1F43B675 8B", "A38981000002FE7B000002"), 0, 84, 5),
     ("no frame in a block", opened(LOOSE, "A3848100008000"), 0, 54, 1),
-    ("a block that is too long", opened(LOOSE, "A3140000058100008000"), 0, 53, 1),
+    ("a block that is too long", opened(LOOSE, "A308400000058100008000"), 0, 53, 1),
     ("another CRC-32 of a Cluster", whole("1F43B675 91 BF8401000000", B, "EC"), 0, 85, 1),
     ("another CRC-32 of Tracks", H + segment("1654AE6B 86 BF8401000000", C), 0, 85, 26),
     ("Tracks without a track", H + segment("1654AE6B 82 EC80", C), 0, 51, 26),
