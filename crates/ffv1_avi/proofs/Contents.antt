@@ -8,7 +8,7 @@ use Rattle.byteorder.specs.Endian.{little_number}
 use Rattle.byteorder.specs.Numbers.{little_from-append, little_from-take}
 use Rattle.ffv1_reads.specs.Reads.{Kept, Looked, Reading, Short, Stop, Want, given, passed, read_on, taken, wanted, ◌>>=◌}
 use Rattle.ffv1_avi.specs.Padding.{content, padded}
-use Rattle.ffv1_avi.specs.Streams.{Format, format_behind, format_by, format_in, format_rest, format_of, rates_in, rates_of, record_end}
+use Rattle.ffv1_avi.specs.Streams.{Format, is_format, format_behind, format_by, format_in, format_rest, format_of, rates_in, rates_of, record_end}
 use Rattle.ffv1_avi.specs.declared.place.Extent.{Extent}
 use Rattle.ffv1_avi.specs.declared.place.Extent.TheVariants.{FirstMovi, EveryRiff}
 use Rattle.ffv1_avi.specs.Walk.{is_name}
@@ -98,9 +98,9 @@ rates_short size few text = elim (cases_lt (length text) (padded size)) [ inl le
         ap (λ z. read_on z (λ bytes. given (rates_of bytes))) (content_long size text all) ∙ rw (le-ltb _ _ all, room) refl
 
 -- what the first 40 bytes of a format say, with the record after them
-abbrev pub format_front : List ℕ → List ℕ → Option Format
-format_front head config =
-    if is_name (take 4 (drop 16 head)) (codes "FFV1") then Some (record { width = little_number 4 (drop 4 head); height = little_number 4 (drop 8 head); config_record = config }) else None
+abbrev pub format_front : Extent → List ℕ → List ℕ → Option Format
+format_front extent head config =
+    if is_format extent (take 4 (drop 16 head)) then Some (record { width = little_number 4 (drop 4 head); height = little_number 4 (drop 8 head); config_record = config }) else None
 
 -- where the record of a format ends that begins with these bytes
 abbrev pub end_of : Extent → List ℕ → ℕ → ℕ
@@ -116,7 +116,7 @@ end_inside EveryRiff says size enough = on_tests (nat_lt 40 says) (nat_lt says s
     on_tests true false p q = rw (p, q) (enough, omega arith)
     on_tests false b p q = rw p (enough, omega arith)
 
-format_of_front : (extent : Extent) (head more : List ℕ) → length head ≡ 40 → format_of extent (head ++ more) ≡ format_front head (take (end_of extent head (40 + length more) - 40) more)
+format_of_front : (extent : Extent) (head more : List ℕ) → length head ≡ 40 → format_of extent (head ++ more) ≡ format_front extent head (take (end_of extent head (40 + length more) - 40) more)
 format_of_front extent head more long =
     let room : nat_le 40 (length (head ++ more)) ≡ true = le-leb _ _ (omega (arith, long, length-append head more)) in
     let size : length (head ++ more) ≡ 40 + length more = length-append head more ∙ ap (λ n. n + length more) long in
@@ -133,7 +133,7 @@ abbrev pub format_whole : Extent → ℕ → Reading (Option Format)
 format_whole extent size = content Looked size >>= λ bytes. given (format_of extent bytes)
 
 abbrev whole_rest : Extent → ℕ → List ℕ → Reading (Option Format)
-whole_rest extent size head = taken (size - 40) >>= λ config. (passed (size % 2) >>= λ _. given (format_front head (take (end_of extent head size - 40) config)))
+whole_rest extent size head = taken (size - 40) >>= λ config. (passed (size % 2) >>= λ _. given (format_front extent head (take (end_of extent head size - 40) config)))
 
 whole_long : (extent : Extent) (size : ℕ) → 40 ≤ size → (text : List ℕ) → format_whole extent size text ≡ (taken 40 >>= whole_rest extent size) text
 whole_long extent size enough text = elim (cases_lt (length text) 40) [ inl none ↦ nothing none | inr some ↦ elim (cases_lt (length text) size) [ inl few ↦ short some few | inr all ↦ elim (cases_lt (length text) (padded size)) [ inl most ↦ unpadded all most | inr whole ↦ long whole ] ] ]
@@ -165,8 +165,8 @@ whole_long extent size enough text = elim (cases_lt (length text) 40) [ inl none
         let head : length (take 40 text) ≡ 40 = length-take 40 text ∙ (omega (arith, whole, enough)) in
         let more = take (size - 40) (drop 40 text) in
         let all : 40 + length more ≡ size = omega (arith, whole, enough, length-take (size - 40) (drop 40 text), length-drop 40 text) in
-        let cut : format_front (take 40 text) (take (end_of extent (take 40 text) (40 + length more) - 40) more) ≡ format_front (take 40 text) (take (end_of extent (take 40 text) size - 40) more) = ap (λ n. format_front (take 40 text) (take (end_of extent (take 40 text) n - 40) more)) all in
-        let says : format_of extent (take size text) ≡ format_front (take 40 text) (take (end_of extent (take 40 text) size - 40) more) = ap (format_of extent) (parted 40 size text enough) ∙ format_of_front extent (take 40 text) more head ∙ cut in
+        let cut : format_front extent (take 40 text) (take (end_of extent (take 40 text) (40 + length more) - 40) more) ≡ format_front extent (take 40 text) (take (end_of extent (take 40 text) size - 40) more) = ap (λ n. format_front extent (take 40 text) (take (end_of extent (take 40 text) n - 40) more)) all in
+        let says : format_of extent (take size text) ≡ format_front extent (take 40 text) (take (end_of extent (take 40 text) size - 40) more) = ap (format_of extent) (parted 40 size text enough) ∙ format_of_front extent (take 40 text) more head ∙ cut in
         ap judge (content_long size text whole) ∙ rw (some, behind, end, far, says) refl
 
 whole_short : (extent : Extent) (size : ℕ) → size < 40 → (text : List ℕ) → format_whole extent size text ≡ (passed (padded size) >>= λ _. given None) text
@@ -185,7 +185,7 @@ pub number_taken : (m : ℕ) (xs : List ℕ) → 4 ≤ m → little_number 4 (ta
 number_taken m xs h = little_from-take 0 4 m xs h
 
 -- a format that is not FFV1
-whole_wrong : (extent : Extent) (size : ℕ) (head : List ℕ) → 40 ≤ size → is_name (take 4 (drop 16 head)) (codes "FFV1") ≡ false → (text : List ℕ) → whole_rest extent size head text ≡ (passed (padded size - 40) >>= λ _. given None) text
+whole_wrong : (extent : Extent) (size : ℕ) (head : List ℕ) → 40 ≤ size → is_format extent (take 4 (drop 16 head)) ≡ false → (text : List ℕ) → whole_rest extent size head text ≡ (passed (padded size - 40) >>= λ _. given None) text
 whole_wrong extent size head enough wrong text = rw wrong (elim (cases_lt (length text) (size - 40)) [ inl few ↦ short few | inr some ↦ elim (cases_lt (length text) (padded size - 40)) [ inl most ↦ unpadded some most | inr all ↦ long all ] ])
   where
     short : length text < size - 40 → (taken (size - 40) >>= λ config. (passed (size % 2) >>= λ _. given {X = Option Format} None)) text ≡ (passed (padded size - 40) >>= λ _. given None) text
@@ -205,16 +205,16 @@ whole_wrong extent size head enough wrong text = rw wrong (elim (cases_lt (lengt
 
 -- whether its record is kept or not, a format reads alike, and as its bytes as a whole
 format_alike : (extent : Extent) (v w : Want) (size : ℕ) (text : List ℕ) (z : Option Format × List ℕ) → format_by extent v size text ≡ Ok z → format_by extent w size text ≡ Ok z
-format_alike extent v w size text z h = on_tests (nat_lt size 40) (nat_lt (length text) 40) (is_name (take 4 (drop 16 (take 40 text))) (codes "FFV1")) (nat_lt (length (drop 40 text)) (end_of extent (take 40 text) size - 40)) refl refl refl refl h
+format_alike extent v w size text z h = on_tests (nat_lt size 40) (nat_lt (length text) 40) (is_format extent (take 4 (drop 16 (take 40 text)))) (nat_lt (length (drop 40 text)) (end_of extent (take 40 text) size - 40)) refl refl refl refl h
   where
-    on_tests : (a b c d : Bool) → nat_lt size 40 ≡ a → nat_lt (length text) 40 ≡ b → is_name (take 4 (drop 16 (take 40 text))) (codes "FFV1") ≡ c → nat_lt (length (drop 40 text)) (end_of extent (take 40 text) size - 40) ≡ d → format_by extent v size text ≡ Ok z → format_by extent w size text ≡ Ok z
+    on_tests : (a b c d : Bool) → nat_lt size 40 ≡ a → nat_lt (length text) 40 ≡ b → is_format extent (take 4 (drop 16 (take 40 text))) ≡ c → nat_lt (length (drop 40 text)) (end_of extent (take 40 text) size - 40) ≡ d → format_by extent v size text ≡ Ok z → format_by extent w size text ≡ Ok z
     on_tests true b c d p q r s h = rw p (rw p at h)
     on_tests false true c d p q r s h = absurd (cc (rw (p, q) at h))
     on_tests false false false d p q r s h = rw (p, q, r) (rw (p, q, r) at h)
     on_tests false false true true p q r s h = absurd (cc (rw (p, q, r, s) at h))
     on_tests false false true false p q r s h = rw (p, q, r, s) (rw (p, q, r, s) at h)
 
-rest_wrong : (extent : Extent) (w : Want) (size : ℕ) (front : List ℕ) → is_name (take 4 (drop 16 front)) (codes "FFV1") ≡ false → (text : List ℕ) → format_rest extent w size front text ≡ (passed (padded size - 40) >>= λ _. given None) text
+rest_wrong : (extent : Extent) (w : Want) (size : ℕ) (front : List ℕ) → is_format extent (take 4 (drop 16 front)) ≡ false → (text : List ℕ) → format_rest extent w size front text ≡ (passed (padded size - 40) >>= λ _. given None) text
 rest_wrong extent w size front is text = rw is refl
 
 -- a record that ends before its chunk, and what is left of that, are that chunk
@@ -249,7 +249,7 @@ cut_same {X = X} kept n odd make text inside =
         let front : take kept (take n text) ≡ take kept text = ap (take kept) (parted kept n text inside) ∙ cut_front kept (take kept text) (take (n - kept) (drop kept text)) size in
         rw (le-ltb (length text) kept (omega (arith, inside, all)), le-ltb (length text) n (omega (arith, all)), behind, end, far, front) refl
 
-rest_right : (extent : Extent) (size : ℕ) (front : List ℕ) → 40 ≤ size → is_name (take 4 (drop 16 front)) (codes "FFV1") ≡ true → (text : List ℕ) → format_rest extent Looked size front text ≡ whole_rest extent size front text
+rest_right : (extent : Extent) (size : ℕ) (front : List ℕ) → 40 ≤ size → is_format extent (take 4 (drop 16 front)) ≡ true → (text : List ℕ) → format_rest extent Looked size front text ≡ whole_rest extent size front text
 rest_right extent size front enough is text =
     let inside = end_inside extent (little_number 4 front) size enough in
     let end = end_of extent front size in
@@ -257,9 +257,9 @@ rest_right extent size front enough is text =
     rw (is, gap) (cut_same (end - 40) (size - 40) (size % 2) (λ config. format_behind front config) text (omega (arith, inside.0, inside.1)))
 
 rest_same : (extent : Extent) (size : ℕ) (front : List ℕ) → 40 ≤ size → (text : List ℕ) → format_rest extent Looked size front text ≡ whole_rest extent size front text
-rest_same extent size front enough text = on_name (is_name (take 4 (drop 16 front)) (codes "FFV1")) refl
+rest_same extent size front enough text = on_name (is_format extent (take 4 (drop 16 front))) refl
   where
-    on_name : (b : Bool) → is_name (take 4 (drop 16 front)) (codes "FFV1") ≡ b → format_rest extent Looked size front text ≡ whole_rest extent size front text
+    on_name : (b : Bool) → is_format extent (take 4 (drop 16 front)) ≡ b → format_rest extent Looked size front text ≡ whole_rest extent size front text
     on_name true is = rest_right extent size front enough is text
     on_name false is = rest_wrong extent Looked size front is text ∙ sym (whole_wrong extent size front enough is text)
 
@@ -290,8 +290,8 @@ format_long extent size enough text = rw (le-ltb _ _ enough) refl
 abbrev pub record_rest : ℕ → ℕ → List ℕ → Reading (Option Format)
 record_rest end size front = wanted Kept (end - 40) >>= λ config. (passed (padded size - end) >>= λ _. given (format_behind front config))
 
-pub format_right : (extent : Extent) (end size : ℕ) (front : List ℕ) → end ≡ record_end extent (little_number 4 front) size → is_name (take 4 (drop 16 front)) (codes "FFV1") ≡ true → (text : List ℕ) → format_rest extent Kept size front text ≡ record_rest end size front text
+pub format_right : (extent : Extent) (end size : ℕ) (front : List ℕ) → end ≡ record_end extent (little_number 4 front) size → is_format extent (take 4 (drop 16 front)) ≡ true → (text : List ℕ) → format_rest extent Kept size front text ≡ record_rest end size front text
 format_right extent end size front ends is text = rw (is, ends) refl
 
-pub format_wrong : (extent : Extent) (size : ℕ) (front : List ℕ) → is_name (take 4 (drop 16 front)) (codes "FFV1") ≡ false → (text : List ℕ) → format_rest extent Kept size front text ≡ (passed (padded size - 40) >>= λ _. given None) text
+pub format_wrong : (extent : Extent) (size : ℕ) (front : List ℕ) → is_format extent (take 4 (drop 16 front)) ≡ false → (text : List ℕ) → format_rest extent Kept size front text ≡ (passed (padded size - 40) >>= λ _. given None) text
 format_wrong extent size front is text = rw is refl

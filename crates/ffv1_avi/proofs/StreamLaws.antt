@@ -1,9 +1,11 @@
 -- A stream's list is read exactly if its first header and its first format say a head.
-use Rattle.std.proofs.Common.{◌≡◌, ◌⊎◌, inl, inr, ℕ, ◌+◌, ◌≤◌, ◌==◌, Bool, true, false, Option, Some, None, Ok, List, [], ◌∷◌, ◌++◌, length, codes, ap, ◌∙◌, sym, subst, arith, refl, add-zero}
+use Rattle.std.proofs.Common.{◌≡◌, ◌⊎◌, inl, inr, ℕ, ◌+◌, ◌≤◌, ◌==◌, Bool, true, false, Option, Some, None, Result, Ok, List, [], ◌∷◌, ◌++◌, length, codes, ap, ◌∙◌, sym, subst, arith, refl, add-zero}
 use Rattle.std.specs.Cmp.Lexicographic.{same_text}
 use Rattle.ffv1_avi.specs.Chunks.{AreChunks, Chunk, Says, SaysOther, chunks_text, first_of, is_named, says_of, those}
-use Rattle.ffv1_reads.specs.Head.{Head, limit}
-use Rattle.ffv1_reads.specs.Reads.{given, read_on, ◌>>=◌}
+use Rattle.ffv1_reads.specs.Colour.{unsaid}
+use Rattle.ffv1_reads.specs.declared.colour.Colour.{Colour}
+use Rattle.ffv1_reads.specs.Head.{Head, limit, without_colour}
+use Rattle.ffv1_reads.specs.Reads.{Stop, given, read_on, ◌>>=◌}
 use Rattle.ffv1_avi.specs.Streams.{Format, Known, format_of, head_judged, no_video, nothing_known, rates_of, stream_judged, stream_read, visit_field}
 use Rattle.ffv1_avi.specs.declared.place.Extent.{Extent}
 use Rattle.ffv1_avi.specs.declared.place.Extent.TheVariants.{FirstMovi, EveryRiff}
@@ -176,7 +178,7 @@ spoken (Some x) = x
 -- what the judgement of a stream says
 abbrev Judged : Extent → Option (Option (ℕ × ℕ)) → Option (Option Format) → Option Head → Type 0
 Judged extent r f (Some head) =
-    (r ≡ Some (Some (head.rate, head.scale))) × (f ≡ Some (Some (record { width = head.width; height = head.height; config_record = head.config_record }))) × ((head.rate == 0) ≡ (head.scale == 0))
+    (r ≡ Some (Some (head.rate, head.scale))) × (f ≡ Some (Some (record { width = head.width; height = head.height; config_record = head.config_record }))) × ((head.rate == 0) ≡ (head.scale == 0)) × (head.colour ≡ unsaid)
 Judged extent r f None = (extent ≡ EveryRiff) × ((spoken r ≡ None) ⊎ (spoken f ≡ None))
 
 no_video_sound : (extent : Extent) (r : Option (Option (ℕ × ℕ))) (f : Option (Option Format)) (text : List ℕ) (w : Option Head × List ℕ) → (spoken r ≡ None) ⊎ (spoken f ≡ None) → no_video extent text ≡ Ok w → Judged extent r f w.0 × (text ≡ w.1)
@@ -196,24 +198,27 @@ judged_sound extent (Some (Some r)) (Some (Some f)) text w h = on_zero (r.0 == 0
     P w = Judged extent (Some (Some r)) (Some (Some f)) w.0 × (text ≡ w.1)
 
     head : Head
-    head = record { width = f.width; height = f.height; rate = r.0; scale = r.1; config_record = f.config_record }
+    head = record { width = f.width; height = f.height; rate = r.0; scale = r.1; colour = unsaid; config_record = f.config_record }
 
     on_zero : (a b : Bool) → (r.0 == 0) ≡ a → (r.1 == 0) ≡ b → (head_judged r f >>= λ head. given (Some head)) text ≡ Ok w → P w
-    on_zero true true p q h = subst P (ok_is (Some head, text) w (rw (p, q) at h)) ((refl, refl, p ∙ sym q), refl)
+    on_zero true true p q h = subst P (ok_is (Some head, text) w (rw (p, q) at h)) ((refl, refl, p ∙ sym q, refl), refl)
     on_zero true false p q h = absurd (cc (rw (p, q) at h))
     on_zero false true p q h = absurd (cc (rw (p, q) at h))
-    on_zero false false p q h = subst P (ok_is (Some head, text) w (rw (p, q) at h)) ((refl, refl, p ∙ sym q), refl)
+    on_zero false false p q h = subst P (ok_is (Some head, text) w (rw (p, q) at h)) ((refl, refl, p ∙ sym q, refl), refl)
 
-judged_complete : (extent : Extent) (head : Head) (text : List ℕ) → ((head.rate == 0) ≡ (head.scale == 0)) →
+judged_complete : (extent : Extent) (head : Head) (text : List ℕ) → ((head.rate == 0) ≡ (head.scale == 0)) → head.colour ≡ unsaid →
     stream_judged extent (Some (Some (head.rate, head.scale))) (Some (Some (record { width = head.width; height = head.height; config_record = head.config_record }))) text ≡ Ok (Some head, text)
-judged_complete extent head text both = on_zero (head.rate == 0) refl
+judged_complete extent head text both plain = on_zero (head.rate == 0) refl
   where
     format : Format
     format = record { width = head.width; height = head.height; config_record = head.config_record }
 
+    same : ◌≡◌ {A = Result (Option Head × List ℕ) Stop} (Ok (Some (without_colour head), text)) (Ok (Some head, text))
+    same = ap (λ (c : Colour). Ok (Some (record head { colour = c }), text)) (sym plain)
+
     on_zero : (a : Bool) → (head.rate == 0) ≡ a → (head_judged (head.rate, head.scale) format >>= λ head. given (Some head)) text ≡ Ok (Some head, text)
-    on_zero true p = rw (p, sym both ∙ p) refl
-    on_zero false p = rw (p, sym both ∙ p) refl
+    on_zero true p = rw (p, sym both ∙ p) same
+    on_zero false p = rw (p, sym both ∙ p) same
 
 judged_other : (r : Option (Option (ℕ × ℕ))) (f : Option (Option Format)) (text : List ℕ) → (spoken r ≡ None) ⊎ (spoken f ≡ None) → stream_judged EveryRiff r f text ≡ Ok (None, text)
 judged_other None f text none = refl
@@ -253,7 +258,7 @@ stream_sound extent room text w h =
         let rates = said rates_of (header_of chunks) _ (sym (run_rates extent chunks nothing_known last run) ∙ known.0) in
         let format = said (format_of extent) (format_chunk chunks) _ (sym (run_format extent chunks nothing_known last run) ∙ known.1) in
         let short = run_short extent chunks nothing_known last run refl format.0 format.1 in
-        record { header = rates.0; format = format.0; first_header = rates.1; first_format = format.1; short = short; video = rates.2; ffv1 = format.2; both = known.2 }
+        record { header = rates.0; format = format.0; first_header = rates.1; first_format = format.1; short = short; video = rates.2; ffv1 = format.2; both = known.2; plain = known.3 }
     saying chunks last run None known =
         let rates : last.rates ≡ first_says rates_of (header_of chunks) = run_rates extent chunks nothing_known last run in
         let format : last.format ≡ first_says (format_of extent) (format_chunk chunks) = run_format extent chunks nothing_known last run in
@@ -286,7 +291,7 @@ stream_complete extent fields head rest each says =
     stream_walked extent fields run.0 rest each run.1
     ∙ ap (λ r. stream_judged extent r run.0.format rest) rates
     ∙ ap (λ f. stream_judged extent (Some (Some (head.rate, head.scale))) f rest) format
-    ∙ judged_complete extent head rest says.both
+    ∙ judged_complete extent head rest says.both says.plain
 
 pub stream_other : (fields : List Chunk) (rest : List ℕ) → AreChunks fields → SaysOther EveryRiff fields → stream_read EveryRiff (length (chunks_text fields)) (chunks_text fields ++ rest) ≡ Ok (None, rest)
 stream_other fields rest each says =

@@ -13,9 +13,10 @@ use Rattle.ffv1_avi.specs.Names.{is_barred, is_frame, most_bytes}
 use Rattle.ffv1_avi.specs.declared.place.Names.TheVariants.{Any, Closed}
 use Rattle.ffv1_avi.specs.declared.place.Extent.{Extent}
 use Rattle.ffv1_avi.specs.declared.place.Extent.TheVariants.{FirstMovi, EveryRiff}
-use Rattle.ffv1_reads.specs.Head.{Head, limit}
+use Rattle.ffv1_reads.specs.Head.{Head, limit, without_colour}
 use Rattle.ffv1_avi.specs.Padding.{padded}
-use Rattle.ffv1_avi.specs.Streams.{record_end}
+use Rattle.ffv1_reads.specs.Bitmap.{is_ffv1}
+use Rattle.ffv1_avi.specs.Streams.{is_format, record_end}
 use Rattle.ffv1_avi.specs.Written.{avih, file_of, format_size, frame_chunk, frame_size, front, head_text, movi, movi_size, padding, riff_size, spelled, strf, strh}
 use Rattle.ffv1_avi.proofs.PartLaws.{parts_text}
 
@@ -137,8 +138,14 @@ parts_long head count =
     let front : length (c.name ++ c.size) ≡ 8 = refl in
     ap length (append-nil (chunk_text c) ∙ append-nil ((c.name ++ c.size) ++ c.bytes)) ∙ length-append (c.name ++ c.size) c.bytes ∙ (omega (arith, front, header_long head count))
 
+-- its name is that of FFV1
+name_back : (extent : Extent) → is_format extent (codes "FFV1") ≡ true
+unfolding is_ffv1
+name_back FirstMovi = refl
+name_back EveryRiff = refl
+
 -- what the written stream says
-written_says : (extent by : Extent) (head : Head) (frames : List (List ℕ)) (count : ℕ) → IsWritable by head frames → Says extent (fields_of head count) head
+written_says : (extent by : Extent) (head : Head) (frames : List (List ℕ)) (count : ℕ) → IsWritable by head frames → Says extent (fields_of head count) (without_colour head)
 written_says extent by head frames count is =
     let rate = back head.rate is.rate in
     let scale = back head.scale is.scale in
@@ -147,14 +154,14 @@ written_says extent by head frames count is =
     let room : nat_le 40 (length (strf_of head).bytes) ≡ true = le-leb _ _ (omega (arith, strf_long head)) in
     let short : length (strf_of head).bytes ≤ limit = omega (arith, strf_long head, is.short) in
     let whole : take (length (strf_of head).bytes - 40) head.config_record ≡ head.config_record = take_all (length (strf_of head).bytes - 40) head.config_record (omega (arith, strf_long head)) in
-    record { header = strh_of head count; format = strf_of head; first_header = refl; first_format = refl; short = short; video = rw (rate, scale) refl; ffv1 = rw (room, width, height, to_end extent, whole) refl; both = is.both }
+    record { header = strh_of head count; format = strf_of head; first_header = refl; first_format = refl; short = short; video = rw (rate, scale) refl; ffv1 = rw (room, width, height, to_end extent, whole, name_back extent) refl; both = is.both; plain = refl }
   where
     -- biSize leaves the record out
     to_end : (x : Extent) → record_end x (little_number 4 (strf_of head).bytes) (length (strf_of head).bytes) ≡ length (strf_of head).bytes
     to_end FirstMovi = refl
     to_end EveryRiff = refl
 
-pub written_stream : (extent by : Extent) (head : Head) (frames : List (List ℕ)) (count : ℕ) → IsWritable by head frames → IsStream extent (stream_of head count) head
+pub written_stream : (extent by : Extent) (head : Head) (frames : List (List ℕ)) (count : ℕ) → IsWritable by head frames → IsStream extent (stream_of head count) (without_colour head)
 written_stream extent by head frames count is =
     record { fields = fields_of head count; bytes = refl; each = (strh_is head count, (strf_is head is.short, tt)); says = written_says extent by head frames count is }
 
@@ -162,7 +169,7 @@ written_stream extent by head frames count is =
 pub tail_same : (config pad behind : List ℕ) → (config ++ pad) ++ behind ≡ ((((((config ++ pad) ++ []) ++ []) ++ []) ++ []) ++ []) ++ behind
 tail_same config pad behind = simp append-nil
 
-pub written_file : (head : Head) (frames : List (List ℕ)) → IsWritable FirstMovi head frames → AviFile (file_of head frames) head frames
+pub written_file : (head : Head) (frames : List (List ℕ)) → IsWritable FirstMovi head frames → AviFile (file_of head frames) (without_colour head) frames
 written_file head frames is =
     let count = length frames in
     let size = movi_size frames in
@@ -179,6 +186,6 @@ written_file head frames is =
     record { riff_size = number (riff_size head frames); parts = header_of head count ∷ []; movi_size = number size; chunks = map frame_of frames; rest = []; stream = stream_of head count; others = []; bytes = whole; riff_sized = refl; movi_sized = refl; counted = counted; fits = fits; each = (header_is head count is.short, tt); first = refl; says = written_stream FirstMovi FirstMovi head frames count is; framed = frames_are Any refl refl frames is.sized }
 
 -- of which nothing is left
-pub written_rest : (head : Head) (frames : List (List ℕ)) (is : IsWritable FirstMovi head frames) → ◌≡◌ {A = Result ((Head × List (List ℕ)) × List ℕ) Stop} (Ok ((head, frames), (written_file head frames is).rest)) (Ok ((head, frames), []))
+pub written_rest : (head : Head) (frames : List (List ℕ)) (is : IsWritable FirstMovi head frames) → ◌≡◌ {A = Result ((Head × List (List ℕ)) × List ℕ) Stop} (Ok ((without_colour head, frames), (written_file head frames is).rest)) (Ok ((without_colour head, frames), []))
 unfolding written_file
 written_rest head frames is = refl

@@ -6,7 +6,7 @@ use Rattle.ffv1_avi.specs.declared.place.Extent.TheVariants.{EveryRiff}
 use Rattle.ffv1_avi.specs.declared.place.Names.TheVariants.{Closed}
 use Rattle.ffv1_avi.specs.Names.{is_barred, is_frame, is_stream_frame}
 use Rattle.ffv1_avi.specs.Chunks.{AreFrames, Chunk, IsWritable, chunks_text}
-use Rattle.ffv1_reads.specs.Head.{Head, frame_limit}
+use Rattle.ffv1_reads.specs.Head.{Head, frame_limit, without_colour}
 use Rattle.ffv1_avi.specs.Riffs.{RiffFile}
 use Rattle.ffv1_avi.specs.Written.{file_of, frame_chunk, front, head_text, movi, movi_size, padding, riff_size, spelled}
 use Rattle.ffv1_avi.proofs.PartLaws.{parts_text}
@@ -21,7 +21,7 @@ first_stands : is_barred (Closed 0 1) (codes "00dc") ≡ false
 unfolding is_stream_frame
 first_stands = refl
 
-pub written_riff : (head : Head) (frames : List (List ℕ)) → IsWritable EveryRiff head frames → RiffFile (file_of head frames) head frames
+pub written_riff : (head : Head) (frames : List (List ℕ)) → IsWritable EveryRiff head frames → RiffFile (file_of head frames) (without_colour head) frames
 written_riff head frames is =
     let count = length frames in
     let size = movi_size frames in

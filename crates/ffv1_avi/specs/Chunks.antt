@@ -8,6 +8,7 @@ use Rattle.ffv1_avi.specs.declared.place.Extent.TheVariants.{FirstMovi, EveryRif
 use Rattle.ffv1_avi.specs.declared.place.Names.{Names}
 use Rattle.ffv1_avi.specs.declared.place.Names.TheVariants.{Any}
 use Rattle.ffv1_avi.specs.Names.{is_barred, is_frame, most_bytes, most_in}
+use Rattle.ffv1_reads.specs.Colour.{unsaid}
 use Rattle.ffv1_reads.specs.Head.{Head, limit}
 use Rattle.ffv1_avi.specs.Padding.{padded}
 use Rattle.ffv1_avi.specs.Walk.{is_name}
@@ -93,7 +94,8 @@ AreParts (p ∷ ps) = IsPart p × AreParts ps
 abbrev pub streams : List Part → List Chunk
 streams parts = those (is_list (codes "strl")) (flat_map header_chunks parts)
 
--- what the first header and the first format of a stream say is this head
+-- what the first header and the first format of a stream say is this head, and nothing is said of
+-- its colours
 pub record Says (extent : Extent) (fields : List Chunk) (head : Head) : Type 0 where
   pub header : Chunk
   pub format : Chunk
@@ -108,6 +110,7 @@ pub record Says (extent : Extent) (fields : List Chunk) (head : Head) : Type 0 w
         config_record = head.config_record;
       })
   pub both : (head.rate == 0) ≡ (head.scale == 0)
+  pub plain : head.colour ≡ unsaid
 
 -- what a chunk says, if it is there and says anything
 abbrev pub says_of : {X : Type 0} → (List ℕ → Option X) → Option Chunk → Option X

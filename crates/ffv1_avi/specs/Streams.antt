@@ -2,12 +2,14 @@
 -- Reference) and its format (BITMAPINFOHEADER, with the configuration record after it as RFC 9043,
 -- 4.3.3 has it) say.
 use Rattle.std.specs.Prelude.{ℕ, ◌-◌, ◌==◌, ◌&&◌, if◌then◌else◌, nat_lt, nat_le, List, length}
-use Rattle.std.specs.Prelude.{take, drop, codes, Option, Some, None}
+use Rattle.std.specs.Prelude.{take, drop, codes, Option, Some, None, Bool}
 use Rattle.byteorder.specs.Endian.{little_number}
 use Rattle.ffv1_reads.specs.declared.fault.FileFault.TheVariants as fault
 use Rattle.ffv1_avi.specs.declared.place.Extent.{Extent}
 use Rattle.ffv1_avi.specs.declared.place.Extent.TheVariants.{FirstMovi, EveryRiff}
 use Rattle.ffv1_reads.specs.Bitmap as bitmap
+use Rattle.ffv1_reads.specs.Bitmap.{is_ffv1}
+use Rattle.ffv1_reads.specs.Colour.{unsaid}
 use Rattle.ffv1_reads.specs.Head.{Head, limit}
 use Rattle.ffv1_reads.specs.Reads.{Looked, Kept, Reading, Want, given, refused, taken, wanted}
 use Rattle.ffv1_reads.specs.Reads.{passed}
@@ -34,10 +36,15 @@ abbrev pub record_end : Extent → ℕ → ℕ → ℕ
 record_end FirstMovi says size = size
 record_end EveryRiff says size = bitmap.record_end says size
 
+-- the name of a format is FFV1; if every RIFF is read, each letter may be small
+abbrev pub is_format : Extent → List ℕ → Bool
+is_format FirstMovi name = is_name name (codes "FFV1")
+is_format EveryRiff name = is_ffv1 name
+
 -- a stream's format, if it is FFV1
 abbrev pub format_of : Extent → List ℕ → Option Format
 format_of extent bytes =
-    if nat_le 40 (length bytes) && is_name (take 4 (drop 16 bytes)) (codes "FFV1")
+    if nat_le 40 (length bytes) && is_format extent (take 4 (drop 16 bytes))
     then Some (record {
       width = little_number 4 (drop 4 bytes);
       height = little_number 4 (drop 8 bytes);
@@ -54,7 +61,8 @@ pub record Known : Type 0 where
 abbrev pub nothing_known : Known
 nothing_known = record { rates = None; format = None }
 
--- the head of a video, whose rate and scale are both zero or neither
+-- the head of a video, whose rate and scale are both zero or neither; of its colours an AVI says
+-- nothing
 abbrev pub head_judged : ℕ × ℕ → Format → Reading Head
 head_judged rates format =
     if rates.0 == 0
@@ -64,6 +72,7 @@ head_judged rates format =
       height = format.height;
       rate = rates.0;
       scale = rates.1;
+      colour = unsaid;
       config_record = format.config_record;
     }) else refused fault.NotAvi)
     else (if rates.1 == 0 then refused fault.NotAvi else given
@@ -72,6 +81,7 @@ head_judged rates format =
       height = format.height;
       rate = rates.0;
       scale = rates.1;
+      colour = unsaid;
       config_record = format.config_record;
     }))
 
@@ -108,7 +118,7 @@ format_behind front config =
 -- the rest of a format of a given size, after its first 40 bytes: the record is kept if it is FFV1
 abbrev pub format_rest : Extent → Want → ℕ → List ℕ → Reading (Option Format)
 format_rest extent w size front =
-    if is_name (take 4 (drop 16 front)) (codes "FFV1")
+    if is_format extent (take 4 (drop 16 front))
     then (wanted w (record_end extent (little_number 4 front) size - 40) >>= λ config.
     (passed (padded size - record_end extent (little_number 4 front) size) >>= λ _.
     given (format_behind front config)))

@@ -13,7 +13,7 @@ ghost use Rattle.ffv1_avi.specs.Begun.{AreReadable, HasShortFormat, HeaderBegins
 ghost use Rattle.ffv1_avi.specs.Begun.{StreamBegins, streams_of};
 ghost use Rattle.ffv1_avi.specs.Files.{file_read, open_read, frame_read, frames_read, more_frames};
 ghost use Rattle.ffv1_reads.specs.Ends.{Ends, Stops};
-ghost use Rattle.ffv1_reads.specs.Head.{Head};
+ghost use Rattle.ffv1_reads.specs.Head.{Head, without_colour};
 ghost use Rattle.ffv1_avi.specs.Names.{IsFrameName, IsListed, bars, is_barred, is_frame};
 ghost use Rattle.ffv1_avi.specs.Padding.{padded};
 ghost use Rattle.ffv1_avi.specs.Places.{ended, extent_of, first_place};
@@ -236,14 +236,15 @@ pub fn movi_holds_listed_chunks()
 {}
 
 /// What is written is a file of its head and frames, by its chunks, of one RIFF, and is read back,
-/// if the first `movi` alone is read and if every RIFF is.
+/// if the first `movi` alone is read and if every RIFF is; an AVI says no colours, so that the head
+/// comes back without them.
 pub fn written_file_is_read_back()
     ensures file { (head : Head) (frames : List (List ℕ)) → IsWritable FirstMovi head frames →
-        AviFile (file_of head frames) head frames }
+        AviFile (file_of head frames) (without_colour head) frames }
     ensures read { (head : Head) (frames : List (List ℕ)) → IsWritable FirstMovi head frames →
-        file_read FirstMovi (file_of head frames) ≡ Ok ((head, frames), []) }
+        file_read FirstMovi (file_of head frames) ≡ Ok ((without_colour head, frames), []) }
     ensures riff { (head : Head) (frames : List (List ℕ)) → IsWritable EveryRiff head frames →
-        RiffFile (file_of head frames) head frames }
+        RiffFile (file_of head frames) (without_colour head) frames }
     ensures every { (head : Head) (frames : List (List ℕ)) → IsWritable EveryRiff head frames →
-        file_read EveryRiff (file_of head frames) ≡ Ok ((head, frames), []) }
+        file_read EveryRiff (file_of head frames) ≡ Ok ((without_colour head, frames), []) }
 {}

@@ -30,7 +30,7 @@ use crate::names::{is_barred, is_frame, most_bytes};
 use crate::open::read_opening;
 use crate::place::{Extent, Names, Place, ended};
 use crate::riff::move_on;
-use ffv1_reads::{FileFault, FileHead, fill, pass};
+use ffv1_reads::{Colour, FileFault, FileHead, fill, pass};
 use ffv1_wire::ByteIn;
 use std::alloc::{Allocator, Global};
 use std::marker::Model;
@@ -209,12 +209,13 @@ impl<A: Allocator> AviReader<A> {
     /// takes memory for the configuration record alone, with room for at most as many bytes as were
     /// read.
     ///
-    /// The first `strl` that is FFV1 video counts, of the first 100. The record ends where the
-    /// first number of its format says, if that lies inside it. `Truncated` if a chunk does not fit
-    /// in its list or the input ends inside it. `NotAvi` if the file does not begin as an AVI, a
-    /// list has no room for its own name, there is no `movi`, or one of rate and scale is zero and
-    /// the other is not. `NoFfv1` if `movi` comes and no `strl` counts. `ChunkTooLong` if a format
-    /// is above 67108864 bytes. `Read` if a read failed, `OutOfMemory`.
+    /// The first `strl` that is FFV1 video counts, of the first 100; letters of that name may be
+    /// small. The record ends where the first number of its format says, if that lies inside it.
+    /// `Truncated` if a chunk does not fit in its list or the input ends inside it. `NotAvi` if the
+    /// file does not begin as an AVI, a list has no room for its own name, there is no `movi`, or
+    /// one of rate and scale is zero and the other is not. `NoFfv1` if `movi` comes and no `strl`
+    /// counts. `ChunkTooLong` if a format is above 67108864 bytes. `Read` if a read failed,
+    /// `OutOfMemory`.
     pub fn open_all<R: ByteIn>(alloc: A, input: &mut R) -> Result<AviReader<A>, FileFault>
         ensures answer { Answers opened_at (open_read EveryRiff)
             (passage R.remaining R.failures input.old input.new) result }
@@ -277,6 +278,7 @@ impl<A: Allocator> AviReader<A> {
                 height: sizes.height,
                 rate: sizes.rate,
                 scale: sizes.scale,
+                colour: Colour::UNSAID,
                 config_record: config,
             },
             place,

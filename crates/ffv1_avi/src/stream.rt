@@ -3,7 +3,7 @@
 ghost use Rattle.std.specs.Prelude.{◌≡◌, ◌+◌, ◌*◌, ◌<◌, ◌≤◌, ℕ, List, Option, None, Some, length};
 ghost use Rattle.std.specs.Prelude.{OnOk};
 ghost use Rattle.std.specs.Vec.{vec_capacity};
-ghost use Rattle.ffv1_avi.specs.Streams.{no_video, record_end};
+ghost use Rattle.ffv1_avi.specs.Streams.{is_format, no_video, record_end};
 ghost use Rattle.ffv1_wire.specs.Passage.{at_rest, passage};
 ghost use Rattle.ffv1_reads.specs.Reads.{Answers};
 ghost use Rattle.ffv1_reads.specs.Room.{HasRoom, RoomRead};
@@ -15,7 +15,7 @@ ghost use Rattle.ffv1_avi.specs.Internal.Views.{known_with};
 use crate::chunk::{Entry, is_name, next_entry, padded};
 use crate::place::Extent;
 use byteorder::{ByteOrder, LittleEndian};
-use ffv1_reads::{FileFault, LIMIT, fill, pass, take};
+use ffv1_reads::{FileFault, LIMIT, fill, is_ffv1, pass, take};
 use ffv1_wire::ByteIn;
 use std::alloc::Allocator;
 
@@ -69,6 +69,16 @@ fn record_end(extent: Extent, says: u32, size: u32) -> u32
     }
 }
 
+/// Whether this name of a format is FFV1; if every RIFF is read, each letter may be small.
+fn is_format(extent: Extent, name: &[u8]) -> bool
+    ensures { result ≡ is_format extent name.now }
+{
+    match extent {
+        Extent::FirstMovi => is_name(name, b"FFV1"),
+        Extent::EveryRiff => is_ffv1(name),
+    }
+}
+
 /// The width and the height of a stream's format of a given size, and its record in place of what
 /// the vector has, if it is FFV1. The vector has room as `ffv1_reads::fill` says.
 fn read_format<R: ByteIn, A: Allocator>(
@@ -90,7 +100,7 @@ fn read_format<R: ByteIn, A: Allocator>(
     }
     let mut head = [0u8; 40];
     take(input, &mut head)?;
-    if !is_name(&head[16..20], b"FFV1") {
+    if !is_format(extent, &head[16..20]) {
         pass(input, padded(size) - 40)?;
         return Ok(None);
     }

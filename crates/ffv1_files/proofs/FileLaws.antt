@@ -1,6 +1,6 @@
 -- Files of either container are read as those of it.
 use Rattle.std.proofs.Common.{◌≡◌, refl, ℕ, Bool, true, false, Option, Some, None, Result, Ok, Err, List, [], inl, inr, ap, sym, ◌∙◌}
-use Rattle.ffv1_reads.specs.Head.{Head}
+use Rattle.ffv1_reads.specs.Head.{Head, without_colour}
 use Rattle.ffv1_reads.specs.Reads.{Stop, read_on, given}
 use Rattle.ffv1_avi.specs.Chunks.{AviFile, IsWritable}
 use Rattle.ffv1_avi.specs.Riffs.{RiffFile}
@@ -121,9 +121,9 @@ module _ (every : (file : List ℕ) (head : Head) (frames : List (List ℕ)) →
   whole_read file head frames rest (inl h) = whole_avi file (riff_first file head frames h.0) ∙ every file head frames h.0 ∙ ap (λ z. Ok ((head, frames), z)) (sym h.1)
   whole_read file head frames rest (inr h) = whole_matroska file h.0 ∙ elements file head frames h.1.0 ∙ ap (λ z. Ok ((head, frames), z)) h.1.1
 
-module _ (first : (head : Head) (frames : List (List ℕ)) → IsWritable FirstMovi head frames → avi.file_read FirstMovi (file_of head frames) ≡ Ok ((head, frames), []))
-    (riff : (head : Head) (frames : List (List ℕ)) → IsWritable EveryRiff head frames → RiffFile (file_of head frames) head frames)
-    (every : (head : Head) (frames : List (List ℕ)) → IsWritable EveryRiff head frames → avi.file_read EveryRiff (file_of head frames) ≡ Ok ((head, frames), [])) where
-  pub written_read : (s : Scope) (head : Head) (frames : List (List ℕ)) → IsWritable (extent_in s) head frames → file_read s (file_of head frames) ≡ Ok ((head, frames), [])
+module _ (first : (head : Head) (frames : List (List ℕ)) → IsWritable FirstMovi head frames → avi.file_read FirstMovi (file_of head frames) ≡ Ok ((without_colour head, frames), []))
+    (riff : (head : Head) (frames : List (List ℕ)) → IsWritable EveryRiff head frames → RiffFile (file_of head frames) (without_colour head) frames)
+    (every : (head : Head) (frames : List (List ℕ)) → IsWritable EveryRiff head frames → avi.file_read EveryRiff (file_of head frames) ≡ Ok ((without_colour head, frames), [])) where
+  pub written_read : (s : Scope) (head : Head) (frames : List (List ℕ)) → IsWritable (extent_in s) head frames → file_read s (file_of head frames) ≡ Ok ((without_colour head, frames), [])
   written_read scope.FirstMovi head frames can = first_same (file_of head frames) ∙ first head frames can
-  written_read scope.Whole head frames can = whole_avi (file_of head frames) (riff_first (file_of head frames) head frames (riff head frames can)) ∙ every head frames can
+  written_read scope.Whole head frames can = whole_avi (file_of head frames) (riff_first (file_of head frames) (without_colour head) frames (riff head frames can)) ∙ every head frames can

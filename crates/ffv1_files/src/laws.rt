@@ -4,7 +4,7 @@
 ghost use Rattle.std.specs.Prelude.{◌≡◌, ℕ, List, [], Ok};
 ghost use Rattle.ffv1_avi.specs.Chunks.{AviFile, IsWritable};
 ghost use Rattle.ffv1_avi.specs.Written.{file_of};
-ghost use Rattle.ffv1_reads.specs.Head.{Head};
+ghost use Rattle.ffv1_reads.specs.Head.{Head, without_colour};
 ghost use Rattle.ffv1_reads.specs.Reads.{read_on};
 ghost use Rattle.ffv1_files.specs.declared.container.Scope.TheVariants as scope;
 ghost use Rattle.ffv1_files.specs.declared.container.Scope.{Scope};
@@ -52,11 +52,11 @@ pub fn file_is_read_as_its_frames()
     matroska_laws::file_is_read_as_its_frames();
 }
 
-/// An AVI that was written to be read so far is read back.
+/// An AVI that was written to be read so far is read back; it says no colours.
 pub fn written_avi_is_read_back()
     ensures { (scope : Scope) (head : Head) (frames : List (List ℕ)) →
         IsWritable (extent_in scope) head frames →
-        file_read scope (file_of head frames) ≡ Ok ((head, frames), []) }
+        file_read scope (file_of head frames) ≡ Ok ((without_colour head, frames), []) }
 {
     avi_laws::written_file_is_read_back();
 }

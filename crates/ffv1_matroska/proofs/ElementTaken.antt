@@ -1,6 +1,6 @@
 -- How many bytes of its parents an element takes.
 use Rattle.ffv1_ebml.proofs.OutsideLaws.{in_read}
-use Rattle.std.proofs.Common.{◌≡◌, ◌+◌, ◌-◌, ◌≤◌, ◌==◌, ◌&&◌, ℕ, List, [], ◌∷◌, Option, Some, None, Ok, true, nat_lt, length, slice_index, refl, sym, arith, Bool}
+use Rattle.std.proofs.Common.{◌≡◌, ◌+◌, ◌-◌, ◌≤◌, ◌==◌, ◌&&◌, ℕ, suc, zero, List, [], ◌∷◌, Option, Some, None, Ok, true, nat_lt, length, slice_index, refl, sym, arith, Bool}
 use Rattle.std.proofs.lemmas.Bool.{eqb-true}
 use Rattle.std.proofs.lemmas.Bool.Decides.{nat_tests}
 use Rattle.std.proofs.lemmas.List.{length-append}
@@ -24,7 +24,7 @@ use Rattle.ffv1_matroska.specs.Segments.{block, block_group, child_by, cluster, 
 use Rattle.ffv1_matroska.specs.declared.place.Place.{Place}
 use Rattle.ffv1_matroska.specs.declared.place.Step.{Step}
 use Rattle.ffv1_reads.specs.Head.{frame_limit}
-use Rattle.ffv1_matroska.specs.Segments.{is_beside}
+use Rattle.ffv1_matroska.specs.Segments.{block_sought, is_beside, sought_child}
 use Rattle.ffv1_matroska.specs.declared.track.TrackNumbers.{TrackNumbers}
 
 -- a variable-size integer
@@ -114,18 +114,29 @@ block_takes place track size now =
     (λ _. takes_if (is_unknown track.known p.0.value) (refused fault.BadElement) _ (λ _. takes_refused fault.BadElement) (λ _. on_takes place p.0.left (summed_at now p.1))))
 
 -- an element of a BlockGroup
+header_more : (place : Place) → Takes Any place.group (λ (p : Element × Sum). bytes_of p.0.size + p.0.left) (element_read place.group place.sum) →
+    Takes Any (amount place) (λ (p : Element × Sum). bytes_of p.0.size + amount (group_at place p.0.left p.1)) (element_read place.group place.sum)
+header_more place h = record { only = λ text rest p is. (tt, omega (arith, (h.only text rest p is).1)) }
+
 group_takes : (track : TrackNumbers) (place : Place) → Takes Any (amount place) (left_after place) (group_read track place)
 unfolding group_read group_child
 group_takes track place =
-    takes_then (element_read place.group place.sum) (group_rest track place) (more (element_takes place.group place.sum)) (λ p _. child p.0.ident (group_at place p.0.left p.1) p.0.size)
+    takes_then (element_read place.group place.sum) (group_rest track place) (header_more place (element_takes place.group place.sum)) (λ p _. child p.0.ident (group_at place p.0.left p.1) p.0.size)
   where
-    more : Takes Any place.group (λ (p : Element × Sum). bytes_of p.0.size + p.0.left) (element_read place.group place.sum) →
-        Takes Any (amount place) (λ (p : Element × Sum). bytes_of p.0.size + amount (group_at place p.0.left p.1)) (element_read place.group place.sum)
-    more h = record { only = λ text rest p is. (tt, omega (arith, (h.only text rest p is).1)) }
-
     child : (ident : ℕ) (now : Place) (size : Option ℕ) → Takes Any (bytes_of size + amount now) (left_after place) (group_child track ident now size)
     child ident now None = takes_refused fault.BadElement
     child ident now (Some n) = takes_if (ident == block) _ _ (λ _. block_takes place track n now) (λ _. on_takes place n now)
+
+-- a BlockGroup up to its first Block
+sought_takes : (place : Place) (most : ℕ) (track : TrackNumbers) (now : Place) → Takes Any (amount now) (left_after place) (block_sought most track now)
+unfolding block_sought
+sought_takes place zero track now = takes_refused fault.BadElement
+sought_takes place (suc most) track now =
+    takes_if (now.group == 0) _ _ (λ _. takes_refused fault.BadElement) (λ _. takes_then (element_read now.group now.sum) _ (header_more now (element_takes now.group now.sum)) (λ p _. child p.0.ident (group_at now p.0.left p.1) p.0.size (sought_takes place most track)))
+  where
+    child : (ident : ℕ) (here : Place) (size : Option ℕ) → ((p : Place) → Takes Any (amount p) (left_after place) (block_sought most track p)) → Takes Any (bytes_of size + amount here) (left_after place) (sought_child (block_sought most track) track ident here size)
+    child ident here None again = takes_refused fault.BadElement
+    child ident here (Some n) again = takes_if (ident == block) _ _ (λ _. block_takes place track n here) (λ _. takes_then (passed_summed n here.sum) _ (passed_takes n (amount here) here.sum) (λ sum _. again (summed_at here sum)))
 
 -- an element of a Cluster
 child_takes : (place : Place) (track : TrackNumbers) (ident size : ℕ) (now : Place) → now.group ≡ 0 → Takes Any (size + amount now) (left_after place) (cluster_child track ident size now)
@@ -133,7 +144,7 @@ unfolding cluster_child
 child_takes place track ident size now none =
     takes_if (ident == simple_block) _ _ (λ _. block_takes place track size now)
     (λ _. takes_if (ident == block_group) _ _
-    (λ _. takes_same _ _ (closed (Some (step_to (group_at now size now.sum))) (group_at now size now.sum)) (omega (arith, none)) (closed_takes place (group_at now size now.sum)))
+    (λ _. takes_same _ _ (block_sought size track (group_at now size now.sum)) (omega (arith, none)) (sought_takes place size track (group_at now size now.sum)))
     (λ _. takes_if (is_beside ident size) _ _ (λ _. on_takes place size now) (λ _. takes_refused fault.BadElement)))
 
 cluster_takes : (track : TrackNumbers) (place : Place) → place.group ≡ 0 → Takes Any (amount place) (left_after place) (cluster_read track place)

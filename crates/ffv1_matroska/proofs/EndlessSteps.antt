@@ -1,5 +1,5 @@
 -- A step does not change whether the Segment's size is known.
-use Rattle.std.proofs.Common.{◌≡◌, ◌-◌, ◌<◌, ◌==◌, ◌&&◌, ℕ, [], ◌∷◌, Option, Some, None, Bool, true, false, nat_lt, slice_index, refl}
+use Rattle.std.proofs.Common.{◌≡◌, ◌-◌, ◌<◌, ◌==◌, ◌&&◌, ◌∙◌, ℕ, suc, zero, inl, inr, sym, List, Ok, [], ◌∷◌, Option, Some, None, Bool, true, false, nat_lt, slice_index, refl}
 use Rattle.ffv1_reads.specs.declared.fault.FileFault.TheVariants as fault
 use Rattle.ffv1_reads.specs.Reads.{given, refused, taken}
 use Rattle.ffv1_sum.specs.Sum.{number_of as low_number, turned}
@@ -14,10 +14,11 @@ use Rattle.ffv1_matroska.specs.Places.{amount, closed, cluster_at, cluster_enter
 use Rattle.ffv1_matroska.specs.Segments.{block, block_group, child_by, cluster, cluster_child, cluster_read, cluster_rest, crc_read, first_child, group_child, group_read, group_rest, header_read, is_filler, is_of_cluster, is_section, known_child, other_read, segment_child, segment_read, segment_rest, simple_block, step_read, is_outside}
 use Rattle.ffv1_matroska.specs.declared.place.Place.{Place}
 use Rattle.ffv1_matroska.specs.declared.place.Step.{Step}
-use Rattle.ffv1_matroska.proofs.StepBounds.{Gives, Lessens, gives_any, gives_given, gives_if, gives_refused, gives_then, step_less}
+use Rattle.ffv1_matroska.proofs.StepBounds.{Gives, err_is_no_ok, Lessens, gives_any, gives_given, gives_if, gives_refused, gives_then, step_less}
 use Rattle.ffv1_matroska.proofs.FrameTurns.{Turn, kept_by, step_kept, turn_read}
 use Rattle.ffv1_reads.specs.Head.{frame_limit}
-use Rattle.ffv1_matroska.specs.Segments.{is_beside}
+use Rattle.ffv1_matroska.specs.Segments.{block_sought, is_beside}
+use Rattle.ffv1_matroska.proofs.SoughtBlocks.{Sought, sought_cases}
 use Rattle.ffv1_matroska.specs.declared.track.TrackNumbers.{TrackNumbers}
 
 -- the size of the Segment is known, or it is not
@@ -62,11 +63,27 @@ group_stays track place = gives_any P (element_read place.group place.sum) (grou
     child ident now None = gives_refused (Stays now.endless) fault.BadElement
     child ident now (Some n) = gives_if (Stays now.endless) (ident == block) (block_read track n now) (passed_on n now) (block_stays track n now) (passed_stays n now)
 
+-- a BlockGroup up to its first Block
+sought_stays : (most : ℕ) (track : TrackNumbers) (e : Bool) (place : Place) → place.endless ≡ e → Gives (Stays e) (block_sought most track place)
+unfolding block_sought
+sought_stays zero track e place same = gives_refused (Stays e) fault.BadElement
+sought_stays (suc most) track e place same = record { only = λ text rest x h. on_case text rest x h (sought_cases most track place text) (sought_stays most track e) }
+  where
+    stays : (x : Option Step) → Stays place.endless x → Stays e x
+    stays None h = tt
+    stays (Some s) h = h ∙ same
+
+    on_case : (text rest : List ℕ) (x : Option Step) → block_sought (suc most) track place text ≡ Ok (x, rest) → Sought most track place text → ((p : Place) → p.endless ≡ e → Gives (Stays e) (block_sought most track p)) → Stays e x
+    on_case text rest x h (inl (why, is)) again = absurd (err_is_no_ok why (x, rest) (sym is ∙ h))
+    on_case text rest x h (inr (inl (some, is))) again = stays x ((group_stays track place).only text rest x (sym is ∙ h))
+    on_case text rest x h (inr (inr (now, more, some, read, is))) again =
+        (again now ((group_stays track place).only text more (Some (step_to now)) read ∙ same)).only more rest x (sym is ∙ h)
+
 child_stays : (track : TrackNumbers) (ident size : ℕ) (place : Place) → Gives (Stays place.endless) (cluster_child track ident size place)
 unfolding cluster_child
 child_stays track ident size place =
     gives_if (Stays place.endless) (ident == simple_block) (block_read track size place) _ (block_stays track size place)
-    (gives_if (Stays place.endless) (ident == block_group) _ _ (closed_stays place.endless (Some (step_to (group_at place size place.sum))) (group_at place size place.sum) refl)
+    (gives_if (Stays place.endless) (ident == block_group) _ _ (sought_stays size track place.endless (group_at place size place.sum) refl)
     (gives_if (Stays place.endless) (is_beside ident size) (passed_on size place) _ (passed_stays size place) (gives_refused (Stays place.endless) fault.BadElement)))
 
 cluster_stays : (track : TrackNumbers) (place : Place) → Gives (Stays place.endless) (cluster_read track place)

@@ -1,7 +1,7 @@
 -- Elements that pass what they stand in.
 use Rattle.ffv1_matroska.proofs.ListedElements.{group_inside}
-use Rattle.std.proofs.Common.{◌≡◌, ◌≤◌, ◌<◌, ◌+◌, ◌-◌, ◌==◌, ◌||◌, ◌∙◌, ◌++◌, [], ℕ, suc, zero, List, Bool, true, false, nat_lt, Some, None, Result, Ok, Err, inl, length, refl, sym, ap, subst, arith, append-nil, length-append, Option}
-use Rattle.std.proofs.lemmas.Bool.{eq-eqb, lt-ltb}
+use Rattle.std.proofs.Common.{inr, ◌≡◌, ◌≤◌, ◌<◌, ◌+◌, ◌-◌, ◌==◌, ◌||◌, ◌∙◌, ◌++◌, [], ℕ, suc, zero, List, Bool, true, false, nat_lt, Some, None, Result, Ok, Err, inl, length, refl, sym, ap, subst, arith, append-nil, length-append, Option}
+use Rattle.std.proofs.lemmas.Bool.{eq-eqb, lt-ltb, ne_eqb}
 use Rattle.ffv1_reads.specs.declared.fault.FileFault.TheVariants as fault
 use Rattle.ffv1_reads.specs.Reads.{Met, Stop, read_on, ◌>>=◌}
 use Rattle.ffv1_ebml.specs.Spelled.{SaysSize}
@@ -15,14 +15,14 @@ use Rattle.ffv1_matroska.specs.Given.{GivesThen}
 use Rattle.ffv1_matroska.specs.MatroskaFiles.{IsTracks}
 use Rattle.ffv1_matroska.specs.Opened.{begin_up_to}
 use Rattle.ffv1_matroska.specs.Places.{cluster_at, cluster_entered, group_at, segment_at}
-use Rattle.ffv1_matroska.specs.Segments.{block, block_group, child_by, cluster, cluster_child, cluster_read, first_child, group_read, is_filler, is_of_cluster, segment_child, segment_read, segment_rest, step_read, is_outside}
+use Rattle.ffv1_matroska.specs.Segments.{block, block_group, block_sought, child_by, cluster, cluster_child, cluster_read, first_child, group_read, is_filler, is_of_cluster, segment_child, segment_read, segment_rest, step_read, is_outside}
 use Rattle.ffv1_matroska.specs.Tracks.{Track}
 use Rattle.ffv1_matroska.specs.declared.place.Place.{Place}
-use Rattle.ffv1_matroska.proofs.FrameTurns.{added, added_none, run, run_on, run_turn, step_kept, turn_added, turn_read}
+use Rattle.ffv1_matroska.proofs.FrameTurns.{added, run, run_on, run_turn, step_kept, turn_added, turn_read}
 use Rattle.ffv1_matroska.proofs.GivenLaws.{BegunRun, Reaches, begun_as, begun_run, reaches_on, refused_there}
 use Rattle.ffv1_matroska.proofs.OpenedLaws.{Same, begins_complete, tops_begun, tracks_begun}
 use Rattle.ffv1_matroska.proofs.PartLaws.{first_part, segment_header}
-use Rattle.ffv1_matroska.proofs.PieceLaws.{header_some, known_header, leaves_part, sound_group}
+use Rattle.ffv1_matroska.proofs.PieceLaws.{Agrees, header_some, known_header, leaves_part, sought_agrees, sound_group}
 use Rattle.ffv1_matroska.proofs.SegmentLaws.{loose_child, loose_complete, parts_run}
 use Rattle.ffv1_matroska.proofs.TrackLaws.{HasStart, header_passes, header_refused, segment_start, passes_inside}
 use Rattle.ffv1_matroska.specs.declared.track.TrackNumbers.{TrackNumbers}
@@ -112,15 +112,15 @@ segment_passes file track left ident said rest b p =
     refused_there file track (parts_frames b.parts) (segment_at r.base r.loose left) ((ident ++ said) ++ rest) (Met fault.Truncated rest) r.at (segment_refused track.numbers r.base r.loose left ident said rest p)
 
 -- a Cluster of known size
-record ReachesCluster (file : List ℕ) (track : Track) (frames : List (List ℕ)) (left : ℕ) (rest : List ℕ) : Type 0 where
-  base : Place
-  s : Sum
-  at : Reaches file track frames (cluster_at base left s) rest
+pub record ReachesCluster (file : List ℕ) (track : Track) (frames : List (List ℕ)) (left : ℕ) (rest : List ℕ) : Type 0 where
+  pub base : Place
+  pub s : Sum
+  pub at : Reaches file track frames (cluster_at base left s) rest
 
 no_more : (xs ys : List (List ℕ)) → (xs ++ []) ++ ys ≡ xs ++ ys
 no_more xs ys = ap (λ z. z ++ ys) (append-nil xs)
 
-cluster_reached : (file : List ℕ) (track : Track) (left : ℕ) (rest : List ℕ) → 0 < left → (b : ClusterBegins file track left rest) → ReachesCluster file track (parts_frames b.segment.parts ++ pieces_frames b.pieces) left rest
+pub cluster_reached : (file : List ℕ) (track : Track) (left : ℕ) (rest : List ℕ) → 0 < left → (b : ClusterBegins file track left rest) → ReachesCluster file track (parts_frames b.segment.parts ++ pieces_frames b.pieces) left rest
 unfolding segment_child
 cluster_reached file track left rest some b =
     let head = b.ident ++ b.size in
@@ -144,18 +144,34 @@ cluster_passes file track left ident said rest b p inside =
     let r = cluster_reached file track left ((ident ++ said) ++ rest) (passes_some left ident said p) b in
     refused_there file track (parts_frames b.segment.parts ++ pieces_frames b.pieces) (cluster_at r.base left r.s) ((ident ++ said) ++ rest) (Met fault.Truncated rest) r.at (cluster_refused track.numbers r.base left r.s ident said rest p inside)
 
--- a BlockGroup is entered, in a Cluster of known size
-opened_by : (track : TrackNumbers) (base : Place) (k m : ℕ) (rest : List ℕ) → 0 < k → (x : Sum) → (s : Sum) × (run_on track ((child_by track block_group k (cluster_at base m x) x >>= step_kept) rest) ≡ run track (group_at (cluster_at base m s) k s) rest)
-unfolding first_child cluster_child
-opened_by track base k m rest some Absent = (Absent, rw (sound_group (cluster_at base m Absent) k Absent some) (added_none _))
-opened_by track base k m rest some Begins = (Absent, rw (sound_group (cluster_at base m Absent) k Absent some) (added_none _))
-opened_by track base k m rest some (Awaits stated so_far) = (Awaits stated so_far, rw (sound_group (cluster_at base m (Awaits stated so_far)) k (Awaits stated so_far) some) (added_none _))
+-- a BlockGroup of so many bytes is read as its elements are
+abbrev Opens : TrackNumbers → ℕ → List ℕ → Type 0
+Opens track k rest = (base : Place) (x : Sum) → run_on track (read_on (block_sought k track (group_at base k x) rest) step_kept) ≡ run track (group_at base k x) rest
 
-group_opened : (track : TrackNumbers) (base : Place) (ident size : List ℕ) (k m : ℕ) (s : Sum) (rest : List ℕ) → 0 < k → SaysIdent ident block_group → SaysSize size (Some k) →
+-- one of which an element passes it is so
+pass_agrees : (track : TrackNumbers) (base : Place) (more : ℕ) (ident said rest : List ℕ) → Passes more ident said → Agrees track base more ((ident ++ said) ++ rest)
+unfolding block_sought
+pass_agrees track base more ident said rest p zero x fits = absurd (omega (arith, fits, passes_some more ident said p))
+pass_agrees track base more ident said rest p (suc k) x fits =
+    let some : (more == 0) ≡ false = ne_eqb more 0 (λ e. omega (arith, e, passes_some more ident said p)) in
+    rw (some, header_passes more x ident said rest p) refl ∙ sym (group_refused track base more x ident said rest p)
+
+group_opens : (track : TrackNumbers) (ls : List Leaf) (more : ℕ) (ident said rest : List ℕ) → AreLeaves block track ls → Passes more ident said → Opens track (length (leaves_text ls) + more) (leaves_text ls ++ ((ident ++ said) ++ rest))
+group_opens track ls more ident said rest are p base x =
+    sought_agrees (length (leaves_text ls) + more) track base ls more x ((ident ++ said) ++ rest) (omega arith) are (sound_group base more (summed x (leaves_text ls)) (passes_some more ident said p)) (inr (pass_agrees track base more ident said rest p))
+
+-- a BlockGroup is entered, in a Cluster of known size
+opened_by : (track : TrackNumbers) (base : Place) (k m : ℕ) (rest : List ℕ) → Opens track k rest → (x : Sum) → (s : Sum) × (run_on track ((child_by track block_group k (cluster_at base m x) x >>= step_kept) rest) ≡ run track (group_at (cluster_at base m s) k s) rest)
+unfolding first_child cluster_child
+opened_by track base k m rest opens Absent = (Absent, opens (cluster_at base m Absent) Absent)
+opened_by track base k m rest opens Begins = (Absent, opens (cluster_at base m Absent) Absent)
+opened_by track base k m rest opens (Awaits stated so_far) = (Awaits stated so_far, opens (cluster_at base m (Awaits stated so_far)) (Awaits stated so_far))
+
+group_opened : (track : TrackNumbers) (base : Place) (ident size : List ℕ) (k m : ℕ) (s : Sum) (rest : List ℕ) → Opens track k rest → SaysIdent ident block_group → SaysSize size (Some k) →
     (x : Sum) × (run track (cluster_at base (length (ident ++ size) + (k + m)) s) ((ident ++ size) ++ rest) ≡ run track (group_at (cluster_at base m x) k x) rest)
-group_opened track base ident size k m s rest some is says =
+group_opened track base ident size k m s rest opens is says =
     let x = summed s (ident ++ size) in
-    let on = opened_by track base k m rest some x in (
+    let on = opened_by track base k m rest opens x in (
       on.0,
       run_turn track (cluster_at base (length (ident ++ size) + (k + m)) s) ((ident ++ size) ++ rest)
           ∙ ap (run_on track) (known_header track base ident size k m s rest is.0 is.1 says (group_inside (number_of ident) is.2))
@@ -180,7 +196,7 @@ group_passes file text track left more ident said rest b g p =
     let whole : left ≡ length head + (k + m) = omega (arith, g.fits) in
     let bad = (ident ++ said) ++ rest in
     let inner = leaves_text g.leaves ++ bad in
-    let on = group_opened track.numbers r.base g.ident g.size k m r.s inner some g.named g.sized in
+    let on = group_opened track.numbers r.base g.ident g.size k m r.s inner (group_opens track.numbers g.leaves more ident said rest g.are p) g.named g.sized in
     let base : Place = cluster_at r.base m on.0 in
     let s = summed on.0 (leaves_text g.leaves) in
     let before = parts_frames b.segment.parts ++ pieces_frames b.pieces in
@@ -193,19 +209,19 @@ group_passes file text track left more ident said rest b g p =
     (group_refused track.numbers base more s ident said rest p)
 
 -- in a Cluster of unknown size
-group_loose : (is_of_cluster block_group || is_filler block_group) ≡ true
+pub group_loose : (is_of_cluster block_group || is_filler block_group) ≡ true
 unfolding is_of_cluster
 group_loose = refl
 
-loose_opened : (track : TrackNumbers) (base : Place) (ident size : List ℕ) (k m : ℕ) (rest : List ℕ) → 0 < k → SaysIdent ident block_group → SaysSize size (Some k) →
+loose_opened : (track : TrackNumbers) (base : Place) (ident size : List ℕ) (k m : ℕ) (rest : List ℕ) → Opens track k rest → SaysIdent ident block_group → SaysSize size (Some k) →
     run track (segment_at base true (length (ident ++ size) + (k + m))) ((ident ++ size) ++ rest) ≡ run track (group_at (segment_at base true m) k Absent) rest
 unfolding cluster_child
-loose_opened track base ident size k m rest some is says =
+loose_opened track base ident size k m rest opens is says =
     run_turn track (segment_at base true (length (ident ++ size) + (k + m))) ((ident ++ size) ++ rest)
     ∙ ap (run_on track) (segment_header track base true ident size (Some k) m rest is.0 is.1 says)
     ∙ ap (λ n. run_on track (read_on (segment_child track n (segment_at base true m) (Some k) rest) step_kept)) is.2
     ∙ ap (λ r. run_on track (read_on (r rest) step_kept)) (loose_child track block_group k m base group_loose)
-    ∙ rw (sound_group (segment_at base true m) k Absent some) (added_none _)
+    ∙ opens (segment_at base true m) Absent
 
 pub loose_group_passes : (file text : List ℕ) (track : Track) (left more : ℕ) (ident said rest : List ℕ) (b : LooseBegins file track left text) (g : GroupBegins text track.numbers left more ((ident ++ said) ++ rest)) → Passes more ident said →
     GivesThen file track.head ((parts_frames b.segment.parts ++ pieces_frames b.pieces) ++ leaves_frames g.leaves) (Met fault.Truncated rest)
@@ -226,7 +242,6 @@ loose_group_passes file text track left more ident said rest b g p =
     let at = subst P (no_more before (pieces_frames b.pieces)) (reaches_on file track (before ++ []) (pieces_frames b.pieces) (segment_at r.base true (length body + left)) (segment_at r.base true left) (body ++ text) text entered (loose_complete track.numbers r.base b.pieces left text b.are b.loose)) in
     let front = g.ident ++ g.size in
     let k = length (leaves_text g.leaves) + more in
-    let some : 0 < k = omega (arith, passes_some more ident said p) in
     let m = left - (length front + k) in
     let whole : left ≡ length front + (k + m) = omega (arith, g.fits) in
     let bad = (ident ++ said) ++ rest in
@@ -237,6 +252,6 @@ loose_group_passes file text track left more ident said rest b g p =
     (reaches_on file track (before ++ pieces_frames b.pieces) (leaves_frames g.leaves) (segment_at r.base true left) (group_at base more s) text bad at
     (ap (run track.numbers (segment_at r.base true left)) g.bytes
     ∙ ap (λ n. run track.numbers (segment_at r.base true n) (front ++ inner)) whole
-    ∙ loose_opened track.numbers r.base g.ident g.size k m inner some g.named g.sized
+    ∙ loose_opened track.numbers r.base g.ident g.size k m inner (group_opens track.numbers g.leaves more ident said rest g.are p) g.named g.sized
     ∙ in_group track.numbers base g.leaves more Absent ident said rest g.are p))
     (group_refused track.numbers base more s ident said rest p)

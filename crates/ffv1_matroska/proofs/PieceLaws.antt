@@ -1,8 +1,8 @@
 -- Elements of a BlockGroup, of a Cluster and of a Segment are read as their frames.
 use Rattle.ffv1_matroska.proofs.ListedElements.{piece_inside}
-use Rattle.std.proofs.Common.{◌≡◌, ◌≤◌, ◌<◌, ◌+◌, ◌-◌, ◌==◌, ◌||◌, ◌∙◌, ◌++◌, ◌∷◌, [], ℕ, List, Bool, true, false, nat_lt, Some, Ok, length, refl, sym, ap, arith, append_assoc, length-append}
-use Rattle.std.proofs.lemmas.Bool.{eq-eqb, lt-ltb}
-use Rattle.ffv1_reads.specs.Reads.{read_on, ◌>>=◌}
+use Rattle.std.proofs.Common.{◌≡◌, ◌≤◌, ◌<◌, ◌+◌, ◌-◌, ◌==◌, ◌||◌, ◌∙◌, ◌++◌, ◌∷◌, [], ℕ, List, Bool, true, false, suc, zero, nat_lt, Some, Ok, Err, ◌⊎◌, inl, inr, length, refl, sym, ap, subst, arith, append_assoc, length-append}
+use Rattle.std.proofs.lemmas.Bool.{eq-eqb, lt-ltb, ne_eqb}
+use Rattle.ffv1_reads.specs.Reads.{Met, given, read_on, ◌>>=◌}
 use Rattle.ffv1_ebml.specs.Elements.{element_read}
 use Rattle.ffv1_ebml.specs.Spelled.{SaysSize}
 use Rattle.ffv1_ebml.specs.Sums.{is_met, summed}
@@ -10,13 +10,17 @@ use Rattle.ffv1_ebml.specs.Vints.{IsVint, number_of}
 use Rattle.ffv1_ebml.specs.declared.sum.Sum.{Sum}
 use Rattle.ffv1_ebml.specs.declared.sum.Sum.TheVariants.{Absent, Begins, Awaits}
 use Rattle.ffv1_ebml.proofs.ElementLaws.{summed_twice}
-use Rattle.ffv1_matroska.specs.Elements.{AreLeaves, ArePieces, IsContent, IsLeaf, IsPiece, Leaf, Piece, Single, Group, content_text, leaf_frames, leaf_text, leaves_frames, leaves_text, piece_frames, piece_ident, piece_text, pieces_frames, pieces_text, stands_single}
+use Rattle.ffv1_matroska.specs.Elements.{AreLeaves, ArePieces, Content, Plain, Other, Own, HasIdent, content_frames, IsContent, IsLeaf, IsPiece, Leaf, Piece, Single, Group, content_text, leaf_frames, leaf_text, leaves_frames, leaves_text, piece_frames, piece_ident, piece_text, pieces_frames, pieces_text, stands_single}
 use Rattle.ffv1_matroska.specs.Places.{cluster_at, group_at, is_sound}
-use Rattle.ffv1_matroska.specs.Segments.{block, block_group, child_by, cluster_child, cluster_read, cluster_rest, group_child, group_read, group_rest, is_beside, known_child, simple_block, step_read, is_outside}
+use Rattle.ffv1_matroska.specs.Segments.{block, block_group, block_sought, child_by, cluster_child, cluster_read, cluster_rest, group_child, group_read, group_rest, is_beside, known_child, simple_block, step_read, is_outside}
 use Rattle.ffv1_matroska.specs.declared.place.Place.{Place}
 use Rattle.ffv1_matroska.proofs.BlockLaws.{after_bytes, content_complete, content_read}
 use Rattle.ffv1_matroska.proofs.FrameTurns.{added, added_none, added_twice, run, run_on, run_turn, step_kept, turn_added, turn_read}
-use Rattle.ffv1_matroska.proofs.HeaderLaws.{IsHeader, header_complete, header_inside}
+use Rattle.ffv1_matroska.proofs.HeaderLaws.{IsHeader, header_complete, header_inside, header_of}
+use Rattle.ffv1_matroska.proofs.GroupTurns.{group_turn}
+use Rattle.ffv1_matroska.proofs.SoughtBlocks.{found_sought, none_sought, passed_sought}
+use Rattle.ffv1_reads.proofs.WantedBytes.{taken_complete}
+use Rattle.ffv1_reads.specs.declared.fault.FileFault.TheVariants as fault
 use Rattle.ffv1_matroska.specs.declared.track.TrackNumbers.{TrackNumbers}
 
 pub summed_none : (s : Sum) → summed s [] ≡ s
@@ -70,6 +74,13 @@ leaf_turn track base l m s rest is sound =
     ∙ content_complete track (number_of l.ident == block) l.content now rest is.holds there
     ∙ ap (λ (z : Sum). Ok (Some (leaf_frames l, group_at base m z), rest)) sums)
 
+-- before elements of it a group is sound, if it is after them
+leaves_sound_at : (track : TrackNumbers) (base : Place) (ls : List Leaf) (m : ℕ) (s : Sum) → AreLeaves block track ls → is_sound (group_at base m (summed s (leaves_text ls))) ≡ true → is_sound (group_at base (length (leaves_text ls) + m) s) ≡ true
+leaves_sound_at track base [] m s are h =
+    let none : 0 + m ≡ m = omega arith in
+    ap (λ n. is_sound (group_at base n s)) none ∙ ap (λ (z : Sum). is_sound (group_at base m z)) (sym (summed_none s)) ∙ h
+leaves_sound_at track base (k ∷ ks) m s are h = sound_group base (length (leaves_text (k ∷ ks)) + m) s (omega (arith, header_some k.ident k.size (content_text k.content) are.0.named, length-append (leaf_text k) (leaves_text ks)))
+
 -- elements of a BlockGroup that has so many bytes more
 pub leaves_part : (track : TrackNumbers) (base : Place) (ls : List Leaf) (m : ℕ) (s : Sum) (rest : List ℕ) → AreLeaves block track ls → is_sound (group_at base m (summed s (leaves_text ls))) ≡ true →
     run track (group_at base (length (leaves_text ls) + m) s) (leaves_text ls ++ rest) ≡ added (leaves_frames ls) (run track (group_at base m (summed s (leaves_text ls))) rest)
@@ -82,19 +93,13 @@ leaves_part track base (l ∷ ls) m s rest are sound =
     let sums : summed after (leaves_text ls) ≡ summed s (leaf_text l ++ leaves_text ls) = summed_twice s (leaf_text l) (leaves_text ls) in
     let there : is_sound (group_at base m (summed after (leaves_text ls))) ≡ true = rw sums sound in
     let long : length (leaf_text l ++ leaves_text ls) + m ≡ length (leaf_text l) + more = omega (arith, length-append (leaf_text l) (leaves_text ls)) in
-    let next : is_sound (group_at base more after) ≡ true = on_more ls are.1 there in
+    let next : is_sound (group_at base more after) ≡ true = leaves_sound_at track base ls m after are.1 there in
     ap (λ n. run track (group_at base n s) ((leaf_text l ++ leaves_text ls) ++ rest)) long
     ∙ ap (run track (group_at base (length (leaf_text l) + more) s)) (append_assoc (leaf_text l) (leaves_text ls) rest)
     ∙ turn_added track (group_at base (length (leaf_text l) + more) s) (group_at base more after) (leaf_text l ++ (leaves_text ls ++ rest)) (leaves_text ls ++ rest) (leaf_frames l) (leaf_turn track base l more s (leaves_text ls ++ rest) are.0 next)
     ∙ ap (added (leaf_frames l)) (leaves_part track base ls m after rest are.1 there)
     ∙ added_twice (leaf_frames l) (leaves_frames ls) _
     ∙ ap (λ (z : Sum). added (leaf_frames l ++ leaves_frames ls) (run track (group_at base m z) rest)) sums
-  where
-    on_more : (ls : List Leaf) → AreLeaves block track ls → is_sound (group_at base m (summed (summed s (leaf_text l)) (leaves_text ls))) ≡ true → is_sound (group_at base (length (leaves_text ls) + m) (summed s (leaf_text l))) ≡ true
-    on_more [] each h =
-        let none : 0 + m ≡ m = omega arith in
-        ap (λ n. is_sound (group_at base n (summed s (leaf_text l)))) none ∙ ap (λ (z : Sum). is_sound (group_at base m z)) (sym (summed_none (summed s (leaf_text l)))) ∙ h
-    on_more (k ∷ ks) each h = sound_group base (length (leaves_text (k ∷ ks)) + m) (summed s (leaf_text l)) (omega (arith, header_some k.ident k.size (content_text k.content) each.0.named, length-append (leaf_text k) (leaves_text ks)))
 
 -- all that it has
 pub leaves_complete : (track : TrackNumbers) (base : Place) (ls : List Leaf) (s : Sum) (rest : List ℕ) → AreLeaves block track ls → is_sound (group_at base 0 (summed s (leaves_text ls))) ≡ true →
@@ -102,6 +107,123 @@ pub leaves_complete : (track : TrackNumbers) (base : Place) (ls : List Leaf) (s 
 leaves_complete track base ls s rest are sound =
     let none : length (leaves_text ls) ≡ length (leaves_text ls) + 0 = omega arith in
     ap (λ n. run track (group_at base n s) (leaves_text ls ++ rest)) none ∙ leaves_part track base ls 0 s rest are sound
+
+-- the header of an element of a BlockGroup
+leaf_header : (l : Leaf) (m : ℕ) (s : Sum) (rest : List ℕ) (kind : ℕ) (track : TrackNumbers) → IsLeaf kind track l →
+    (0 < length (leaf_text l) + m) × (element_read (length (leaf_text l) + m) s (leaf_text l ++ rest) ≡ Ok ((header_of (length (leaf_text l) + m) l.ident l.size (Some (length (content_text l.content))), summed s (l.ident ++ l.size)), content_text l.content ++ rest))
+leaf_header l m s rest kind track is =
+    let n = length (leaf_text l) + m in
+    let head = l.ident ++ l.size in
+    let body = content_text l.content in
+    let parts : length (leaf_text l) ≡ length head + length body = length-append head body in
+    let header : IsHeader n l.ident l.size (Some (length body)) = record { named = is.named; few = is.few; sized = is.sized; fits = omega (arith, parts) } in (
+      omega (arith, header_some l.ident l.size body is.named),
+      ap (element_read n s) (append_assoc head body rest) ∙ header_complete n s l.ident l.size (body ++ rest) (Some (length body)) header,
+    )
+
+-- an element of a BlockGroup before its first Block, or that
+sought_leaf : (most : ℕ) (track : TrackNumbers) (base : Place) (l : Leaf) (m : ℕ) (s : Sum) (rest : List ℕ) → IsLeaf block track l → (number_of l.ident == block) ≡ false →
+    block_sought (suc most) track (group_at base (length (leaf_text l) + m) s) (leaf_text l ++ rest) ≡ block_sought most track (group_at base m (summed s (leaf_text l))) rest
+sought_leaf most track base l m s rest is other =
+    let n = length (leaf_text l) + m in
+    let head = l.ident ++ l.size in
+    let body = content_text l.content in
+    let h = leaf_header l m s rest block track is in
+    let left : n - length head - length body ≡ m = omega (arith, length-append head body) in
+    passed_sought most track (group_at base n s) (leaf_text l ++ rest) (body ++ rest) rest (header_of n l.ident l.size (Some (length body)), summed s head) (length body) (summed (summed s head) body) (ne_eqb n 0 (λ e. omega (arith, e, h.0))) h.1 other refl (ap (λ z. read_on z (λ bytes. given (summed (summed s head) bytes))) (taken_complete (length body) body rest refl))
+    ∙ ap (λ k. block_sought most track (group_at base k (summed (summed s head) body)) rest) left
+    ∙ ap (λ (z : Sum). block_sought most track (group_at base m z) rest) (summed_twice s head body)
+
+sought_block : (most : ℕ) (track : TrackNumbers) (base : Place) (l : Leaf) (m : ℕ) (s : Sum) (rest : List ℕ) → IsLeaf block track l → (number_of l.ident == block) ≡ true →
+    run_on track (read_on (block_sought (suc most) track (group_at base (length (leaf_text l) + m) s) (leaf_text l ++ rest)) step_kept) ≡ run track (group_at base (length (leaf_text l) + m) s) (leaf_text l ++ rest)
+sought_block most track base l m s rest is ours =
+    let n = length (leaf_text l) + m in
+    let place : Place = group_at base n s in
+    let head = l.ident ++ l.size in
+    let body = content_text l.content in
+    let h = leaf_header l m s rest block track is in
+    ap (λ z. run_on track (read_on z step_kept)) (found_sought most track place (leaf_text l ++ rest) (body ++ rest) (header_of n l.ident l.size (Some (length body)), summed s head) (ne_eqb n 0 (λ e. omega (arith, e, h.0))) h.1 ours)
+    ∙ sym (run_turn track place (leaf_text l ++ rest) ∙ ap (run_on track) (group_turn track place (leaf_text l ++ rest) h.0))
+
+-- what is no block has no frames
+no_frames : (track : TrackNumbers) (c : Content) → IsContent track false c → content_frames c ≡ []
+no_frames track (Plain bytes) is = refl
+no_frames track (Other number rest) is = refl
+no_frames track (Own number time flags frame) is = absurd (cc (is.0))
+
+-- elements of it up to a position from which it is sought as they are read; or one of them is it
+abbrev pub Agrees : TrackNumbers → Place → ℕ → List ℕ → Type 0
+Agrees track base m rest =
+    (k : ℕ) (x : Sum) → m ≤ k → run_on track (read_on (block_sought k track (group_at base m x) rest) step_kept) ≡ run track (group_at base m x) rest
+
+pub sought_agrees : (most : ℕ) (track : TrackNumbers) (base : Place) (ls : List Leaf) (m : ℕ) (s : Sum) (rest : List ℕ) → length (leaves_text ls) + m ≤ most → AreLeaves block track ls → is_sound (group_at base m (summed s (leaves_text ls))) ≡ true → HasIdent block ls ⊎ Agrees track base m rest →
+    run_on track (read_on (block_sought most track (group_at base (length (leaves_text ls) + m) s) (leaves_text ls ++ rest)) step_kept) ≡ run track (group_at base (length (leaves_text ls) + m) s) (leaves_text ls ++ rest)
+sought_agrees most track base [] m s rest fits are sound (inl has) = absurd has
+sought_agrees most track base [] m s rest fits are sound (inr agrees) =
+    let none : 0 + m ≡ m = omega arith in
+    let P : ℕ → Type 0 = λ n. run_on track (read_on (block_sought most track (group_at base n s) rest) step_kept) ≡ run track (group_at base n s) rest in
+    subst P (sym none) (agrees most s (omega (arith, fits)))
+sought_agrees zero track base (l ∷ ls) m s rest fits are sound has = absurd (omega (arith, fits, header_some l.ident l.size (content_text l.content) are.0.named, length-append (leaf_text l) (leaves_text ls)))
+sought_agrees (suc most) track base (l ∷ ls) m s rest fits are sound has = whole (on_block (number_of l.ident == block) refl (λ less good on. sought_agrees most track base ls m (summed s (leaf_text l)) rest less are.1 good on))
+  where
+    more : ℕ
+    more = length (leaves_text ls) + m
+
+    behind : List ℕ
+    behind = leaves_text ls ++ rest
+
+    after : Sum
+    after = summed s (leaf_text l)
+
+    Here : ℕ → List ℕ → Type 0
+    Here n text = run_on track (read_on (block_sought (suc most) track (group_at base n s) text) step_kept) ≡ run track (group_at base n s) text
+
+    whole : Here (length (leaf_text l) + more) (leaf_text l ++ behind) → Here (length (leaf_text l ++ leaves_text ls) + m) ((leaf_text l ++ leaves_text ls) ++ rest)
+    whole h =
+        let long : length (leaf_text l) + more ≡ length (leaf_text l ++ leaves_text ls) + m = omega (arith, length-append (leaf_text l) (leaves_text ls)) in
+        let P : ℕ → Type 0 = λ n. Here n ((leaf_text l ++ leaves_text ls) ++ rest) in
+        let Q : List ℕ → Type 0 = λ t. Here (length (leaf_text l) + more) t in
+        subst P long (subst Q (sym (append_assoc (leaf_text l) (leaves_text ls) rest)) h)
+
+    there : is_sound (group_at base m (summed after (leaves_text ls))) ≡ true
+    there = ap (λ (z : Sum). is_sound (group_at base m z)) (summed_twice s (leaf_text l) (leaves_text ls)) ∙ sound
+
+    later : (number_of l.ident == block) ≡ false → HasIdent block (l ∷ ls) ⊎ Agrees track base m rest → HasIdent block ls ⊎ Agrees track base m rest
+    later other (inl (inl is)) = absurd (cc (eq-eqb _ _ is, other))
+    later other (inl (inr has)) = inl has
+    later other (inr agrees) = inr agrees
+
+    Again : Type 0
+    Again = more ≤ most → is_sound (group_at base m (summed after (leaves_text ls))) ≡ true → HasIdent block ls ⊎ Agrees track base m rest →
+        run_on track (read_on (block_sought most track (group_at base more after) behind) step_kept) ≡ run track (group_at base more after) behind
+
+    on_block : (b : Bool) → (number_of l.ident == block) ≡ b → Again → Here (length (leaf_text l) + more) (leaf_text l ++ behind)
+    on_block true t again = sought_block most track base l more s behind are.0 t
+    on_block false t again =
+        let none : leaf_frames l ≡ [] = no_frames track l.content (rw (← t) are.0.holds) in
+        ap (λ z. run_on track (read_on z step_kept)) (sought_leaf most track base l more s behind are.0 t)
+        ∙ again (omega (arith, fits, header_some l.ident l.size (content_text l.content) are.0.named, length-append (leaf_text l) (leaves_text ls), length-append (l.ident ++ l.size) (content_text l.content))) there (later t has)
+        ∙ sym (turn_added track (group_at base (length (leaf_text l) + more) s) (group_at base more after) (leaf_text l ++ behind) behind (leaf_frames l) (leaf_turn track base l more s behind are.0 (leaves_sound_at track base ls m after are.1 there)) ∙ ap (λ fs. added fs (run track (group_at base more after) behind)) none)
+
+-- all that it has, and one is it
+sought_complete : (track : TrackNumbers) (base : Place) (ls : List Leaf) (s : Sum) (rest : List ℕ) → AreLeaves block track ls → HasIdent block ls → is_sound (group_at base 0 (summed s (leaves_text ls))) ≡ true →
+    run_on track (read_on (block_sought (length (leaves_text ls)) track (group_at base (length (leaves_text ls)) s) (leaves_text ls ++ rest)) step_kept) ≡ run track (group_at base (length (leaves_text ls)) s) (leaves_text ls ++ rest)
+sought_complete track base ls s rest are has sound =
+    let n = length (leaves_text ls) in
+    let none : n + 0 ≡ n = omega arith in
+    let P : ℕ → Type 0 = λ j. run_on track (read_on (block_sought n track (group_at base j s) (leaves_text ls ++ rest)) step_kept) ≡ run track (group_at base j s) (leaves_text ls ++ rest) in
+    subst P none (sought_agrees n track base ls 0 s rest (omega arith) are sound (inl has))
+
+-- none of them is it
+pub sought_none : (most : ℕ) (track : TrackNumbers) (base : Place) (ls : List Leaf) (s : Sum) (rest : List ℕ) → length (leaves_text ls) ≤ most → AreLeaves block track ls → (HasIdent block ls → ⊥) →
+    block_sought most track (group_at base (length (leaves_text ls)) s) (leaves_text ls ++ rest) ≡ Err (Met fault.BadElement rest)
+sought_none most track base [] s rest fits are without = none_sought most track (group_at base 0 s) rest refl
+sought_none zero track base (l ∷ ls) s rest fits are without = absurd (omega (arith, fits, header_some l.ident l.size (content_text l.content) are.0.named, length-append (leaf_text l) (leaves_text ls)))
+sought_none (suc most) track base (l ∷ ls) s rest fits are without =
+    ap (λ n. block_sought (suc most) track (group_at base n s) ((leaf_text l ++ leaves_text ls) ++ rest)) (length-append (leaf_text l) (leaves_text ls))
+    ∙ ap (block_sought (suc most) track (group_at base (length (leaf_text l) + length (leaves_text ls)) s)) (append_assoc (leaf_text l) (leaves_text ls) rest)
+    ∙ sought_leaf most track base l (length (leaves_text ls)) s (leaves_text ls ++ rest) are.0 (ne_eqb _ _ (λ e. without (inl e)))
+    ∙ sought_none most track base ls (summed s (leaf_text l)) rest (omega (arith, fits, header_some l.ident l.size (content_text l.content) are.0.named, length-append (leaf_text l) (leaves_text ls), length-append (l.ident ++ l.size) (content_text l.content))) are.1 (λ has. without (inr has))
 
 -- what an element of a Cluster has after its header, and that header
 abbrev pub piece_content : Piece → List ℕ
@@ -138,11 +260,7 @@ child_complete track base s (Single l) rest is sound = ap (run_on track) (single
 child_complete track base s (Group ident size ls) rest is sound =
     let no_block : (number_of ident == simple_block) ≡ false = differs (number_of ident) block_group simple_block is.0.2 refl in
     let group : (number_of ident == block_group) ≡ true = eq-eqb _ _ is.0.2 in
-    rw (no_block, group, entered ls is.2 sound) (added_none _ ∙ leaves_complete track base ls s rest is.2 sound)
-  where
-    entered : (ls : List Leaf) → AreLeaves block track ls → is_sound (group_at base 0 (summed s (leaves_text ls))) ≡ true → is_sound (group_at base (length (leaves_text ls)) s) ≡ true
-    entered [] each h = ap (λ (z : Sum). is_sound (group_at base 0 z)) (sym (summed_none s)) ∙ h
-    entered (k ∷ ks) each h = sound_group base (length (leaves_text (k ∷ ks))) s (omega (arith, header_some k.ident k.size (content_text k.content) each.0.named, length-append (leaf_text k) (leaves_text ks)))
+    rw (no_block, group) (sought_complete track base ls s rest is.2 is.3 sound ∙ leaves_complete track base ls s rest is.2 sound)
 
 -- its header
 pub record HasParts (p : Piece) : Type 0 where

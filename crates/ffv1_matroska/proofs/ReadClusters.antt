@@ -1,7 +1,7 @@
 -- What is read in a Cluster is its elements.
 use Rattle.ffv1_ebml.proofs.OutsideLaws.{in_read}
-use Rattle.std.proofs.Common.{◌≡◌, ◌≤◌, ◌<◌, ◌+◌, ◌==◌, ◌∙◌, ◌++◌, ◌∷◌, [], ℕ, suc, zero, List, Bool, true, false, nat_lt, Option, Some, None, Ok, length, refl, sym, ap, subst, arith, append_assoc, length-append}
-use Rattle.std.proofs.lemmas.Bool.{eqb-true, lt-ltb}
+use Rattle.std.proofs.Common.{◌≡◌, ◌⊎◌, inl, inr, Err, ◌≤◌, ◌<◌, ◌+◌, ◌==◌, ◌∙◌, ◌++◌, ◌∷◌, [], ℕ, suc, zero, List, Bool, true, false, nat_lt, Option, Some, None, Ok, length, refl, sym, ap, subst, arith, append_assoc, length-append}
+use Rattle.std.proofs.lemmas.Bool.{cases_eq, eqb-true, lt-ltb}
 use Rattle.ffv1_reads.specs.declared.fault.FileFault.TheVariants as fault
 use Rattle.ffv1_reads.specs.Reads.{Met, read_on, taken, ◌>>=◌}
 use Rattle.ffv1_reads.proofs.Results.{ok_is, read_on_ok}
@@ -15,17 +15,18 @@ use Rattle.ffv1_ebml.specs.declared.element.Element.{Element}
 use Rattle.ffv1_ebml.specs.declared.sum.Sum.{Sum}
 use Rattle.ffv1_ebml.specs.declared.sum.Sum.TheVariants.{Absent, Begins, Awaits}
 use Rattle.ffv1_ebml.proofs.ElementLaws.{summed_twice}
-use Rattle.ffv1_matroska.specs.Elements.{ArePieces, AreSummed, IsContent, IsLeaf, IsPiece, Leaf, Piece, Single, Group, Plain, content_text, leaf_frames, leaves_text, piece_frames, piece_ident, piece_text, pieces_frames, pieces_text, stands_single}
+use Rattle.ffv1_matroska.specs.Elements.{HasIdent, ArePieces, AreSummed, IsContent, IsLeaf, IsPiece, Leaf, Piece, Single, Group, Plain, content_text, leaf_frames, leaves_text, piece_frames, piece_ident, piece_text, pieces_frames, pieces_text, stands_single}
 use Rattle.ffv1_matroska.specs.Files.{frames_read}
 use Rattle.ffv1_matroska.specs.Places.{closed, cluster_at, cluster_entered, group_at, is_sound, segment_at, step_to}
-use Rattle.ffv1_matroska.specs.Segments.{block_group, child_by, cluster_child, cluster_read, cluster_rest, crc_read, first_child, is_beside, is_filler, known_child, simple_block, step_read, is_outside}
+use Rattle.ffv1_matroska.specs.Segments.{block, block_group, block_sought, child_by, cluster_child, cluster_read, cluster_rest, crc_read, first_child, is_beside, is_filler, known_child, simple_block, step_read, is_outside}
 use Rattle.ffv1_matroska.specs.declared.place.Place.{Place}
 use Rattle.ffv1_matroska.specs.declared.place.Step.{Step}
 use Rattle.ffv1_matroska.proofs.BlockLaws.{content_read}
 use Rattle.ffv1_matroska.proofs.FrameTurns.{Turn, step_kept, turn_read, turns_on}
+use Rattle.ffv1_matroska.proofs.GroupTurns.{sought_frames}
 use Rattle.ffv1_matroska.proofs.HeaderLaws.{HasHeader, header_sound}
 use Rattle.ffv1_matroska.proofs.PartLaws.{cluster_end, crc_number}
-use Rattle.ffv1_matroska.proofs.PieceLaws.{IsPast, by_past, differs, past_summed, piece_content, summed_none}
+use Rattle.ffv1_matroska.proofs.PieceLaws.{sought_none, sound_group, IsPast, by_past, differs, past_summed, piece_content, summed_none}
 use Rattle.ffv1_matroska.proofs.ReadBlocks.{closed_sound, content_sound}
 use Rattle.ffv1_matroska.proofs.ReadPieces.{GoesOn, HasLeaves, leaves_sound, led_sound, turn_goes, turn_sound}
 use Rattle.ffv1_matroska.proofs.StepBounds.{err_is_no_ok}
@@ -75,31 +76,48 @@ single_sound track base s ident size number n text w b is test apart stands h =
       after = turn_goes track first.0.0 (group_at base 0 (summed s body)) first.0.1 (leaf_frames l) w c.turn first.2;
     }
 
+-- a BlockGroup that was read has a Block
+has_or_none : (ls : List Leaf) → HasIdent block ls ⊎ (HasIdent block ls → ⊥)
+has_or_none [] = inr (λ has. has)
+has_or_none (l ∷ ls) = on_first (cases_eq (number_of l.ident) block) (has_or_none ls)
+  where
+    on_first : (number_of l.ident ≡ block) ⊎ (number_of l.ident ≡ block → ⊥) → HasIdent block ls ⊎ (HasIdent block ls → ⊥) → HasIdent block (l ∷ ls) ⊎ (HasIdent block (l ∷ ls) → ⊥)
+    on_first (inl is) more = inl (inl is)
+    on_first (inr other) (inl has) = inl (inr has)
+    on_first (inr other) (inr none) = inr (λ has. on_both has)
+      where
+        on_both : HasIdent block (l ∷ ls) → ⊥
+        on_both (inl is) = other is
+        on_both (inr has) = none has
+
+sought_has : (track : TrackNumbers) (base : Place) (n : ℕ) (s : Sum) (text : List ℕ) (w : List (List ℕ) × List ℕ) (ls : HasLeaves track base n s text w) →
+    read_on (read_on (block_sought n track (group_at base n s) text) step_kept) (turns_on track) ≡ Ok w → HasIdent block ls.leaves ⊎ (HasIdent block ls.leaves → ⊥) → HasIdent block ls.leaves
+sought_has track base n s text w ls h (inl has) = has
+sought_has track base n s text w ls h (inr none) =
+    let refused : block_sought n track (group_at base n s) text ≡ Err (Met fault.BadElement ls.more) =
+    ap (block_sought n track (group_at base n s)) ls.text_is
+    ∙ ap (λ k. block_sought n track (group_at base k s) (leaves_text ls.leaves ++ ls.more)) (sym ls.long)
+    ∙ sought_none n track base ls.leaves s ls.more (omega (arith, ls.long)) ls.are none in
+    absurd (err_is_no_ok (Met fault.BadElement ls.more) w (ap (λ z. read_on (read_on z step_kept) (turns_on track)) (sym refused) ∙ h))
+
 -- or a BlockGroup
 group_sound : (track : TrackNumbers) (base : Place) (s : Sum) (ident size : List ℕ) (n : ℕ) (text : List ℕ) (w : List (List ℕ) × List ℕ) → IsNamed ident size block_group n →
-    read_on (read_on (closed (Some (step_to (group_at base n s))) (group_at base n s) text) step_kept) (turns_on track) ≡ Ok w → HasChild track base s ident size n text w
+    read_on (read_on (block_sought n track (group_at base n s) text) step_kept) (turns_on track) ≡ Ok w → HasChild track base s ident size n text w
 group_sound track base s ident size n text w is h =
-    let first = read_on_ok (read_on (closed (Some (step_to (group_at base n s))) (group_at base n s) text) step_kept) (turns_on track) w h in
-    let second = read_on_ok (closed (Some (step_to (group_at base n s))) (group_at base n s) text) step_kept first.0 first.1 in
-    let shut = closed_sound (Some (step_to (group_at base n s))) (group_at base n s) text second.0.0 second.0.1 second.1 in
-    let P : Option Step → Type 0 = λ z. step_kept z second.0.1 ≡ Ok first.0 in
-    let made : Turn = Some ([], group_at base n s) in
-    let same = ok_is (made, second.0.1) first.0 (subst P shut.value second.2) in
-    let Q : Turn × List ℕ → Type 0 = λ z. turns_on track z.0 z.1 ≡ Ok w in
-    let on = led_sound track (group_at base n s) second.0.1 [] w (subst Q (sym same) first.2) in
-    let R : List ℕ → Type 0 = λ z. HasLeaves track base n s z (on.later, w.1) in
-    let ls : HasLeaves track base n s text (on.later, w.1) = subst R (sym shut.text_is) (leaves_sound n track base n s second.0.1 (on.later, w.1) (omega arith) shut.sound on.read) in
+    let on = sought_frames n track (group_at base n s) text w h in
+    let ls = leaves_sound n track base n s text w (omega arith) (sound_group base n s on.0) on.1 in
+    let has = sought_has track base n s text w ls h (has_or_none ls.leaves) in
     let sized : SaysSize size (Some (length (leaves_text ls.leaves))) = rw ls.long is.sized in
     record {
       piece = Group ident size ls.leaves;
-      is = ((is.named, is.few, is.is), sized, ls.are);
+      is = ((is.named, is.few, is.is), sized, ls.are, has);
       ident_is = refl;
       whole = refl;
       more = ls.more;
       text_is = ls.text_is;
       long = ls.long;
       sound = ls.sound;
-      after = record { later = ls.after.later; read = ls.after.read; all = on.all ∙ ls.after.all };
+      after = ls.after;
     }
 
 pub child_sound : (track : TrackNumbers) (base : Place) (s : Sum) (ident size : List ℕ) (number n : ℕ) (text : List ℕ) (w : List (List ℕ) × List ℕ) → IsNamed ident size number n →

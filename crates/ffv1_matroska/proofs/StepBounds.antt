@@ -1,6 +1,6 @@
 -- Each step in a Segment leaves less of it.
 use Rattle.ffv1_ebml.proofs.OutsideLaws.{in_read}
-use Rattle.std.proofs.Common.{◌≡◌, ◌-◌, ◌+◌, ◌<◌, ◌≤◌, ◌==◌, ◌&&◌, ℕ, List, [], ◌∷◌, Option, Some, None, Result, Ok, Err, Bool, true, false, if◌then◌else◌, nat_lt, length, slice_index, refl, ap, subst, arith}
+use Rattle.std.proofs.Common.{◌≡◌, ◌-◌, ◌+◌, ◌<◌, ◌≤◌, ◌==◌, ◌&&◌, ◌∙◌, ℕ, suc, zero, inl, inr, sym, List, [], ◌∷◌, Option, Some, None, Result, Ok, Err, Bool, true, false, if◌then◌else◌, nat_lt, length, slice_index, refl, ap, subst, arith}
 use Rattle.std.proofs.lemmas.Bool.Decides.{nat_tests}
 use Rattle.ffv1_reads.specs.declared.fault.FileFault.{FileFault}
 use Rattle.ffv1_reads.specs.declared.fault.FileFault.TheVariants as fault
@@ -22,7 +22,8 @@ use Rattle.ffv1_matroska.specs.Segments.{block, block_group, child_by, cluster, 
 use Rattle.ffv1_matroska.specs.declared.place.Place.{Place}
 use Rattle.ffv1_matroska.specs.declared.place.Step.{Step}
 use Rattle.ffv1_reads.specs.Head.{frame_limit}
-use Rattle.ffv1_matroska.specs.Segments.{is_beside}
+use Rattle.ffv1_matroska.specs.Segments.{block_sought, is_beside}
+use Rattle.ffv1_matroska.proofs.SoughtBlocks.{Sought, sought_cases}
 use Rattle.ffv1_matroska.specs.declared.track.TrackNumbers.{TrackNumbers}
 
 -- whatever a reading gives has this property
@@ -133,12 +134,29 @@ group_less track place = gives_then (Leaves place.group) P (element_read place.g
     child ident now None less = gives_refused P fault.BadElement
     child ident now (Some n) less = within_less (amount now) (amount place) (group_child track ident now (Some n)) less (gives_if (Within (amount now)) (ident == block) (block_read track n now) (passed_on n now) (block_within track n now) (passed_within n now))
 
+less_within : (n m : ℕ) → n ≤ m → (x : Option Step) → Lessens n x → Within m x
+less_within n m fits None h = tt
+less_within n m fits (Some s) h = omega (arith, h, fits)
+
+-- a BlockGroup up to its first Block
+sought_within : (most : ℕ) (track : TrackNumbers) (n : ℕ) (place : Place) → amount place ≤ n → Gives (Within n) (block_sought most track place)
+unfolding block_sought
+sought_within zero track n place fits = gives_refused (Within n) fault.BadElement
+sought_within (suc most) track n place fits = record { only = λ text rest x h. on_case text rest x h (sought_cases most track place text) (sought_within most track n) }
+  where
+    on_case : (text rest : List ℕ) (x : Option Step) → block_sought (suc most) track place text ≡ Ok (x, rest) → Sought most track place text → ((p : Place) → amount p ≤ n → Gives (Within n) (block_sought most track p)) → Within n x
+    on_case text rest x h (inl (why, is)) again = absurd (err_is_no_ok why (x, rest) (sym is ∙ h))
+    on_case text rest x h (inr (inl (some, is))) again = less_within (amount place) n fits x ((group_less track place).only text rest x (sym is ∙ h))
+    on_case text rest x h (inr (inr (now, more, some, read, is))) again =
+        let less : amount now < amount place = (group_less track place).only text more (Some (step_to now)) read in
+        (again now (omega (arith, less, fits))).only more rest x (sym is ∙ h)
+
 -- an element of a Cluster, in a position that has left what comes after it
 child_within : (track : TrackNumbers) (ident size n : ℕ) (place : Place) → place.group ≡ 0 → size + amount place ≤ n → Gives (Within n) (cluster_child track ident size place)
 unfolding cluster_child
 child_within track ident size n place none fits =
     gives_if P (ident == simple_block) (block_read track size place) _ (wider (block_read track size place) (block_within track size place))
-    (gives_if P (ident == block_group) _ _ (closed_within n (Some (step_to (group_at place size place.sum))) (group_at place size place.sum) (omega (arith, none, fits)))
+    (gives_if P (ident == block_group) _ _ (sought_within size track n (group_at place size place.sum) (omega (arith, none, fits)))
     (gives_if P (is_beside ident size) (passed_on size place) _ (wider (passed_on size place) (passed_within size place)) (gives_refused P fault.BadElement)))
   where
     P : Option Step → Type 0

@@ -19,19 +19,20 @@ use Rattle.ffv1_ebml.proofs.ElementLaws.{summed_twice}
 use Rattle.ffv1_matroska.specs.Given.{GivesTo, ReadsToEnd}
 use Rattle.ffv1_matroska.specs.Elements.{SaysIdent, content_frames, content_text, leaf_frames, leaf_text}
 use Rattle.ffv1_matroska.specs.Files.{frame_read}
-use Rattle.ffv1_matroska.specs.Places.{closed, cluster_at, cluster_entered, segment_at, group_at, is_sound, step_to}
+use Rattle.ffv1_matroska.specs.Places.{cluster_at, cluster_entered, segment_at, group_at, is_sound}
 use Rattle.ffv1_matroska.specs.Segments.{block_group, child_by, cluster_child, first_child, simple_block}
 use Rattle.ffv1_matroska.specs.declared.place.Place.{Place}
-use Rattle.ffv1_matroska.specs.declared.place.Step.{Step}
 use Rattle.ffv1_matroska.proofs.BlockLaws.{content_read}
 use Rattle.ffv1_matroska.proofs.Fronts.{none_left, split_front}
 use Rattle.ffv1_matroska.proofs.FrameTurns.{Turn, frame_turn, next_on, step_kept, turn_read}
-use Rattle.ffv1_matroska.proofs.PieceLaws.{IsPast, by_past, known_header, past_summed, summed_none}
-use Rattle.ffv1_matroska.proofs.ReadBlocks.{closed_sound, content_sound}
+use Rattle.ffv1_matroska.proofs.PieceLaws.{IsPast, by_past, known_header, past_summed}
+use Rattle.ffv1_matroska.proofs.ReadBlocks.{content_sound}
 use Rattle.ffv1_matroska.proofs.ReadClusters.{head_turn}
 use Rattle.ffv1_matroska.proofs.ReadPieces.{leaf_sound}
 use Rattle.ffv1_matroska.proofs.StepBounds.{err_is_no_ok}
-use Rattle.ffv1_matroska.specs.Segments.{is_beside}
+use Rattle.ffv1_matroska.specs.Segments.{block_sought, is_beside}
+use Rattle.ffv1_matroska.proofs.SoughtBlocks.{Sought, sought_cases}
+use Rattle.ffv1_matroska.proofs.GroupTurns.{group_turn}
 use Rattle.ffv1_matroska.specs.declared.track.TrackNumbers.{TrackNumbers}
 
 -- a turn in a Cluster takes some of its bytes, which are summed
@@ -64,6 +65,45 @@ takes_group track place text o rest some h =
       sound = l.sound;
     }
 
+next_of : Place → Turn → Place
+next_of place None = place
+next_of place (Some p) = p.1
+
+-- a BlockGroup up to its first Block
+takes_sought : (most : ℕ) (track : TrackNumbers) (place : Place) (text : List ℕ) (o : Turn) (rest : List ℕ) → read_on (block_sought most track place text) step_kept ≡ Ok (o, rest) → Takes place text o rest
+unfolding block_sought next_of
+takes_sought zero track place text o rest h = absurd (cc (h))
+takes_sought (suc most) track place text o rest h = on_case (sought_cases most track place text) (takes_sought most track)
+  where
+    Again : Type 0
+    Again = (p : Place) (t : List ℕ) (o : Turn) (r : List ℕ) → read_on (block_sought most track p t) step_kept ≡ Ok (o, r) → Takes p t o r
+
+    joined : (now : Place) (more : List ℕ) → Takes place text (Some ([], now)) more → Takes now more o rest → Takes place text o rest
+    joined now more one two =
+        let next : now ≡ one.next = ap (next_of now) one.turn in
+        let group : one.next.group ≡ now.group = ap (λ (p : Place). p.group) (sym next) in
+        let cluster : one.next.cluster ≡ now.cluster = ap (λ (p : Place). p.cluster) (sym next) in
+        record {
+          frames = two.frames;
+          next = two.next;
+          turn = two.turn;
+          bytes = one.bytes ++ two.bytes;
+          text_is = one.text_is ∙ ap (λ z. one.bytes ++ z) two.text_is ∙ sym (append_assoc one.bytes two.bytes rest);
+          some = omega (arith, one.some, length-append one.bytes two.bytes);
+          counted = omega (arith, one.counted, two.counted, group, cluster, length-append one.bytes two.bytes);
+          segment = two.segment ∙ ap (λ (p : Place). p.segment) next ∙ one.segment;
+          sum = two.sum ∙ ap (λ (p : Place). summed p.sum two.bytes) next ∙ ap (λ (s : Sum). summed s two.bytes) one.sum ∙ summed_twice place.sum one.bytes two.bytes;
+          sound = two.sound;
+        }
+
+    on_case : Sought most track place text → Again → Takes place text o rest
+    on_case (inl (why, is)) again = absurd (err_is_no_ok why (o, rest) (ap (λ z. read_on z step_kept) (sym is) ∙ h))
+    on_case (inr (inl (some, is))) again = takes_group track place text o rest some (group_turn track place text some ∙ ap (λ z. read_on z step_kept) (sym is) ∙ h)
+    on_case (inr (inr (now, more, some, read, is))) again =
+        joined now more
+        (takes_group track place text (Some ([], now)) more some (group_turn track place text some ∙ ap (λ z. read_on z step_kept) read))
+        (again now more o rest (ap (λ z. read_on z step_kept) (sym is) ∙ h))
+
 -- after a header
 record TakesAfter (base : Place) (x : Sum) (n : ℕ) (text : List ℕ) (o : Turn) (rest : List ℕ) : Type 0 where
   frames : List (List ℕ)
@@ -86,14 +126,10 @@ child_takes track number n base x text o rest h = on_tests (number == simple_blo
         let body = content_text c.content in
         record { frames = content_frames c.content; next = group_at base 0 (summed x body); turn = c.turn; bytes = body; text_is = c.text_is; counted = omega (arith, c.long); segment = refl; sum = refl; sound = c.sound }
 
-    group : (read_on (closed (Some (step_to (group_at base n x))) (group_at base n x) text) step_kept) ≡ Ok (o, rest) → TakesAfter base x n text o rest
+    group : read_on (block_sought n track (group_at base n x) text) step_kept ≡ Ok (o, rest) → TakesAfter base x n text o rest
     group h =
-        let first = read_on_ok (closed (Some (step_to (group_at base n x))) (group_at base n x) text) step_kept (o, rest) h in
-        let shut = closed_sound (Some (step_to (group_at base n x))) (group_at base n x) text first.0.0 first.0.1 first.1 in
-        let P : Option Step → Type 0 = λ z. step_kept z first.0.1 ≡ Ok (o, rest) in
-        let made : Turn = Some ([], group_at base n x) in
-        let same = ok_is (made, first.0.1) (o, rest) (subst P shut.value first.2) in
-        record { frames = []; next = group_at base n x; turn = ap (λ (z : Turn × List ℕ). z.0) (sym same); bytes = []; text_is = shut.text_is ∙ ap (λ (z : Turn × List ℕ). z.1) same; counted = omega arith; segment = refl; sum = sym (summed_none x); sound = shut.sound }
+        let t = takes_sought n track (group_at base n x) text o rest h in
+        record { frames = t.frames; next = t.next; turn = t.turn; bytes = t.bytes; text_is = t.text_is; counted = t.counted; segment = t.segment; sum = t.sum; sound = t.sound }
 
     on_tests : (a b : Bool) → (number == simple_block) ≡ a → (number == block_group) ≡ b → (cluster_child track number n (group_at base 0 x) >>= step_kept) text ≡ Ok (o, rest) → TakesAfter base x n text o rest
     on_tests true b p q h = single true (rw p at h)

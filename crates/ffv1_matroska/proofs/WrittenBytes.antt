@@ -6,15 +6,17 @@ use Rattle.std.proofs.lemmas.Bool.{cases_eq, ltb-true, ne_eqb}
 use Rattle.std.proofs.lemmas.List.Elements.{All-append}
 use Rattle.std.specs.Int.{byte_at, bytes_high_first, bytes_low_first}
 use Rattle.ffv1_reads.specs.Head.{Head}
+use Rattle.ffv1_reads.specs.declared.colour.Colour.{Colour}
 use Rattle.ffv1_ebml.specs.Spelled.{ident_bytes, ident_length, long, number_element, short}
 use Rattle.ffv1_matroska.specs.declared.track_entry.CodecId.{CodecId}
 use Rattle.ffv1_matroska.specs.declared.track_entry.CodecId.TheVariants as codec
+use Rattle.ffv1_matroska.specs.Colours.{chroma_siting_horz, chroma_siting_vert, colour, matrix_coefficients, primaries, range, transfer_characteristics}
 use Rattle.ffv1_matroska.specs.Opened.{tracks}
 use Rattle.ffv1_matroska.specs.Tracks.{codec_id, codec_private, default_duration, entry, pixel_height, pixel_width, track_number, track_type, video}
 use Rattle.ffv1_matroska.specs.Segments.{simple_block}
-use Rattle.ffv1_matroska.specs.Written.{block_header, cluster_content, cue_element, cues_from, display, double, duration_field, entry_element, entry_fields, frame_duration, info_content, info_place, interlaced_of, long_element, order_element, seek_element, seeks, short_element, tick_of, tracks_place, video_content, void_element, writer_name, codec_name, private_content, private_end, private_front}
+use Rattle.ffv1_matroska.specs.Written.{block_header, cluster_content, colour_content, colour_element, cue_element, cues_from, display, double, duration_field, entry_element, entry_fields, frame_duration, info_content, info_place, interlaced_of, long_element, order_element, said_field, seek_element, seeks, short_element, tick_of, tracks_place, video_content, void_element, writer_name, codec_name, private_content, private_end, private_front}
 use Rattle.ffv1_matroska.specs.WrittenIdents.{cue_cluster_position, cue_point, cue_time, cue_track, cue_track_positions, cues, display_height, display_unit, display_width, duration, field_order, flag_interlaced, flag_lacing, info, language, muxing_app, seek, seek_id, seek_position, timestamp, timestamp_scale, track_uid, void, writing_app}
-use Rattle.ffv1_matroska.proofs.SpelledLengths.{ident_most, number_long}
+use Rattle.ffv1_matroska.proofs.SpelledLengths.{ident_most, number_long, short_long}
 use Rattle.ffv1_matroska.specs.declared.track_entry.TrackEntry.{TrackEntry}
 use Rattle.ffv1_matroska.specs.declared.write.opening.Finish.{Finish}
 
@@ -155,6 +157,45 @@ display_is : (head : Head) (details : TrackEntry) → ShownBytes (display head d
 unfolding display
 display_is head details = shown_by (details.sar_num == 0 || details.sar_den == 0) (head.width * details.sar_num) (head.height * details.sar_den)
 
+-- what is said of colours
+said_by : (p : Bool) (ident value : ℕ) → (length (cond p [] (number_element ident 1 value)) ≤ 6) × AreBytes (cond p [] (number_element ident 1 value))
+said_by true ident value = (omega arith, none_are)
+said_by false ident value = (number_most ident 1 value, one ident value)
+
+said_is : (ident default value : ℕ) → (length (said_field ident default value) ≤ 6) × AreBytes (said_field ident default value)
+said_is ident default value = said_by (value == default) ident value
+
+colours_are : (c : Colour) → (length (colour_content c) ≤ 36) × AreBytes (colour_content c)
+unfolding colour_content
+colours_are c =
+    let a = said_is matrix_coefficients 2 c.matrix in
+    let b = said_is chroma_siting_horz 0 c.siting_across in
+    let d = said_is chroma_siting_vert 0 c.siting_down in
+    let e = said_is range 0 c.range in
+    let f = said_is transfer_characteristics 2 c.transfer in
+    let g = said_is primaries 2 c.primaries in
+    let two = joined _ _ 6 6 a b in
+    let three = joined _ _ 12 6 two d in
+    let four = joined _ _ 18 6 three e in
+    let five = joined _ _ 24 6 four f in
+    joined _ _ 30 6 five g
+  where
+    joined : (xs ys : List ℕ) (m n : ℕ) → (length xs ≤ m) × AreBytes xs → (length ys ≤ n) × AreBytes ys → (length (xs ++ ys) ≤ m + n) × AreBytes (xs ++ ys)
+    joined xs ys m n p q = (omega (arith, length-append xs ys, p.0, q.0), both xs ys p.1 q.1)
+
+pub colours_few : (c : Colour) → length (colour_content c) ≤ 36
+colours_few c = (colours_are c).0
+
+colour_by : (p : Bool) (content : List ℕ) → length content ≤ 36 → AreBytes content → (length (cond p [] (short_element colour content)) ≤ 41) × AreBytes (cond p [] (short_element colour content))
+colour_by true content few are = (omega arith, none_are)
+colour_by false content few are =
+    let most = ident_most colour in
+    (omega (arith, short_long colour content, most, few), in_short colour content (omega (arith, few)) are)
+
+colour_is : (c : Colour) → (length (colour_element c) ≤ 41) × AreBytes (colour_element c)
+unfolding colour_element
+colour_is c = let are = colours_are c in colour_by (length (colour_content c) == 0) (colour_content c) are.0 are.1
+
 video_is : (head : Head) (details : TrackEntry) → (length (video_content head details) < 126) × AreBytes (video_content head details)
 unfolding video_content
 video_is head details =
@@ -163,10 +204,12 @@ video_is head details =
     let c = number_element flag_interlaced 1 (interlaced_of details.structure) in
     let d = order_element details.structure in
     let e = display head details in
+    let f = colour_element head.colour in
     let shows = display_is head details in
+    let colours = colour_is head.colour in
     let few = shows.few in (
-      omega (arith, length-append (((a ++ b) ++ c) ++ d) e, length-append ((a ++ b) ++ c) d, length-append (a ++ b) c, length-append a b, number_most pixel_width 4 head.width, number_most pixel_height 4 head.height, number_most flag_interlaced 1 (interlaced_of details.structure), order_most details.structure, few),
-      both (((a ++ b) ++ c) ++ d) e (both ((a ++ b) ++ c) d (both (a ++ b) c (both a b (number_are pixel_width 4 head.width (omega arith)) (number_are pixel_height 4 head.height (omega arith))) (one flag_interlaced (interlaced_of details.structure))) (order_are details.structure)) shows.are,
+      omega (arith, length-append ((((a ++ b) ++ c) ++ d) ++ e) f, length-append (((a ++ b) ++ c) ++ d) e, length-append ((a ++ b) ++ c) d, length-append (a ++ b) c, length-append a b, number_most pixel_width 4 head.width, number_most pixel_height 4 head.height, number_most flag_interlaced 1 (interlaced_of details.structure), order_most details.structure, few, colours.0),
+      both ((((a ++ b) ++ c) ++ d) ++ e) f (both (((a ++ b) ++ c) ++ d) e (both ((a ++ b) ++ c) d (both (a ++ b) c (both a b (number_are pixel_width 4 head.width (omega arith)) (number_are pixel_height 4 head.height (omega arith))) (one flag_interlaced (interlaced_of details.structure))) (order_are details.structure)) shows.are) colours.1,
     )
 
 pub video_few : (head : Head) (details : TrackEntry) → length (video_content head details) < 126

@@ -150,7 +150,7 @@ tracks_say head details frames is =
       is = p.number;
       sized = long_spelled (length (checked (entry_element head details))) few;
       short = is.short;
-      says = track_says head details is.width is.height is.rate is.scale is.timed is.record_is (entry_short head details is.short);
+      says = track_says head details is.width is.height is.rate is.scale is.colour is.timed is.record_is (entry_short head details is.short);
     }
 
 -- ---- a file whose Segment has these parts

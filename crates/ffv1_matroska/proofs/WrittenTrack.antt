@@ -5,6 +5,7 @@ use Rattle.std.proofs.lemmas.List.{length-replicate}
 use Rattle.std.proofs.lemmas.Bool.{cases_eq, ne_eqb, le-leb, ltb-false}
 use Rattle.std.specs.Int.{bytes_high_first, bytes_low_first}
 use Rattle.ffv1_sum.specs.Sum.{crc_of}
+use Rattle.ffv1_reads.specs.Colour.{IsColour}
 use Rattle.ffv1_reads.specs.Head.{Head}
 use Rattle.ffv1_ebml.specs.Contents.{first_part, found}
 use Rattle.ffv1_ebml.specs.Elements.{crc_ident}
@@ -17,18 +18,21 @@ use Rattle.byteorder.specs.Endian.{little_number}
 use Rattle.byteorder.specs.Numbers.{little_number-reads_back}
 use Rattle.ffv1_matroska.specs.declared.track_entry.CodecId.{CodecId}
 use Rattle.ffv1_matroska.specs.declared.track_entry.CodecId.TheVariants as codec
+use Rattle.ffv1_matroska.specs.Colours.{colour_in}
 use Rattle.ffv1_matroska.specs.Rates.{IsTimed, Rate, greatest, rate_of, second}
 use Rattle.ffv1_matroska.specs.Blocks.{is_unknown}
 use Rattle.ffv1_matroska.proofs.WrittenClusters.{written_numbers}
+use Rattle.ffv1_reads.specs.Bitmap.{is_ffv1}
 use Rattle.ffv1_matroska.specs.Tracks.{Track, known_in, known_with, track_among, with_number, codec_id, codec_private, content_encodings, default_duration, entry, number_at, pixel_height, pixel_width, record_in, track_at, track_in, track_number, track_of, track_type, track_up_to, video, format_record, is_format}
-use Rattle.ffv1_matroska.specs.WrittenIdents.{flag_interlaced, flag_lacing, language, track_uid}
-use Rattle.ffv1_matroska.specs.Written.{checked, crc_element, display, duration_field, entry_element, entry_fields, frame_duration, interlaced_of, long_element, order_element, short_element, video_content, codec_name, private_content, private_end, private_front}
+use Rattle.ffv1_matroska.specs.WrittenIdents.{flag_lacing, language, track_uid}
+use Rattle.ffv1_matroska.specs.Written.{checked, crc_element, duration_field, entry_element, entry_fields, frame_duration, long_element, short_element, video_content, codec_name, private_content, private_end, private_front}
 use Rattle.ffv1_matroska.specs.Writers.{rate_in}
 use Rattle.ffv1_matroska.specs.declared.track_entry.TrackEntry.{TrackEntry}
 use Rattle.ffv1_matroska.proofs.FieldsFound.{AreFields, Field, fields_text, found_in, long_field, number_field, number_is, short_field, short_is}
 use Rattle.ffv1_matroska.proofs.SpelledLengths.{long_long}
 use Rattle.ffv1_matroska.proofs.TrackWalks.{first_found, judged, known_end, known_next, track_here, track_next}
 use Rattle.ffv1_matroska.proofs.WrittenBytes.{AreBytes, entry_are, video_few}
+use Rattle.ffv1_matroska.proofs.VideoParts.{beside_size, video_colour, video_parts}
 use Rattle.ffv1_matroska.proofs.WrittenChecks.{checked_told, crc_is_ident}
 
 -- a number that is found
@@ -39,21 +43,14 @@ number_found ident width number content four fits is =
 
 -- what Video says
 size_found : (head : Head) (details : TrackEntry) → head.width < 2 ^ 32 → head.height < 2 ^ 32 → (number_at pixel_width (video_content head details) ≡ Ok head.width) × (number_at pixel_height (video_content head details) ≡ Ok head.height)
-unfolding video_content
 size_found head details wide high =
-    let a = number_element pixel_width 4 head.width in
-    let b = number_element pixel_height 4 head.height in
-    let c = number_element flag_interlaced 1 (interlaced_of details.structure) in
-    let d = order_element details.structure in
-    let e = display head details in
-    let all : (((a ++ b) ++ c) ++ d) ++ e ≡ a ++ (b ++ (c ++ (d ++ e))) = regrouped a b c d e in
-    let first : found pixel_width ((((a ++ b) ++ c) ++ d) ++ e) ≡ Ok (Some (bytes_high_first 4 head.width)) = ap (found pixel_width) all ∙ found_first pixel_width (short 4) (bytes_high_first 4 head.width) (b ++ (c ++ (d ++ e))) (inl (omega arith, omega arith)) (short_spelled 4 (omega arith)) in
-    let past : found pixel_height (a ++ (b ++ (c ++ (d ++ e)))) ≡ found pixel_height (b ++ (c ++ (d ++ e))) = found_past pixel_height pixel_width (short 4) (bytes_high_first 4 head.width) (b ++ (c ++ (d ++ e))) (inl (omega arith, omega arith)) (short_spelled 4 (omega arith)) (λ same. omega (arith, same)) in
-    let next : found pixel_height ((((a ++ b) ++ c) ++ d) ++ e) ≡ Ok (Some (bytes_high_first 4 head.height)) = ap (found pixel_height) all ∙ past ∙ found_first pixel_height (short 4) (bytes_high_first 4 head.height) (c ++ (d ++ e)) (inl (omega arith, omega arith)) (short_spelled 4 (omega arith)) in
+    let rest = beside_size head details in
+    let after = number_element pixel_height 4 head.height ++ rest in
+    let all = video_parts head details in
+    let first : found pixel_width (video_content head details) ≡ Ok (Some (bytes_high_first 4 head.width)) = ap (found pixel_width) all ∙ found_first pixel_width (short 4) (bytes_high_first 4 head.width) after (inl (omega arith, omega arith)) (short_spelled 4 (omega arith)) in
+    let past : found pixel_height (number_element pixel_width 4 head.width ++ after) ≡ found pixel_height after = found_past pixel_height pixel_width (short 4) (bytes_high_first 4 head.width) after (inl (omega arith, omega arith)) (short_spelled 4 (omega arith)) (λ same. omega (arith, same)) in
+    let next : found pixel_height (video_content head details) ≡ Ok (Some (bytes_high_first 4 head.height)) = ap (found pixel_height) all ∙ past ∙ found_first pixel_height (short 4) (bytes_high_first 4 head.height) rest (inl (omega arith, omega arith)) (short_spelled 4 (omega arith)) in
     (number_found pixel_width 4 head.width _ refl wide first, number_found pixel_height 4 head.height _ refl high next)
-  where
-    regrouped : (a b c d e : List ℕ) → (((a ++ b) ++ c) ++ d) ++ e ≡ a ++ (b ++ (c ++ (d ++ e)))
-    regrouped a b c d e = simp append_assoc
 
 -- the fields of an entry, where those of its duration are these
 abbrev entry_list : CodecId → List Field → List ℕ → List ℕ → List Field
@@ -196,6 +193,7 @@ format_back head few =
     take_front (x ∷ xs) ys = ap (λ z. x ∷ z) (take_front xs ys)
 
 is_format_back : (head : Head) → is_format (private_content codec.Vfw head) ≡ true
+unfolding is_ffv1
 is_format_back head =
     let room : nat_le 40 (length (private_content codec.Vfw head)) ≡ true = le-leb _ _ (omega (arith, private_long head)) in
     rw room refl
@@ -208,28 +206,28 @@ record_says codec.Vfw head content number picture short h =
     rw (h.kind, h.codec, h.config_is, is_format_back head) (ap (λ z. Ok (Some z)) (format_back head short))
 
 track_of_says : (id : CodecId) (content : List ℕ) (number : ℕ) (picture held config : List ℕ) (width height : ℕ) → Says id content number picture held → number_at pixel_width picture ≡ Ok width → number_at pixel_height picture ≡ Ok height →
-    track_of content config ≡ Ok (record { numbers = record { number = 1; known = 0 }; head = record { width = min width greatest; height = min height greatest; rate = (rate_of number).rate; scale = (rate_of number).scale; config_record = config } })
+    track_of content config ≡ Ok (record { numbers = record { number = 1; known = 0 }; head = record { width = min width greatest; height = min height greatest; rate = (rate_of number).rate; scale = (rate_of number).scale; colour = colour_in picture; config_record = config } })
 unfolding track_of
 track_of_says id content number picture held config width height h wide high = rw (h.plain, h.track, h.lasts, h.picture_is, wide, high) refl
 
-head_says : (head : Head) → head.width < 2 ^ 32 → head.height < 2 ^ 32 → IsTimed (rate_in head) →
-    ◌≡◌ {A = Head} (record { width = min head.width greatest; height = min head.height greatest; rate = (rate_of (frame_duration head)).rate; scale = (rate_of (frame_duration head)).scale; config_record = head.config_record }) head
-head_says head wide high timed =
+head_says : (head : Head) (picture : List ℕ) → head.width < 2 ^ 32 → head.height < 2 ^ 32 → IsTimed (rate_in head) → colour_in picture ≡ head.colour →
+    ◌≡◌ {A = Head} (record { width = min head.width greatest; height = min head.height greatest; rate = (rate_of (frame_duration head)).rate; scale = (rate_of (frame_duration head)).scale; colour = colour_in picture; config_record = head.config_record }) head
+head_says head picture wide high timed coloured =
     let a : min head.width greatest ≡ head.width = min-eq_left (omega (arith, wide)) in
     let b : min head.height greatest ≡ head.height = min-eq_left (omega (arith, high)) in
     let c : (rate_of (frame_duration head)).rate ≡ head.rate = ap (λ (r : Rate). r.rate) timed in
     let d : (rate_of (frame_duration head)).scale ≡ head.scale = ap (λ (r : Rate). r.scale) timed in
-    rw (a, b, c, d) refl
+    rw (a, b, c, d, coloured) refl
 
-entry_track : (head : Head) (details : TrackEntry) → head.width < 2 ^ 32 → head.height < 2 ^ 32 → IsTimed (rate_in head) → frame_duration head < 2 ^ 64 → length (private_content details.codec_id head) < 2 ^ 56 - 1 → length head.config_record < 2 ^ 31 →
+entry_track : (head : Head) (details : TrackEntry) → head.width < 2 ^ 32 → head.height < 2 ^ 32 → IsColour head.colour → IsTimed (rate_in head) → frame_duration head < 2 ^ 64 → length (private_content details.codec_id head) < 2 ^ 56 - 1 → length head.config_record < 2 ^ 31 →
     track_at entry (content_of_entry head details) ≡ Ok (Some (record { numbers = record { number = 1; known = 0 }; head = head }))
 unfolding track_at
-entry_track head details wide high timed fits short few =
+entry_track head details wide high coloured timed fits short few =
     let says = entry_says head details fits short in
     let sizes = size_found head details wide high in
     let config = record_says details.codec_id head (content_of_entry head details) (frame_duration head) (video_content head details) few says in
     let track = track_of_says details.codec_id (content_of_entry head details) (frame_duration head) (video_content head details) (private_content details.codec_id head) head.config_record head.width head.height says sizes.0 sizes.1 in
-    rw (config, track) (ap (λ h. Ok (Some (record { numbers = record { number = 1; known = 0 }; head = h }))) (head_says head wide high timed))
+    rw (config, track) (ap (λ h. Ok (Some (record { numbers = record { number = 1; known = 0 }; head = h }))) (head_says head (video_content head details) wide high timed (video_colour head details coloured)))
 
 -- and its number is the only one
 entry_known : (head : Head) (details : TrackEntry) → frame_duration head < 2 ^ 64 → length (private_content details.codec_id head) < 2 ^ 56 - 1 → known_with 0 entry (content_of_entry head details) ≡ Ok 2
@@ -246,10 +244,10 @@ duration_fits head rate scale = elim (cases_eq head.rate 0) [
 ]
 
 -- the content of Tracks
-pub track_says : (head : Head) (details : TrackEntry) → head.width < 2 ^ 32 → head.height < 2 ^ 32 → head.rate < 2 ^ 32 → head.scale < 2 ^ 32 → IsTimed (rate_in head) → AreBytes head.config_record →
+pub track_says : (head : Head) (details : TrackEntry) → head.width < 2 ^ 32 → head.height < 2 ^ 32 → head.rate < 2 ^ 32 → head.scale < 2 ^ 32 → IsColour head.colour → IsTimed (rate_in head) → AreBytes head.config_record →
     length (content_of_entry head details) < 2 ^ 31 → track_in (checked (entry_element head details)) ≡ Ok (record { numbers = written_numbers; head = head })
 unfolding entry_element crc_element track_at first_part
-track_says head details wide high rate scale timed bytes within =
+track_says head details wide high rate scale coloured timed bytes within =
     let inner = content_of_entry head details in
     let e = entry_element head details in
     let low = bytes_low_first 0 4 (crc_of e) in
@@ -262,7 +260,7 @@ track_says head details wide high rate scale timed bytes within =
     let held_short : length held < 2 ^ 31 = let a = length-append (entry_fields head details) (long_element codec_private held) in let b = long_long codec_private held in omega (arith, a, b, within) in
     let few : length head.config_record < 2 ^ 31 = let a = length-append (private_front details.codec_id head) (head.config_record ++ private_end details.codec_id head) in let b = length-append head.config_record (private_end details.codec_id head) in omega (arith, a, b, held_short) in
     let config_short : length held < 2 ^ 56 - 1 = omega (arith, held_short) in
-    let at = entry_track head details wide high timed (duration_fits head rate scale) config_short few in
+    let at = entry_track head details wide high coloured timed (duration_fits head rate scale) config_short few in
     let here = track_here next.0 e (record { ident = entry; content = inner; rest = [] }) track second at next.1 (part_less e (record { ident = entry; content = inner; rest = [] }) second) in
     let found = judged content tt (track_up_to next.0 e) (Ok track) (sym (checked_told e (entry_are head details bytes))) next.2 here in
     let one = known_next (length content) 0 content (record { ident = crc_ident; content = low; rest = e }) 0 first refl (omega arith) (part_less content (record { ident = crc_ident; content = low; rest = e }) first) in

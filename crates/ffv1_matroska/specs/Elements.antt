@@ -88,6 +88,11 @@ abbrev pub AreLeaves : ℕ → TrackNumbers → List Leaf → Type 0
 AreLeaves kind track [] = Unit {0}
 AreLeaves kind track (l ∷ ls) = IsLeaf kind track l × AreLeaves kind track ls
 
+-- one of these has this ID
+abbrev pub HasIdent : ℕ → List Leaf → Type 0
+HasIdent ident [] = ⊥
+HasIdent ident (l ∷ ls) = (number_of l.ident ≡ ident) ⊎ HasIdent ident ls
+
 -- an element of a Cluster (5.1.3): one that is not divided; or a BlockGroup (5.1.3.5), by its ID,
 -- its size and its elements
 pub data Piece : Type 0 where
@@ -110,14 +115,14 @@ piece_frames (Group ident size ls) = leaves_frames ls
 abbrev pub stands_single : ℕ → ℕ → Bool
 stands_single ident size = ident == simple_block || is_beside ident size
 
--- a SimpleBlock holds a block, and so does a Block of a BlockGroup
+-- a SimpleBlock holds a block, and so does a Block of a BlockGroup, which has at least one
 abbrev pub IsPiece : TrackNumbers → Piece → Type 0
 IsPiece track (Single l) =
     IsLeaf simple_block track l × ((number_of l.ident == block_group) ≡ false)
     × (stands_single (number_of l.ident) (length (content_text l.content)) ≡ true)
 IsPiece track (Group ident size ls) =
     SaysIdent ident block_group × SaysSize size (Some (length (leaves_text ls)))
-    × AreLeaves block track ls
+    × AreLeaves block track ls × HasIdent block ls
 
 abbrev pub pieces_text : List Piece → List ℕ
 pieces_text ps = flat_map piece_text ps

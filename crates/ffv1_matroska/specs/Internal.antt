@@ -19,6 +19,7 @@ track_lent t = record {
     height = t.height;
     rate = t.rate;
     scale = t.scale;
+    colour = t.colour;
     config_record = t.config_record.now;
   };
 }
@@ -55,6 +56,7 @@ track_kept n bytes = record {
     height = n.height;
     rate = n.rate;
     scale = n.scale;
+    colour = n.colour;
     config_record = bytes;
   };
 }

@@ -1,4 +1,5 @@
 pub mod Rates
+pub mod Colours
 pub mod Tracks
 pub mod Sizes
 pub mod Opening

@@ -33,8 +33,8 @@ step_taken place None = given place
 step_taken place (Some s) = frame_taken s.place s.frame
 
 -- an element from its first byte on, of a Segment, a Cluster or a BlockGroup: all of it, with its
--- frame if it is a block of the track; of a Cluster or a BlockGroup the header alone, since
--- their elements come next. At the end nothing is read
+-- frame if it is a block of the track; of a Cluster the header alone, since its elements come next;
+-- of a BlockGroup all up to its first Block and with that. At the end nothing is read
 unfoldable pub element_taken : TrackNumbers → Place → Reading Place
 element_taken track place = step_read track place >>= step_taken place
 

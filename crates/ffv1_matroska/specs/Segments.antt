@@ -1,12 +1,14 @@
 -- Elements of a Segment (RFC 9559, 5.1), of a Cluster (5.1.3) and of a BlockGroup (5.1.3.5): each
 -- is a step, up to the next element, or up to a frame.
-use Rattle.std.specs.Prelude.{ℕ, ◌==◌, ◌||◌, ◌&&◌, Bool, true, false, if◌then◌else◌, nat_le, nat_lt}
+use Rattle.std.specs.Prelude.{ℕ, suc, zero, ◌==◌, ◌||◌, ◌&&◌, Bool, true, false, if◌then◌else◌}
+use Rattle.std.specs.Prelude.{nat_le, nat_lt}
 use Rattle.std.specs.Prelude.{Option, Some, None, List, [], ◌∷◌}
 use Rattle.ffv1_reads.specs.Reads.{Reading, given, refused, taken, ◌>>=◌}
 use Rattle.ffv1_reads.specs.declared.fault.FileFault.TheVariants as fault
 use Rattle.ffv1_sum.specs.Sum.{number_of as low_number, turned}
 use Rattle.ffv1_ebml.specs.Elements.{content_passed, crc_ident, element_in, element_read}
 use Rattle.ffv1_ebml.specs.Elements.{first_read, is_among, is_crc}
+use Rattle.ffv1_ebml.specs.Sums.{passed_summed}
 use Rattle.ffv1_ebml.specs.declared.element.Element.{Element}
 use Rattle.ffv1_ebml.specs.declared.sum.Sum.{Sum}
 use Rattle.ffv1_ebml.specs.declared.sum.Sum.TheVariants.{Absent, Begins, Awaits}
@@ -60,6 +62,27 @@ group_rest track place p = group_child track p.0.ident (group_at place p.0.left 
 unfoldable pub group_read : TrackNumbers → Place → Reading (Option Step)
 group_read track place = element_read place.group place.sum >>= group_rest track place
 
+-- an element of a BlockGroup up to its first Block, after its header: that Block is read up to its
+-- frame; any other is passed, and then it goes on
+abbrev pub sought_child : (Place → Reading (Option Step)) → TrackNumbers → ℕ → Place → Option ℕ →
+    Reading (Option Step)
+sought_child on track ident place None = refused fault.BadElement
+sought_child on track ident place (Some size) =
+    if ident == block then block_read track size place
+    else (passed_summed size place.sum >>= λ sum. on (summed_at place sum))
+
+abbrev pub sought_rest : (Place → Reading (Option Step)) → TrackNumbers → Place → Element × Sum →
+    Reading (Option Step)
+sought_rest on track place p =
+    sought_child on track p.0.ident (group_at place p.0.left p.1) p.0.size
+
+-- the first Block of a BlockGroup, which has one, among at most so many elements
+unfoldable pub block_sought : ℕ → TrackNumbers → Place → Reading (Option Step)
+block_sought zero track place = refused fault.BadElement
+block_sought (suc most) track place =
+    if place.group == 0 then refused fault.BadElement
+    else (element_read place.group place.sum >>= sought_rest (block_sought most track) track place)
+
 -- what a Cluster has beside blocks: Timestamp, Position or PrevSize, which is a number and has at
 -- most 8 bytes; SilentTracks, EncryptedBlock, Void or CRC-32
 unfoldable pub is_beside : ℕ → ℕ → Bool
@@ -67,12 +90,13 @@ is_beside ident size =
     if ident == 231 || ident == 167 || ident == 171 then nat_le size 8
     else ident == 22612 || ident == 175 || is_filler ident
 
--- an element of a Cluster, of so many bytes, after its header: any other may not stand there
+-- an element of a Cluster, of so many bytes, after its header, and a BlockGroup up to its first
+-- Block: any other may not stand there
 unfoldable pub cluster_child : TrackNumbers → ℕ → ℕ → Place → Reading (Option Step)
 cluster_child track ident size place =
     if ident == simple_block then block_read track size place
     else if ident == block_group
-    then closed (Some (step_to (group_at place size place.sum))) (group_at place size place.sum)
+    then block_sought size track (group_at place size place.sum)
     else if is_beside ident size then passed_on size place
     else refused fault.BadElement
 

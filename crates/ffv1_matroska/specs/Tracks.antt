@@ -4,12 +4,13 @@ use Rattle.std.specs.Prelude.{nat_eq, nat_le, List, [], length, take, drop, code
 use Rattle.std.specs.Prelude.{None, Result, Ok, Err}
 use lib.Pointwise.{pointwise}
 use Rattle.byteorder.specs.Endian.{little_number}
-use Rattle.ffv1_reads.specs.Bitmap.{record_end}
+use Rattle.ffv1_reads.specs.Bitmap.{is_ffv1, record_end}
 use Rattle.ffv1_reads.specs.Head.{Head}
 use Rattle.ffv1_reads.specs.declared.fault.FileFault.{FileFault}
 use Rattle.ffv1_reads.specs.declared.fault.FileFault.TheVariants as fault
 use Rattle.ffv1_ebml.specs.Contents.{Found, Part, content_told, first_part, found, number_in}
 use Rattle.ffv1_ebml.specs.Contents.{text_in}
+use Rattle.ffv1_matroska.specs.Colours.{colour_in}
 use Rattle.ffv1_matroska.specs.Rates.{greatest, rate_of}
 use Rattle.ffv1_matroska.specs.Blocks.{bit_of, is_unknown}
 use Rattle.ffv1_matroska.specs.declared.track.TrackNumbers.{TrackNumbers}
@@ -75,9 +76,9 @@ abbrev pub is_text : List ℕ → List ℕ → Bool
 is_text bytes text = pointwise nat_eq bytes text
 
 -- the format of Video for Windows is FFV1 (RFC 9559, 8.3, V_MS/VFW/FOURCC): its fourth number is
--- that name, and the record comes after its 40 bytes
+-- that name, in great or small letters, and the record comes after its 40 bytes
 abbrev pub is_format : List ℕ → Bool
-is_format format = nat_le 40 (length format) && is_text (take 4 (drop 16 format)) (codes "FFV1")
+is_format format = nat_le 40 (length format) && is_ffv1 (take 4 (drop 16 format))
 
 -- the record of such a format, which ends where biSize, its first number, says so, or at its end
 abbrev pub format_record : List ℕ → List ℕ
@@ -121,6 +122,7 @@ track_of content config = found content_encodings content >>? plain
         height = min height greatest;
         rate = (rate_of duration).rate;
         scale = (rate_of duration).scale;
+        colour = colour_in picture;
         config_record = config;
       };
     }))))))

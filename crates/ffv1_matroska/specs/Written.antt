@@ -6,10 +6,13 @@ use Rattle.std.specs.Prelude.{[], ◌∷◌, ◌++◌, flat_map, length, replica
 use Rattle.std.specs.Int.{bytes_low_first, leading_zeros, w64}
 use Rattle.ffv1_reads.specs.Bitmap.{bitmap_header}
 use Rattle.ffv1_reads.specs.Head.{Head}
+use Rattle.ffv1_reads.specs.declared.colour.Colour.{Colour}
 use Rattle.ffv1_sum.specs.Sum.{crc_of}
 use Rattle.ffv1_ebml.specs.Elements.{crc_ident}
 use Rattle.ffv1_ebml.specs.Spelled.{ident_bytes, long, number_element, short, spelled}
 use Rattle.ffv1_ebml.specs.Spelled.{unknown as unknown_size}
+use Rattle.ffv1_matroska.specs.Colours.{chroma_siting_horz, chroma_siting_vert, colour, primaries}
+use Rattle.ffv1_matroska.specs.Colours.{matrix_coefficients, range, transfer_characteristics}
 use Rattle.ffv1_matroska.specs.Opened.{ebml, tracks}
 use Rattle.ffv1_matroska.specs.Opening.{doc_type, read_version, segment, type_read_version}
 use Rattle.ffv1_matroska.specs.Rates.{duration_of}
@@ -148,11 +151,28 @@ display head details =
     ++ number_element display_height 8 (head.height * details.sar_den)
     ++ number_element display_unit 1 3
 
+-- a number of colours that is said; its default says nothing
+abbrev pub said_field : ℕ → ℕ → ℕ → List ℕ
+said_field ident default value =
+    if value == default then [] else number_element ident 1 value
+
+-- those that are said, in the order of their IDs (5.1.4.1.28.17, 5.1.4.1.28.23 to 5.1.4.1.28.27)
+unfoldable pub colour_content : Colour → List ℕ
+colour_content c =
+    said_field matrix_coefficients 2 c.matrix ++ said_field chroma_siting_horz 0 c.siting_across
+    ++ said_field chroma_siting_vert 0 c.siting_down ++ said_field range 0 c.range
+    ++ said_field transfer_characteristics 2 c.transfer ++ said_field primaries 2 c.primaries
+
+-- what is said of colours, if anything is (5.1.4.1.28.16)
+unfoldable pub colour_element : Colour → List ℕ
+colour_element c =
+    if length (colour_content c) == 0 then [] else short_element colour (colour_content c)
+
 unfoldable pub video_content : Head → TrackEntry → List ℕ
 video_content head details =
     number_element pixel_width 4 head.width ++ number_element pixel_height 4 head.height
     ++ number_element flag_interlaced 1 (interlaced_of details.structure)
-    ++ order_element details.structure ++ display head details
+    ++ order_element details.structure ++ display head details ++ colour_element head.colour
 
 unfoldable pub duration_field : Head → List ℕ
 duration_field head =

@@ -133,6 +133,7 @@ fn read_tracks<R: ByteIn, A: Allocator>(
         height: track.height,
         rate: track.rate,
         scale: track.scale,
+        colour: track.colour,
     })
 }
 

@@ -18,7 +18,12 @@ ghost use Rattle.ffv1_matroska.specs.Elements.{AreTopLevel, SaysIdent, TopLevel,
 ghost use Rattle.ffv1_ebml.specs.Vints.{IsVint, data_of, number_of};
 ghost use Rattle.ffv1_matroska.specs.Blocks.{block_read, is_unknown};
 ghost use Rattle.ffv1_matroska.specs.Elements.{IsListed, IsPiece, Leaf, Single, content_text};
+ghost use Rattle.ffv1_matroska.specs.Elements.{AreLeaves, Group, HasIdent, leaves_text};
 ghost use Rattle.ffv1_matroska.specs.Elements.{stands_single};
+ghost use Rattle.ffv1_ebml.specs.declared.sum.Sum.{Sum};
+ghost use Rattle.ffv1_matroska.specs.Offsets.{element_taken};
+ghost use Rattle.ffv1_matroska.specs.Places.{cluster_at, segment_at};
+ghost use Rattle.ffv1_matroska.specs.Segments.{block};
 ghost use Rattle.ffv1_matroska.specs.Elements.{parts_frames, pieces_frames, tops_text};
 ghost use Rattle.ffv1_matroska.specs.Given.{GivesThen, GivesTo, ReadsToEnd, StopsEarly};
 ghost use Rattle.ffv1_matroska.specs.MatroskaFiles.{AreBefore, FileBegins, MatroskaFile};
@@ -54,6 +59,34 @@ pub fn clusters_hold_listed_elements()
         is_outside (number_of ident) ≡ true →
         cluster_read track place (ident ++ rest) ≡ Err (Met fault.BadElement rest) }
     ensures apart { (ident size : ℕ) → IsListed ident size → is_outside ident ≡ false }
+{}
+
+/// A BlockGroup has a Block: each of a file that is read has one. One that ends without one may be
+/// a frame whose Block's ID was changed; it is refused at its end, and its place is its first byte,
+/// since it is read up to its first Block as one element, in a Cluster of known size and in one of
+/// unknown size. The frames before it are given, one by one.
+pub fn groups_have_a_block()
+    ensures pieces { (track : TrackNumbers) (ident size : List ℕ) (leaves : List Leaf) →
+        IsPiece track (Group ident size leaves) → HasIdent block leaves }
+    ensures refused { (track : TrackNumbers) (base : Place) (left : ℕ) (sum : Sum)
+        (ident size : List ℕ) (leaves : List Leaf) (rest : List ℕ) →
+        SaysIdent ident block_group → SaysSize size (Some (length (leaves_text leaves))) →
+        length (ident ++ size) + length (leaves_text leaves) ≤ left →
+        AreLeaves block track leaves → (HasIdent block leaves → ⊥) →
+        element_taken track (cluster_at base left sum)
+        ((ident ++ size) ++ (leaves_text leaves ++ rest)) ≡ Err (Met fault.BadElement rest) }
+    ensures loose { (track : TrackNumbers) (base : Place) (left : ℕ) (ident size : List ℕ)
+        (leaves : List Leaf) (rest : List ℕ) → SaysIdent ident block_group →
+        SaysSize size (Some (length (leaves_text leaves))) →
+        length (ident ++ size) + length (leaves_text leaves) ≤ left →
+        AreLeaves block track leaves → (HasIdent block leaves → ⊥) →
+        element_taken track (segment_at base true left)
+        ((ident ++ size) ++ (leaves_text leaves ++ rest)) ≡ Err (Met fault.BadElement rest) }
+    ensures given { (file text : List ℕ) (track : Track) (left : ℕ) (rest : List ℕ)
+        (b : ClusterBegins file track left text) (g : GroupBegins text track.numbers left 0 rest) →
+        (HasIdent block g.leaves → ⊥) →
+        GivesThen file track.head (parts_frames b.segment.parts ++ pieces_frames b.pieces)
+        (Met fault.BadElement rest) }
 {}
 
 /// A block is of a track that Tracks have: one whose number is that of no entry is refused after

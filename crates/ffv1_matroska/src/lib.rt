@@ -20,6 +20,7 @@
 
 mod beginning;
 mod block;
+mod colour;
 mod frames;
 pub mod laws;
 mod opening;

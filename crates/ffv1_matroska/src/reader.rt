@@ -70,7 +70,8 @@ impl<A: Allocator + Copy> MatroskaReader<A> {
     /// does. `NoFfv1` if no track is FFV1 video, `Encoded` if the one that counts is compressed or
     /// encrypted. `Checksum` if a CRC-32 is not the sum, which is known at the end of the element.
     /// `Read` if a read failed, `OutOfMemory`. A fault of the header of EBML or of Tracks comes
-    /// after all of their bytes.
+    /// after all of their bytes. What Video says of colours has no fault: what of it can't be read
+    /// says nothing.
     pub fn open<R: ByteIn>(alloc: A, input: &mut R) -> Result<MatroskaReader<A>, FileFault>
         ensures answer { AnswersOrFaults fault.NoTracks HasEnded opened_at open_read
             (passage R.remaining R.failures input.old input.new) result }
@@ -133,6 +134,7 @@ impl<A: Allocator + Copy> MatroskaReader<A> {
                 height: numbers.height,
                 rate: numbers.rate,
                 scale: numbers.scale,
+                colour: numbers.colour,
                 config_record,
             },
             track: numbers.numbers,
@@ -161,7 +163,7 @@ impl<A: Allocator> MatroskaReader<A> {
     }
 
     /// The number of bytes of the file before where the reader stands; after a fault, before the
-    /// element at fault. No greater than 2^64 - 1.
+    /// element at fault: a BlockGroup is one up to its first Block. No greater than 2^64 - 1.
     pub fn offset(&self) -> u64
         ensures { result ≡ self.now.offset }
     {
@@ -177,14 +179,14 @@ impl<A: Allocator> MatroskaReader<A> {
     /// what comes before a frame does not fit in what it stands in, or the input ends inside it.
     /// `BadElement` if an ID has more than 4 bytes, a size or a track number more than 8, a size is
     /// unknown other than that of a Cluster, an element may not stand in a Segment or in a Cluster,
-    /// where Timestamp, Position and PrevSize have at most 8 bytes, or, after its number, if a
-    /// block has a number that no track has, or one above 127 and no track has one above that.
-    /// `Laced` for a block with lacing. `ChunkTooLong` for a frame above 1073741824 bytes, of which
-    /// no byte is read, `EmptyFrame` for one of none. `Checksum` if a CRC-32 is not the sum, which
-    /// is known at the end of the element: of a Cluster, before the frame is given that ends it.
-    /// `Read` if a read failed, `OutOfMemory`. After a fault the vector holds a beginning of the
-    /// frame, and each further call answers the fault again, empties the vector and reads nothing.
-    /// The vector has room as `ffv1_reads::fill` says.
+    /// where Timestamp, Position and PrevSize have at most 8 bytes, a BlockGroup ends without a
+    /// Block, or, after its number, if a block has a number that no track has, or one above 127 and
+    /// no track has one above that. `Laced` for a block with lacing. `ChunkTooLong` for a frame
+    /// above 1073741824 bytes, of which no byte is read, `EmptyFrame` for one of none. `Checksum`
+    /// if a CRC-32 is not the sum, which is known at the end of the element: of a Cluster, before
+    /// the frame is given that ends it. `Read` if a read failed, `OutOfMemory`. After a fault the
+    /// vector holds a beginning of the frame, and each further call answers the fault again,
+    /// empties the vector and reads nothing. The vector has room as `ffv1_reads::fill` says.
     pub fn next_frame<R: ByteIn>(
         &mut self,
         input: &mut R,

@@ -9,6 +9,7 @@ ghost use Rattle.ffv1_reads.specs.Reads.{Answers};
 ghost use Rattle.ffv1_matroska.specs.Internal.{bytes_of};
 ghost use Rattle.ffv1_reads.specs.Ends.{AnswersOrNone};
 ghost use Rattle.ffv1_matroska.specs.Places.{amount};
+ghost use Rattle.ffv1_matroska.specs.Segments.{block_sought};
 ghost use Rattle.ffv1_matroska.specs.Segments.{child_by, cluster_child, cluster_read, crc_read};
 ghost use Rattle.ffv1_matroska.specs.Segments.{first_child, group_child, group_read, header_read};
 ghost use Rattle.ffv1_matroska.specs.Segments.{is_beside, is_filler, is_of_cluster, is_section};
@@ -21,7 +22,9 @@ use crate::place::{
     Place, Step, closed, cluster_at, cluster_entered, group_at, segment_at, summed_at,
 };
 use crate::track::TrackNumbers;
-use ffv1_ebml::{Element, Sum, first_element, next_element, next_element_in, pass_content};
+use ffv1_ebml::{
+    Element, Sum, first_element, next_element, next_element_in, pass_content, pass_summed,
+};
 use ffv1_reads::{FileFault, take};
 use ffv1_wire::ByteIn;
 
@@ -150,8 +153,39 @@ fn read_group<R: ByteIn>(
     group_child(input, track, element, group_at(place, element.left, sum))
 }
 
-/// An element of a Cluster, of so many bytes, after its header. `BadElement` if it may not stand
-/// there.
+/// The first Block of a BlockGroup, up to its frame; what comes before it is passed.
+///
+/// `BadElement` if the group ends before it has one, or if the size of an element is unknown.
+#[tactic(auto, unfolding(crate::specs::Segments::block_sought))]
+fn seek_block<R: ByteIn>(
+    input: &mut R,
+    track: TrackNumbers,
+    start: Place,
+) -> Result<Option<Step>, FileFault>
+    ensures answer { Answers (λ (s : Option Step). s) (block_sought start.group track start)
+        (passage R.remaining R.failures input.old input.new) result }
+    ensures sized { IfOk result (λ o. IfSome o (λ s. IfSome s.frame
+        (λ n. (0 < n) × (n ≤ 1073741824)))) }
+    ensures most { IfOk result (λ o. IfSome o (λ s. amount s.place ≤ amount start)) }
+{
+    let mut place = start;
+    while place.group > 0 {
+        let mut sum = place.sum;
+        let element = next_element(input, place.group, &mut sum)?;
+        let Some(size) = element.size else {
+            return Err(FileFault::BadElement);
+        };
+        if element.ident == BLOCK {
+            return read_block(input, track, size, group_at(place, element.left, sum));
+        }
+        pass_summed(input, size, &mut sum)?;
+        place = group_at(place, element.left, sum);
+    }
+    Err(FileFault::BadElement)
+}
+
+/// An element of a Cluster, of so many bytes, after its header; of a BlockGroup up to its first
+/// Block. `BadElement` if it may not stand there, or if a BlockGroup has no Block.
 #[tactic(auto, unfolding(crate::specs::Segments::cluster_child))]
 fn cluster_child<R: ByteIn>(
     input: &mut R,
@@ -173,7 +207,7 @@ fn cluster_child<R: ByteIn>(
         return read_block(input, track, size, place);
     }
     if ident == BLOCK_GROUP {
-        return closed(group_at(place, size, place.sum));
+        return seek_block(input, track, group_at(place, size, place.sum));
     }
     if !is_beside(ident, size) {
         return Err(FileFault::BadElement);

@@ -11,10 +11,11 @@ ghost use Rattle.ffv1_matroska.specs.Tracks.{first_track, known_in, known_up_to,
 ghost use Rattle.ffv1_matroska.specs.Tracks.{record_of, track_at, track_in, track_of, with_number};
 ghost use Rattle.ffv1_matroska.specs.Blocks.{bit_of, is_unknown};
 
+use crate::colour::colour_in;
 use crate::rate::rate_of;
 use byteorder::{ByteOrder, LittleEndian};
 use ffv1_ebml::{Child, find, first_child, judge, number, text};
-use ffv1_reads::FileFault;
+use ffv1_reads::{Colour, FileFault, is_ffv1};
 
 const TRACK_ENTRY: u32 = 0xAE;
 
@@ -54,6 +55,7 @@ pub(crate) struct Track<'a> {
     pub(crate) height: u32,
     pub(crate) rate: u32,
     pub(crate) scale: u32,
+    pub(crate) colour: Colour,
     pub(crate) config_record: &'a [u8],
 }
 
@@ -65,6 +67,7 @@ pub(crate) struct Numbers {
     pub(crate) height: u32,
     pub(crate) rate: u32,
     pub(crate) scale: u32,
+    pub(crate) colour: Colour,
 }
 
 /// The number that the first element with this ID holds, and 0 if there is none.
@@ -88,11 +91,11 @@ pub(crate) fn content_at(content: &[u8], ident: u32) -> Result<&[u8], FileFault>
     }
 }
 
-/// Whether a format of Video for Windows is that of FFV1.
+/// Whether a format of Video for Windows is that of FFV1, in great or small letters.
 fn is_format(format: &[u8]) -> bool
     ensures { result ≡ is_format format.now }
 {
-    format.len() >= 40 && &format[16..20] == b"FFV1".as_slice()
+    format.len() >= 40 && is_ffv1(&format[16..20])
 }
 
 /// Where the record ends in a format of so many bytes, of which the first number is this one.
@@ -175,6 +178,7 @@ fn track_of<'a>(content: &[u8], config_record: &'a [u8]) -> Result<Track<'a>, Fi
         height,
         rate,
         scale,
+        colour: colour_in(video),
         config_record,
     })
 }
@@ -203,7 +207,8 @@ fn track_at<'a>(child: &Child<'a>) -> Result<Option<Track<'a>>, FileFault>
 /// be read: those of the content up to the entry that counts, and of an entry those up to the last
 /// of the fields that are looked for, in the order TrackType, CodecID, CodecPrivate,
 /// ContentEncodings, TrackNumber, DefaultDuration, Video, and in that PixelWidth and PixelHeight. A
-/// field is looked for only while the entry may be one of FFV1 video.
+/// field is looked for only while the entry may be one of FFV1 video. What Video says of colours
+/// has no fault.
 #[tactic(auto, unfolding(crate::specs::Tracks::first_track))]
 fn first_track(content: &[u8]) -> Result<Track<'_>, FileFault>
     ensures value { tracks result ≡ first_track content.now }
@@ -298,6 +303,7 @@ pub(crate) fn read_track(content: &[u8]) -> Result<Track<'_>, FileFault>
         height: track.height,
         rate: track.rate,
         scale: track.scale,
+        colour: track.colour,
         config_record: track.config_record,
     })
 }

@@ -1,6 +1,7 @@
 -- The format of a stream of Video for Windows: BITMAPINFOHEADER, and after its 40 bytes the
 -- configuration record (RFC 9043, 4.3.3; RFC 9559, 8).
-use Rattle.std.specs.Prelude.{ℕ, ◌&&◌, if◌then◌else◌, nat_lt, List, [], ◌∷◌, ◌++◌, codes}
+use Rattle.std.specs.Str.{str_eq_ignore_ascii_case}
+use Rattle.std.specs.Prelude.{ℕ, ◌&&◌, Bool, if◌then◌else◌, nat_lt, List, [], ◌∷◌, ◌++◌, codes}
 use Rattle.byteorder.specs.Endian.{little_bytes}
 
 -- a number of 4 bytes
@@ -10,6 +11,10 @@ number n = little_bytes 4 n
 -- two numbers of 2 bytes
 abbrev pub pair : ℕ → ℕ → List ℕ
 pair a b = little_bytes 2 a ++ little_bytes 2 b
+
+-- these bytes are the name of FFV1, of which each letter may be small
+unfoldable pub is_ffv1 : List ℕ → Bool
+is_ffv1 bytes = str_eq_ignore_ascii_case bytes (codes "FFV1")
 
 -- the header, with its own size, that of pictures in samples, and that of a picture in bytes:
 -- biSize, biWidth, biHeight, biPlanes (which is always 1) and biBitCount (three samples of 8),

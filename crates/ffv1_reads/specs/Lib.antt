@@ -1,3 +1,4 @@
+pub mod Colour
 pub mod Head
 pub mod Bitmap
 pub mod Reads

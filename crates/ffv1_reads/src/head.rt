@@ -1,5 +1,6 @@
 //! What the head of a file says, and how long what a file has may be.
 
+use crate::colour::Colour;
 use std::alloc::{Allocator, Global};
 
 /// The most bytes of what a container says before its frames that are read, and of a frame where no
@@ -20,6 +21,8 @@ pub struct FileHead<A: Allocator = Global> {
     pub rate: u32,
     /// See `rate`.
     pub scale: u32,
+    /// What the samples of pictures stand for; unsaid if the file says nothing of it.
+    pub colour: Colour,
     /// The configuration record of FFV1, as it stands in the file.
     pub config_record: Vec<u8, A>,
 }

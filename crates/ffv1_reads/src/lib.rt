@@ -16,11 +16,15 @@
 //! ```
 #![tactic(auto)]
 
+pub mod bitmap;
 pub mod bytes;
+pub mod colour;
 pub mod fault;
 pub mod head;
 pub mod laws;
 
+pub use bitmap::is_ffv1;
 pub use bytes::{append, fill, pass, take, take_after};
+pub use colour::Colour;
 pub use fault::FileFault;
 pub use head::{FRAME_LIMIT, FileHead, LIMIT};

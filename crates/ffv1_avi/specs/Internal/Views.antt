@@ -7,6 +7,7 @@ use Rattle.ffv1_avi.specs.declared.open.Top.{Top}
 use Rattle.ffv1_avi.specs.declared.open.Top.TheVariants.{On, Movi}
 use Rattle.ffv1_avi.specs.declared.place.Place.{Place}
 use Rattle.ffv1_avi.specs.Files.{Headers}
+use Rattle.ffv1_reads.specs.Colour.{unsaid}
 use Rattle.ffv1_reads.specs.Head.{Head}
 use Rattle.ffv1_avi.specs.Streams.{Format, Known}
 
@@ -18,6 +19,7 @@ head_with s bytes =
       height = s.height;
       rate = s.rate;
       scale = s.scale;
+      colour = unsaid;
       config_record = bytes;
     }
 

@@ -72,6 +72,7 @@ impl Bytes {
         requires room { length self.old ≤ 499 }
         ensures value { self.new ≡ self.old ++ number_element ident width number }
         ensures len { length self.new ≤ length self.old + 13 }
+        ensures short { length self.new ≤ length self.old + 5 + width }
     {
         let element = spelled_number(ident, width, number);
         self.put(element.as_slice());

@@ -9,14 +9,16 @@ ghost use Rattle.ffv1_matroska.specs.Written.{codec_name, private_content, priva
 ghost use Rattle.ffv1_matroska.specs.Written.{private_front, short_element};
 ghost use Rattle.ffv1_matroska.specs.declared.track_entry.CodecId.TheVariants.{Vfw};
 ghost use Rattle.ffv1_reads.specs.Writes.{Writes};
-ghost use Rattle.ffv1_matroska.specs.Written.{display, duration_field, entry_fields, interlaced_of};
+ghost use Rattle.ffv1_matroska.specs.Written.{colour_content, colour_element, display};
+ghost use Rattle.ffv1_matroska.specs.Written.{duration_field, entry_fields, interlaced_of};
+ghost use Rattle.ffv1_matroska.specs.Written.{said_field};
 ghost use Rattle.ffv1_matroska.specs.Written.{order_element, tracks_element, video_content};
 
 use crate::rate::duration_of;
 use crate::track_entry::{CodecId, TrackEntry};
 use crate::write::bytes::Bytes;
 use crate::write::send::send;
-use ffv1_reads::{FileFault, FileHead};
+use ffv1_reads::{Colour, FileFault, FileHead};
 use ffv1_sum::more;
 use ffv1_wire::ByteOut;
 use std::alloc::Allocator;
@@ -78,11 +80,53 @@ fn display<A: Allocator>(head: &FileHead<A>, details: TrackEntry) -> Bytes
     elements
 }
 
+/// A number of colours, if it is said.
+fn put_said(elements: &mut Bytes, ident: u32, default: u8, value: u8)
+    requires { length elements.old ≤ 499 }
+    ensures value { elements.new ≡ elements.old ++ said_field ident default value }
+    ensures len { length elements.new ≤ length elements.old + 6 }
+{
+    if value != default {
+        elements.number(ident, 1, u64::from(value));
+    }
+}
+
+/// What is said of colours.
+#[tactic(auto, unfolding(crate::specs::Written::colour_content))]
+fn colour_content(colour: Colour) -> Bytes
+    ensures value { result ≡ colour_content colour }
+    ensures len { length result ≤ 36 }
+{
+    let mut content = Bytes::new();
+    put_said(&mut content, 0x55B1, 2, colour.matrix); // MatrixCoefficients
+    put_said(&mut content, 0x55B7, 0, colour.siting_across); // ChromaSitingHorz
+    put_said(&mut content, 0x55B8, 0, colour.siting_down); // ChromaSitingVert
+    put_said(&mut content, 0x55B9, 0, colour.range); // Range
+    put_said(&mut content, 0x55BA, 2, colour.transfer); // TransferCharacteristics
+    put_said(&mut content, 0x55BB, 2, colour.primaries); // Primaries
+    content
+}
+
+/// The element Colour, if anything is said.
+#[tactic(auto, unfolding(crate::specs::Written::colour_element))]
+fn colour_element(colour: Colour) -> Bytes
+    ensures value { result ≡ colour_element colour }
+    ensures len { length result ≤ 41 }
+{
+    let content = colour_content(colour);
+    let mut element = Bytes::new();
+    if content.len() == 0 {
+        return element;
+    }
+    element.short(0x55B0, content.as_slice());
+    element
+}
+
 /// The content of Video.
 #[tactic(auto, unfolding(crate::specs::Written::video_content))]
 fn video_content<A: Allocator>(head: &FileHead<A>, details: TrackEntry) -> Bytes
     ensures value { result ≡ video_content (head_of head.now) details }
-    ensures len { length result ≤ 91 }
+    ensures len { length result ≤ 117 }
 {
     let mut content = Bytes::new();
     content.number(0xB0, 4, u64::from(head.width)); // PixelWidth
@@ -90,6 +134,7 @@ fn video_content<A: Allocator>(head: &FileHead<A>, details: TrackEntry) -> Bytes
     content.number(0x9A, 1, interlaced_of(details.structure)); // FlagInterlaced
     content.put(order_element(details.structure).as_slice());
     content.put(display(head, details).as_slice());
+    content.put(colour_element(head.colour).as_slice());
     content
 }
 

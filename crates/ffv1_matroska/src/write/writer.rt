@@ -135,6 +135,7 @@ impl<A: Allocator> MatroskaWriter<A> {
             height: head.height,
             rate: head.rate,
             scale: head.scale,
+            colour: head.colour,
             config_record,
         };
         Ok(MatroskaWriter {

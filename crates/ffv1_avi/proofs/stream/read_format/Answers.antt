@@ -32,19 +32,19 @@ returns-in_err-take-clause-answer g c = answers_err _ _ _ _ c.from_residual-in_e
 pub returns-in_err-pass-2-clause-answer : goal.returns-in_err-pass-2-clause-answer
 returns-in_err-pass-2-clause-answer g c =
     let wrong = format_wrong c.args.extent c.args.size c.take.new.buf
-    (sym c.if-not-is_name.ensures) in
+    (sym c.if-not-is_format.ensures) in
     answers_err _ _ _ _ c.from_residual-in_err-pass-2.ensures.1
     (answers_same (format_long _ _ c.if-size-lt40.false)
     (answers_next _ c.in_ok-take.ensures (answers_same wrong
-    (answers_first _ _ (rw c.padded-then-not-is_name.ensures at c.in_err-pass-2.ensures)))))
+    (answers_first _ _ (rw c.padded-then-not-is_format.ensures at c.in_err-pass-2.ensures)))))
 
-pub returns-then-not-is_name-clause-answer : goal.returns-then-not-is_name-clause-answer
-returns-then-not-is_name-clause-answer g c =
+pub returns-then-not-is_format-clause-answer : goal.returns-then-not-is_format-clause-answer
+returns-then-not-is_format-clause-answer g c =
     let wrong = format_wrong c.args.extent c.args.size c.take.new.buf
-    (sym c.if-not-is_name.ensures) in
+    (sym c.if-not-is_format.ensures) in
     answers_ok (answers_same (format_long _ _ c.if-size-lt40.false)
     (answers_next _ c.in_ok-take.ensures (answers_same wrong
-    (answers_next _ (rw c.padded-then-not-is_name.ensures at c.in_ok-pass-2.ensures)
+    (answers_next _ (rw c.padded-then-not-is_format.ensures at c.in_ok-pass-2.ensures)
     answers_given))))
 
 -- the record ends where the format says
@@ -58,7 +58,7 @@ returns-in_err-fill-clause-answer g c =
     let head = c.take.new.buf in
     let right = format_right c.args.extent _ c.args.size head
     (ends_there c.args.extent c.args.size head c.record_end-end.ensures.value
-    c.read_u32.ensures) (sym c.if-not-is_name.ensures) in
+    c.read_u32.ensures) (sym c.if-not-is_format.ensures) in
     answers_err _ _ _ _ c.from_residual-in_err-fill.ensures.1
     (answers_same (format_long _ _ c.if-size-lt40.false)
     (answers_next _ c.in_ok-take.ensures (answers_same right
@@ -69,7 +69,7 @@ returns-in_err-pass-3-clause-answer g c =
     let head = c.take.new.buf in
     let right = format_right c.args.extent _ c.args.size head
     (ends_there c.args.extent c.args.size head c.record_end-end.ensures.value
-    c.read_u32.ensures) (sym c.if-not-is_name.ensures) in
+    c.read_u32.ensures) (sym c.if-not-is_format.ensures) in
     answers_err _ _ _ _ c.from_residual-in_err-pass-3.ensures.1
     (answers_same (format_long _ _ c.if-size-lt40.false)
     (answers_next _ c.in_ok-take.ensures (answers_same right
@@ -81,7 +81,7 @@ returns-clause-answer g c =
     let head = c.take.new.buf in
     let right = format_right c.args.extent _ c.args.size head
     (ends_there c.args.extent c.args.size head c.record_end-end.ensures.value
-    c.read_u32.ensures) (sym c.if-not-is_name.ensures) in
+    c.read_u32.ensures) (sym c.if-not-is_format.ensures) in
     let width : c.read_u32-width.result ≡ little_number 4
     (drop 4 head) = c.read_u32-width.ensures ∙ number_taken 36 (drop 4 head) (omega arith) in
     let height : c.read_u32-height.result ≡ little_number 4
@@ -111,8 +111,8 @@ returns-in_err-pass-2-clause-room g c =
     c.from_residual-in_err-pass-2.ensures.1 in
     rw p.1 (grind (arith, common_steps))
 
-pub returns-then-not-is_name-clause-room : goal.returns-then-not-is_name-clause-room
-returns-then-not-is_name-clause-room g c = grind (arith, common_steps)
+pub returns-then-not-is_format-clause-room : goal.returns-then-not-is_format-clause-room
+returns-then-not-is_format-clause-room g c = grind (arith, common_steps)
 
 pub returns-in_err-fill-clause-room : goal.returns-in_err-fill-clause-room
 returns-in_err-fill-clause-room g c =
@@ -129,8 +129,8 @@ returns-in_err-pass-3-clause-room g c =
 pub returns-clause-room : goal.returns-clause-room
 returns-clause-room g c = grind (arith, common_steps)
 
-pub returns-then-not-is_name-clause-grown : goal.returns-then-not-is_name-clause-grown
-returns-then-not-is_name-clause-grown g c = room_then (room_kept _ c.in_ok-take.ensures.1)
+pub returns-then-not-is_format-clause-grown : goal.returns-then-not-is_format-clause-grown
+returns-then-not-is_format-clause-grown g c = room_then (room_kept _ c.in_ok-take.ensures.1)
     (room_kept _ c.in_ok-pass-2.ensures.1)
 
 pub returns-clause-grown : goal.returns-clause-grown

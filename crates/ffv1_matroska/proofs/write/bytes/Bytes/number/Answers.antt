@@ -14,3 +14,9 @@ returns-clause-len c =
     let e = ap length (c.as_slice.ensures ∙ c.spelled_number-element.ensures) ∙ number_long
     c.args.ident c.args.width c.args.number in
     omega (arith, e, ident_most c.args.ident, c.put.ensures.len)
+
+pub returns-clause-short : goal.returns-clause-short
+returns-clause-short c =
+    let e = ap length (c.as_slice.ensures ∙ c.spelled_number-element.ensures) ∙ number_long
+    c.args.ident c.args.width c.args.number in
+    omega (arith, e, ident_most c.args.ident, c.put.ensures.len)

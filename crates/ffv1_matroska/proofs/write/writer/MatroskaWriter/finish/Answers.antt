@@ -1,12 +1,12 @@
 -- Writes Cues, and then writes over all that comes before Tracks: the Segment's size, where Cues
 -- begin and how long the frames last become known.
-use Rattle.std.proofs.Common.{◌≡◌, ◌+◌, ◌∙◌, length, arith, ap, sym}
+use Rattle.std.proofs.Common.{◌≡◌, ◌+◌, ◌∙◌, length, arith, ap, inl, sym}
 use Rattle.ffv1_reads.specs.Head.{head_of}
 use Rattle.ffv1_matroska.specs.Written.{cues_element}
 use Rattle.ffv1_matroska.specs.Writers.{Writing}
 use Rattle.ffv1_matroska.proofs.Finishing.{fails_by, finish_is, finishes_by}
 use Rattle.ffv1_matroska.proofs.OpeningLength.{opening_long}
-use Rattle.ffv1_matroska.proofs.Pieces.{done_of}
+use Rattle.ffv1_matroska.proofs.Pieces.{done_of, failed_of}
 use Rattle.ffv1_matroska.proofs.WrittenLengths.{cues_long}
 use Rattle.ffv1_matroska.proofs.write.writer.MatroskaWriter.finish.Goals as goal
 
@@ -15,6 +15,12 @@ patch-requires g c =
     let long = ap length (c.as_slice-2.ensures ∙ c.opening-opening.ensures) ∙ opening_long _ _ in
     let begins = c.self.invariant.begins in
     omega (arith, long, begins)
+
+pub returns-then-is_err-clause-answer : goal.returns-then-is_err-clause-answer
+returns-then-is_err-clause-answer g c = λ lives some.
+    let stopped = failed_of _ _ _ _ _ _ (sym c.is_err.ensures.value ∙ c.if-is_err.true)
+    (rw c.as_slice.ensures.value at c.put_cues.ensures) in
+    rw (← c.self.view_is) (stopped.0, inl stopped.1)
 
 pub returns-in-Ok-clause-answer : goal.returns-in-Ok-clause-answer
 returns-in-Ok-clause-answer g c = λ lives some.

@@ -24,6 +24,7 @@ invariant_of-result g c =
       height = h.height;
       rate = h.rate;
       scale = h.scale;
+      colour = h.colour;
       config_record = c.in_ok-config_record.config_record.items;
     } ≡ h =
     ap (λ r. record {
@@ -31,6 +32,7 @@ invariant_of-result g c =
       height = h.height;
       rate = h.rate;
       scale = h.scale;
+      colour = h.colour;
       config_record = r;
     }) items in
     let at : 148 + c.tracks_size-at.result ≡ first_place h c.args.details = ap (λ n. 148 + n)
@@ -54,6 +56,7 @@ returns g c =
       height = h.height;
       rate = h.rate;
       scale = h.scale;
+      colour = h.colour;
       config_record = c.in_ok-config_record.config_record.items;
     } ≡ h =
     ap (λ r. record {
@@ -61,6 +64,7 @@ returns g c =
       height = h.height;
       rate = h.rate;
       scale = h.scale;
+      colour = h.colour;
       config_record = r;
     }) items in
     let at : 148 + c.tracks_size-at.result ≡ first_place h c.args.details = ap (λ n. 148 + n)
