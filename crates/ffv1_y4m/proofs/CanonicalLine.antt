@@ -1,5 +1,5 @@
--- The canonical header is read as its head.
-use Rattle.std.proofs.Common.{◌≡◌, ℕ, ◌-◌, subst, ◌+◌, ◌^◌, ◌<◌, ◌≤◌, ◌==◌, zero, suc, Bool, true, false, cond, Some, None, List, [], ◌∷◌, ◌++◌, length, drop, get_or, codes, decimal, Ok, refl, ap, ◌∙◌, sym, append_assoc, arith, length-append}
+-- The line of the canonical header says its head.
+use Rattle.std.proofs.Common.{◌≡◌, ℕ, ◌-◌, subst, ◌+◌, ◌^◌, ◌<◌, ◌≤◌, ◌==◌, zero, suc, Bool, true, false, ◌&&◌, nat_lt, cond, Option, Some, None, List, [], ◌∷◌, ◌++◌, length, drop, get_or, codes, decimal, Ok, refl, ap, ◌∙◌, sym, append_assoc, arith, length-append}
 use Rattle.std.proofs.lemmas.Bool.{le-leb, true≢false, false≢true, ne_eqb}
 use Rattle.std.proofs.lemmas.Fmt.{length-decimal-le, digits_decimal}
 use Rattle.std.proofs.lemmas.Str.Parse.{IsDigitsTest, numerals_by_value}
@@ -9,10 +9,14 @@ use Rattle.std.specs.List.{position}
 use Rattle.ffv1_y4m.specs.declared.head.VideoHead.{VideoHead}
 use Rattle.ffv1_y4m.specs.declared.tags.Chroma.{Chroma}
 use Rattle.ffv1_y4m.specs.declared.tags.Tags.{Tags}
-use Rattle.ffv1_y4m.specs.Header.{number_of, structure_of, tagged, judged, words_of, onto_first, all_judged, no_tags, head_of_tags, head_of_line, size_of, capped_of, pair_of, ratio_of, chroma_named, chroma_of, deep_chroma_of}
-use Rattle.ffv1_y4m.specs.Canonical.{structure_name, name_of_chroma, deep_name, depth_name, chroma_name, number_text, ratio_text, name_text, sizes_text, times_text, header_text}
-use Rattle.ffv1_y4m.specs.VideoHead.{IsRatio, IsHead, IsNamed, is_named}
-use Rattle.ffv1_y4m.specs.HeaderLine.{Without}
+use Rattle.ffv1_y4m.specs.Header.{number_of, structure_of, tagged, judged, words_of, onto_first, size_of, capped_of, pair_of, ratio_of, chroma_named, chroma_of, chroma_planes, deep_chroma_of, or_else, range_of}
+use Rattle.ffv1_y4m.specs.declared.head.Range.{Range}
+use Rattle.ffv1_y4m.specs.declared.head.Range.TheVariants as range
+use Rattle.ffv1_y4m.specs.declared.head.Siting.{Siting}
+use Rattle.ffv1_y4m.specs.declared.head.Siting.TheVariants as siting
+use Rattle.ffv1_y4m.specs.Canonical.{as_said, range_end, siting_name, structure_name, name_of_chroma, deep_name, depth_name, chroma_name, number_text, ratio_text, name_text, sizes_text, times_text, header_text}
+use Rattle.ffv1_y4m.specs.VideoHead.{IsRatio, IsHead, IsNamed, has_siting, is_named}
+use Rattle.ffv1_y4m.specs.HeaderLine.{AtMostOnce, AreTags, IsHeaderLine, Once, Perhaps, SaysChroma, SaysRatio, SaysSize, SaysStructure, Without, chroma_in, ranging, spaced, values_of}
 use Rattle.ffv1_y4m.proofs.Lines.{position_found}
 use Rattle.ffv1_y4m.proofs.Numbers.{number_is}
 
@@ -93,11 +97,15 @@ structure_back (suc (suc (suc zero))) h = refl
 structure_back (suc (suc (suc (suc s)))) h = absurd (omega (arith, h))
 
 -- the name of the chroma, whole
-abbrev whole_name : ℕ → Bool → ℕ → ℕ → Bool → List ℕ
-whole_name depth planes a b extra = cond (depth == 8) (name_of_chroma planes a b extra) (deep_name depth planes a b extra) ++ depth_name depth
+abbrev whole_name : ℕ → Bool → ℕ → ℕ → Bool → Option Siting → List ℕ
+whole_name depth planes a b extra s = cond (depth == 8) (name_of_chroma planes a b extra s) (deep_name depth planes a b extra) ++ depth_name depth
 
-abbrev chroma_with : ℕ → Bool → ℕ → ℕ → Bool → Chroma
-chroma_with depth planes a b extra = record { planes = planes; log2_h = a; log2_v = b; extra = extra; depth = depth }
+abbrev chroma_with : ℕ → Bool → ℕ → ℕ → Bool → Option Siting → Chroma
+chroma_with depth planes a b extra s = record { planes = planes; log2_h = a; log2_v = b; extra = extra; depth = depth; siting = s }
+
+-- the siting that a name says
+abbrev siting_by : Bool → ℕ → Bool → ℕ → ℕ → Option Siting → Option Siting
+siting_by deep depth planes a b s = cond (has_siting depth planes a b && deep) (Some (or_else s siting.Centre)) None
 
 -- a property of a depth that has a name
 by_more : (Q : ℕ → Type 0) (k : ℕ) → k ≤ 8 → Q 8 → Q 9 → Q 10 → Q 11 → Q 12 → Q 13 → Q 14 → Q 15 → Q 16 → Q (k + 8)
@@ -117,32 +125,39 @@ by_depth Q depth least most a b c d e f g h i =
     let same : depth - 8 + 8 ≡ depth = omega (arith, least) in
     subst Q same (by_more Q (depth - 8) (omega (arith, least, most)) a b c d e f g h i)
 
-abbrev Back : Bool → ℕ → ℕ → Bool → ℕ → Type 0
-Back planes a b extra depth = is_named depth planes a b extra ≡ true → chroma_named (whole_name depth planes a b extra) ≡ Some (chroma_with depth planes a b extra)
+abbrev Back : Bool → Option Siting → Bool → ℕ → ℕ → Bool → ℕ → Type 0
+Back deep s planes a b extra depth = is_named depth planes a b extra ≡ true → chroma_named deep (whole_name depth planes a b extra s) ≡ Some (chroma_with depth planes a b extra (siting_by deep depth planes a b s))
 
-chroma_back : (planes : Bool) (a b : ℕ) (extra : Bool) (depth : ℕ) → 8 ≤ depth → depth ≤ 16 → Back planes a b extra depth
+half_back : (deep : Bool) (s : Option Siting) → chroma_named deep (whole_name 8 true 1 1 false s) ≡ Some (chroma_with 8 true 1 1 false (siting_by deep 8 true 1 1 s))
+unfolding chroma_named
+half_back true None = refl
+half_back true (Some siting.Centre) = refl
+half_back true (Some siting.Left) = refl
+half_back true (Some siting.TopLeft) = refl
+half_back false None = refl
+half_back false (Some siting.Centre) = refl
+half_back false (Some siting.Left) = refl
+half_back false (Some siting.TopLeft) = refl
+
+chroma_back : (deep : Bool) (s : Option Siting) (planes : Bool) (a b : ℕ) (extra : Bool) (depth : ℕ) → 8 ≤ depth → depth ≤ 16 → Back deep s planes a b extra depth
 unfolding chroma_named deep_chroma_of
-chroma_back true zero zero true depth least most = by_depth (Back true 0 0 true) depth least most (λ h. refl) (λ h. absurd (false≢true h)) (λ h. absurd (false≢true h)) (λ h. absurd (false≢true h)) (λ h. absurd (false≢true h)) (λ h. absurd (false≢true h)) (λ h. absurd (false≢true h)) (λ h. absurd (false≢true h)) (λ h. absurd (false≢true h))
-chroma_back true zero zero false depth least most = by_depth (Back true 0 0 false) depth least most (λ h. refl) (λ h. refl) (λ h. refl) (λ h. absurd (false≢true h)) (λ h. refl) (λ h. absurd (false≢true h)) (λ h. refl) (λ h. absurd (false≢true h)) (λ h. refl)
-chroma_back true zero (suc b) true depth least most = λ h. absurd (false≢true h)
-chroma_back true zero (suc b) false depth least most = λ h. absurd (false≢true h)
-chroma_back true (suc zero) zero true depth least most = λ h. absurd (false≢true h)
-chroma_back true (suc zero) zero false depth least most = by_depth (Back true 1 0 false) depth least most (λ h. refl) (λ h. refl) (λ h. refl) (λ h. absurd (false≢true h)) (λ h. refl) (λ h. absurd (false≢true h)) (λ h. refl) (λ h. absurd (false≢true h)) (λ h. refl)
-chroma_back true (suc zero) (suc zero) true depth least most = λ h. absurd (false≢true h)
-chroma_back true (suc zero) (suc zero) false depth least most = by_depth (Back true 1 1 false) depth least most (λ h. refl) (λ h. refl) (λ h. refl) (λ h. absurd (false≢true h)) (λ h. refl) (λ h. absurd (false≢true h)) (λ h. refl) (λ h. absurd (false≢true h)) (λ h. refl)
-chroma_back true (suc zero) (suc (suc b)) extra depth least most = λ h. absurd (false≢true h)
-chroma_back true (suc (suc zero)) zero true depth least most = λ h. absurd (false≢true h)
-chroma_back true (suc (suc zero)) zero false depth least most = by_depth (Back true 2 0 false) depth least most (λ h. refl) (λ h. absurd (false≢true h)) (λ h. absurd (false≢true h)) (λ h. absurd (false≢true h)) (λ h. absurd (false≢true h)) (λ h. absurd (false≢true h)) (λ h. absurd (false≢true h)) (λ h. absurd (false≢true h)) (λ h. absurd (false≢true h))
-chroma_back true (suc (suc zero)) (suc b) extra depth least most = λ h. absurd (false≢true h)
-chroma_back true (suc (suc (suc a))) b extra depth least most = λ h. absurd (false≢true h)
-chroma_back false zero zero true depth least most = λ h. absurd (false≢true h)
-chroma_back false zero zero false depth least most = by_depth (Back false 0 0 false) depth least most (λ h. refl) (λ h. refl) (λ h. refl) (λ h. absurd (false≢true h)) (λ h. refl) (λ h. absurd (false≢true h)) (λ h. absurd (false≢true h)) (λ h. absurd (false≢true h)) (λ h. refl)
-chroma_back false zero (suc b) extra depth least most = λ h. absurd (false≢true h)
-chroma_back false (suc a) b extra depth least most = λ h. absurd (false≢true h)
-
--- the name is read as its chroma, if its depth is read
-capped_back_by : (most : ℕ) (c : Chroma) (value : List ℕ) → chroma_named value ≡ Some c → c.depth ≤ most → chroma_of most value ≡ Some c
-capped_back_by most c value is small = rw (is, le-leb c.depth most small) refl
+chroma_back deep s true zero zero true depth least most = by_depth (Back deep s true 0 0 true) depth least most (λ h. refl) (λ h. absurd (false≢true h)) (λ h. absurd (false≢true h)) (λ h. absurd (false≢true h)) (λ h. absurd (false≢true h)) (λ h. absurd (false≢true h)) (λ h. absurd (false≢true h)) (λ h. absurd (false≢true h)) (λ h. absurd (false≢true h))
+chroma_back deep s true zero zero false depth least most = by_depth (Back deep s true 0 0 false) depth least most (λ h. refl) (λ h. refl) (λ h. refl) (λ h. absurd (false≢true h)) (λ h. refl) (λ h. absurd (false≢true h)) (λ h. refl) (λ h. absurd (false≢true h)) (λ h. refl)
+chroma_back deep s true zero (suc b) true depth least most = λ h. absurd (false≢true h)
+chroma_back deep s true zero (suc b) false depth least most = λ h. absurd (false≢true h)
+chroma_back deep s true (suc zero) zero true depth least most = λ h. absurd (false≢true h)
+chroma_back deep s true (suc zero) zero false depth least most = by_depth (Back deep s true 1 0 false) depth least most (λ h. refl) (λ h. refl) (λ h. refl) (λ h. absurd (false≢true h)) (λ h. refl) (λ h. absurd (false≢true h)) (λ h. refl) (λ h. absurd (false≢true h)) (λ h. refl)
+chroma_back deep s true (suc zero) (suc zero) true depth least most = λ h. absurd (false≢true h)
+chroma_back deep s true (suc zero) (suc zero) false depth least most = by_depth (Back deep s true 1 1 false) depth least most (λ h. half_back deep s) (λ h. refl) (λ h. refl) (λ h. absurd (false≢true h)) (λ h. refl) (λ h. absurd (false≢true h)) (λ h. refl) (λ h. absurd (false≢true h)) (λ h. refl)
+chroma_back deep s true (suc zero) (suc (suc b)) extra depth least most = λ h. absurd (false≢true h)
+chroma_back deep s true (suc (suc zero)) zero true depth least most = λ h. absurd (false≢true h)
+chroma_back deep s true (suc (suc zero)) zero false depth least most = by_depth (Back deep s true 2 0 false) depth least most (λ h. refl) (λ h. absurd (false≢true h)) (λ h. absurd (false≢true h)) (λ h. absurd (false≢true h)) (λ h. absurd (false≢true h)) (λ h. absurd (false≢true h)) (λ h. absurd (false≢true h)) (λ h. absurd (false≢true h)) (λ h. absurd (false≢true h))
+chroma_back deep s true (suc (suc zero)) (suc b) extra depth least most = λ h. absurd (false≢true h)
+chroma_back deep s true (suc (suc (suc a))) b extra depth least most = λ h. absurd (false≢true h)
+chroma_back deep s false zero zero true depth least most = λ h. absurd (false≢true h)
+chroma_back deep s false zero zero false depth least most = by_depth (Back deep s false 0 0 false) depth least most (λ h. refl) (λ h. refl) (λ h. refl) (λ h. absurd (false≢true h)) (λ h. refl) (λ h. absurd (false≢true h)) (λ h. absurd (false≢true h)) (λ h. absurd (false≢true h)) (λ h. refl)
+chroma_back deep s false zero (suc b) extra depth least most = λ h. absurd (false≢true h)
+chroma_back deep s false (suc a) b extra depth least most = λ h. absurd (false≢true h)
 
 -- the words of the line
 abbrev width_word : VideoHead → List ℕ
@@ -166,9 +181,18 @@ chroma_word depth h = 67 ∷ (chroma_name depth h ++ depth_name depth)
 abbrev joined : List ℕ → List ℕ → List ℕ → List ℕ → List ℕ → List ℕ → List ℕ
 joined a b c d e f = a ++ 32 ∷ (b ++ 32 ∷ (c ++ 32 ∷ (d ++ 32 ∷ (e ++ 32 ∷ f))))
 
+-- the tag of the range, if there is one
+abbrev range_words : Option Range → List (List ℕ)
+range_words None = []
+range_words (Some range.Limited) = codes "XCOLORRANGE=LIMITED" ∷ []
+range_words (Some range.Full) = codes "XCOLORRANGE=FULL" ∷ []
+
+abbrev range_tail : Option Range → List ℕ
+range_tail r = spaced (range_words r)
+
 -- the header without its line feed
 abbrev pub head_line : ℕ → VideoHead → List ℕ
-head_line depth h = codes "YUV4MPEG2 " ++ joined (width_word h) (height_word h) (rate_word h) (structure_word h) (aspect_word h) (chroma_word depth h)
+head_line depth h = codes "YUV4MPEG2 " ++ joined (width_word h) (height_word h) (rate_word h) (structure_word h) (aspect_word h) (chroma_word depth h ++ range_tail h.range)
 
 -- three texts, the last two after two bytes
 two_behind : (x y : ℕ) (a b r s : List ℕ) → b ++ r ≡ s → (a ++ x ∷ y ∷ b) ++ r ≡ a ++ x ∷ y ∷ s
@@ -195,21 +219,23 @@ line_row a b c d e f g n =
     (ap (λ z. z ++ 10 ∷ []) (append_assoc c (58 ∷ d) (32 ∷ 73 ∷ (e ++ 32 ∷ 65 ∷ ((f ++ 58 ∷ g) ++ 32 ∷ 67 ∷ n)))) ∙ one_behind 58 c _ _ _ (two_behind 32 73 d _ _ _ (two_behind 32 65 e _ _ _
     (ap (λ z. z ++ 10 ∷ []) (append_assoc f (58 ∷ g) (32 ∷ 67 ∷ n)) ∙ one_behind 58 f _ _ _ (two_behind 32 67 g n _ _ refl))))))
 
+end_is : (r : Option Range) → range_tail r ++ 10 ∷ [] ≡ range_end r
+end_is None = refl
+end_is (Some range.Limited) = refl
+end_is (Some range.Full) = refl
+
 pub header_parts : (depth : ℕ) (h : VideoHead) → header_text depth h ≡ head_line depth h ++ 10 ∷ []
 unfolding header_text sizes_text times_text number_text ratio_text name_text
 header_parts depth h =
     let name = chroma_name depth h ++ depth_name depth in
     let a = decimal h.width in
     let b = decimal h.height in
-    let row = parts_row a b (decimal h.rate) (decimal h.scale) (structure_name h.structure) (decimal h.sar_num) (decimal h.sar_den) (name ++ 10 ∷ []) in
-    let line = line_row a b (decimal h.rate) (decimal h.scale) (structure_name h.structure) (decimal h.sar_num) (decimal h.sar_den) name in
-    let apart : name ++ 10 ∷ [] ≡ chroma_name depth h ++ (depth_name depth ++ 10 ∷ []) = append_assoc (chroma_name depth h) (depth_name depth) (10 ∷ []) in
+    let tail = range_tail h.range in
+    let row = parts_row a b (decimal h.rate) (decimal h.scale) (structure_name h.structure) (decimal h.sar_num) (decimal h.sar_den) ((name ++ tail) ++ 10 ∷ []) in
+    let line = line_row a b (decimal h.rate) (decimal h.scale) (structure_name h.structure) (decimal h.sar_num) (decimal h.sar_den) (name ++ tail) in
+    let apart : (name ++ tail) ++ 10 ∷ [] ≡ chroma_name depth h ++ (depth_name depth ++ range_end h.range) =
+    append_assoc name tail (10 ∷ []) ∙ (ap (λ z. name ++ z) (end_is h.range) ∙ append_assoc (chroma_name depth h) (depth_name depth) (range_end h.range)) in
     rw (← apart) (ap (λ z. codes "YUV4MPEG2 W" ++ z) (row ∙ sym line))
-
-words_six : (a b c d e f : List ℕ) → Without 32 a → Without 32 b → Without 32 c → Without 32 d → Without 32 e → Without 32 f →
-    words_of (joined a b c d e f) ≡ a ∷ b ∷ c ∷ d ∷ e ∷ f ∷ []
-words_six a b c d e f p q r s t u =
-    rw (words_front a (b ++ 32 ∷ (c ++ 32 ∷ (d ++ 32 ∷ (e ++ 32 ∷ f)))) p, words_front b (c ++ 32 ∷ (d ++ 32 ∷ (e ++ 32 ∷ f))) q, words_front c (d ++ 32 ∷ (e ++ 32 ∷ f)) r, words_front d (e ++ 32 ∷ f) s, words_front e f t, words_whole f u) refl
 
 -- the tags, one by one
 pub judged_width : (most : ℕ) (t : Tags) (n : ℕ) (value : List ℕ) → t.width ≡ None → size_of value ≡ Some n → judged most t (87 ∷ value) ≡ Ok (record t { width = Some n })
@@ -270,10 +296,16 @@ structure_plain b s h =
     let all = plain b (codes "ptb?") h in
     name_cond b (s == 3) (codes "p") _ (all.0, tt) (name_cond b (s == 1) (codes "t") _ (all.1.0, tt) (name_cond b (s == 2) (codes "b") (codes "?") (all.1.1.0, tt) (all.1.1.1.0, tt)))
 
-chroma_plain : (b : ℕ) (planes : Bool) (log2_h log2_v : ℕ) (extra : Bool) → all_other b (codes "444alpha") ≡ true → all_other b (codes "420jpeg") ≡ true → all_other b (codes "422") ≡ true → all_other b (codes "411") ≡ true → all_other b (codes "mono") ≡ true →
-    all_other b (codes "444") ≡ true → Without b (name_of_chroma planes log2_h log2_v extra)
-chroma_plain b planes log2_h log2_v extra p q r s t u =
-    name_cond b planes _ (codes "mono") (name_cond b extra (codes "444alpha") _ (plain b (codes "444alpha") p) (name_cond b (log2_v == 1) (codes "420jpeg") _ (plain b (codes "420jpeg") q) (name_cond b (log2_h == 1) (codes "422") _ (plain b (codes "422") r) (name_cond b (log2_h == 2) (codes "411") (codes "444") (plain b (codes "411") s) (plain b (codes "444") u))))) (plain b (codes "mono") t)
+siting_plain : (b : ℕ) (s : Option Siting) → all_other b (codes "420jpeg") ≡ true → all_other b (codes "420mpeg2") ≡ true → all_other b (codes "420paldv") ≡ true → Without b (siting_name s)
+siting_plain b None p q r = plain b (codes "420jpeg") p
+siting_plain b (Some siting.Centre) p q r = plain b (codes "420jpeg") p
+siting_plain b (Some siting.Left) p q r = plain b (codes "420mpeg2") q
+siting_plain b (Some siting.TopLeft) p q r = plain b (codes "420paldv") r
+
+chroma_plain : (b : ℕ) (planes : Bool) (log2_h log2_v : ℕ) (extra : Bool) (s : Option Siting) → all_other b (codes "444alpha") ≡ true → Without b (siting_name s) → all_other b (codes "422") ≡ true → all_other b (codes "411") ≡ true → all_other b (codes "mono") ≡ true →
+    all_other b (codes "444") ≡ true → Without b (name_of_chroma planes log2_h log2_v extra s)
+chroma_plain b planes log2_h log2_v extra s p q r i t u =
+    name_cond b planes _ (codes "mono") (name_cond b extra (codes "444alpha") _ (plain b (codes "444alpha") p) (name_cond b (log2_v == 1) (siting_name s) _ q (name_cond b (log2_h == 1) (codes "422") _ (plain b (codes "422") r) (name_cond b (log2_h == 2) (codes "411") (codes "444") (plain b (codes "411") i) (plain b (codes "444") u))))) (plain b (codes "mono") t)
 
 deep_plain : (b : ℕ) (named planes : Bool) (log2_h log2_v : ℕ) → all_other b (codes "420p") ≡ true → all_other b (codes "422p") ≡ true → all_other b (codes "444p") ≡ true → all_other b (codes "mono") ≡ true →
     Without b (cond named (cond planes (cond (log2_v == 1) (codes "420p") (cond (log2_h == 1) (codes "422p") (codes "444p"))) (codes "mono")) [])
@@ -284,73 +316,84 @@ depth_plain : (b depth : ℕ) → all_other b (codes "9") ≡ true → all_other
 depth_plain b depth p q r s t =
     name_cond b (depth == 9) (codes "9") _ (plain b (codes "9") p) (name_cond b (depth == 10) (codes "10") _ (plain b (codes "10") q) (name_cond b (depth == 12) (codes "12") _ (plain b (codes "12") r) (name_cond b (depth == 14) (codes "14") _ (plain b (codes "14") s) (name_cond b (depth == 16) (codes "16") [] (plain b (codes "16") t) tt))))
 
-chroma_name_plain : (b depth : ℕ) (h : VideoHead) → Without b (name_of_chroma h.chroma_planes h.log2_h h.log2_v h.extra_plane) → Without b (deep_name depth h.chroma_planes h.log2_h h.log2_v h.extra_plane) → Without b (depth_name depth) → Without b (chroma_name depth h ++ depth_name depth)
+chroma_name_plain : (b depth : ℕ) (h : VideoHead) → Without b (name_of_chroma h.chroma_planes h.log2_h h.log2_v h.extra_plane h.siting) → Without b (deep_name depth h.chroma_planes h.log2_h h.log2_v h.extra_plane) → Without b (depth_name depth) → Without b (chroma_name depth h ++ depth_name depth)
 chroma_name_plain b depth h p q r = without_both b (chroma_name depth h) (depth_name depth) (name_cond b (depth == 8) _ _ p q) r
 
 name_plain_32 : (depth : ℕ) (h : VideoHead) → Without 32 (chroma_name depth h ++ depth_name depth)
-name_plain_32 depth h = chroma_name_plain 32 depth h (chroma_plain 32 h.chroma_planes h.log2_h h.log2_v h.extra_plane refl refl refl refl refl refl) (deep_plain 32 (is_named depth h.chroma_planes h.log2_h h.log2_v h.extra_plane) h.chroma_planes h.log2_h h.log2_v refl refl refl refl) (depth_plain 32 depth refl refl refl refl refl)
+name_plain_32 depth h = chroma_name_plain 32 depth h (chroma_plain 32 h.chroma_planes h.log2_h h.log2_v h.extra_plane h.siting refl (siting_plain 32 h.siting refl refl refl) refl refl refl refl) (deep_plain 32 (is_named depth h.chroma_planes h.log2_h h.log2_v h.extra_plane) h.chroma_planes h.log2_h h.log2_v refl refl refl refl) (depth_plain 32 depth refl refl refl refl refl)
 
 name_plain_10 : (depth : ℕ) (h : VideoHead) → Without 10 (chroma_name depth h ++ depth_name depth)
-name_plain_10 depth h = chroma_name_plain 10 depth h (chroma_plain 10 h.chroma_planes h.log2_h h.log2_v h.extra_plane refl refl refl refl refl refl) (deep_plain 10 (is_named depth h.chroma_planes h.log2_h h.log2_v h.extra_plane) h.chroma_planes h.log2_h h.log2_v refl refl refl refl) (depth_plain 10 depth refl refl refl refl refl)
+name_plain_10 depth h = chroma_name_plain 10 depth h (chroma_plain 10 h.chroma_planes h.log2_h h.log2_v h.extra_plane h.siting refl (siting_plain 10 h.siting refl refl refl) refl refl refl refl) (deep_plain 10 (is_named depth h.chroma_planes h.log2_h h.log2_v h.extra_plane) h.chroma_planes h.log2_h h.log2_v refl refl refl refl) (depth_plain 10 depth refl refl refl refl refl)
 
--- the words of the line
-line_words : (depth : ℕ) (h : VideoHead) → IsHead h → words_of (joined (width_word h) (height_word h) (rate_word h) (structure_word h) (aspect_word h) (chroma_word depth h)) ≡
-    width_word h ∷ height_word h ∷ rate_word h ∷ structure_word h ∷ aspect_word h ∷ chroma_word depth h ∷ []
-line_words depth h k = words_six (width_word h) (height_word h) (rate_word h) (structure_word h) (aspect_word h) (chroma_word depth h)
-    (width_plain h k) (height_plain h k)
-    (refl, ratio_plain 32 4294967295 h.rate h.scale (omega arith) (omega arith) k.rate)
-    (refl, structure_plain 32 h.structure refl)
-    (refl, ratio_plain 32 65535 h.sar_num h.sar_den (omega arith) (omega arith) k.aspect)
-    (refl, name_plain_32 depth h)
+-- the tag of the range has a letter of its own, and says the range
+range_tags : (r : Option Range) → AreTags (range_words r)
+range_tags None = tt
+range_tags (Some range.Limited) = (refl, plain 32 (codes "XCOLORRANGE=LIMITED") refl, tt)
+range_tags (Some range.Full) = (refl, plain 32 (codes "XCOLORRANGE=FULL") refl, tt)
 
-abbrev all_tags : ℕ → VideoHead → Tags
-all_tags depth h = record {
-  width = Some h.width;
-  height = Some h.height;
-  rate = Some (h.rate, h.scale);
-  structure = Some h.structure;
-  aspect = Some (h.sar_num, h.sar_den);
-  chroma = Some (chroma_with depth h.chroma_planes h.log2_h h.log2_v h.extra_plane);
+none_other : (letter : ℕ) (r : Option Range) → (88 == letter) ≡ false → values_of letter (range_words r) ≡ []
+none_other letter None other = refl
+none_other letter (Some range.Limited) other = rw other refl
+none_other letter (Some range.Full) other = rw other refl
+
+range_told : (deep : Bool) (r : Option Range) → Perhaps (λ value x. range_of deep value ≡ Some x) (ranging deep (values_of 88 (range_words r))) (cond deep r None)
+range_told true None = refl
+range_told true (Some range.Limited) = (range.Limited, refl, refl)
+range_told true (Some range.Full) = (range.Full, refl, refl)
+range_told false None = refl
+range_told false (Some range.Limited) = refl
+range_told false (Some range.Full) = refl
+
+only_once : {X : Type 0} (says : List ℕ → X → Type 0) (value : List ℕ) (values : List (List ℕ)) (x : X) → values ≡ [] → says value x → Once says (value ∷ values) x
+only_once says value values x none said = rw none said
+
+only_most : {X : Type 0} (says : List ℕ → X → Type 0) (d : X) (value : List ℕ) (values : List (List ℕ)) (x : X) → values ≡ [] → says value x → AtMostOnce says d (value ∷ values) x
+only_most says d value values x none said = rw none said
+
+-- the tags of the line
+abbrev head_tags : ℕ → VideoHead → List (List ℕ)
+head_tags depth h = width_word h ∷ height_word h ∷ rate_word h ∷ structure_word h ∷ aspect_word h ∷ chroma_word depth h ∷ range_words h.range
+
+are_tags : (depth : ℕ) (h : VideoHead) → IsHead h → AreTags (head_tags depth h)
+are_tags depth h k =
+    let rate : Without 32 (rate_word h) = (refl, ratio_plain 32 4294967295 h.rate h.scale (omega arith) (omega arith) k.rate) in
+    let structure : Without 32 (structure_word h) = (refl, structure_plain 32 h.structure refl) in
+    let aspect : Without 32 (aspect_word h) = (refl, ratio_plain 32 65535 h.sar_num h.sar_den (omega arith) (omega arith) k.aspect) in
+    let chroma : Without 32 (chroma_word depth h) = (refl, name_plain_32 depth h) in
+    (refl, width_plain h k, (refl, height_plain h k, (refl, rate, (refl, structure, (refl, aspect, (refl, chroma, range_tags h.range))))))
+
+pub line_said : (most depth : ℕ) (h : VideoHead) → IsHead h → IsNamed depth h → IsHeaderLine most (head_line depth h) depth (as_said most depth h)
+line_said most depth h k named = record {
+  tags = head_tags depth h;
+  are = are_tags depth h k;
+  spelled = refl;
+  width = only_once SaysSize (decimal h.width) (values_of 87 (range_words h.range)) h.width (none_other 87 h.range refl) (size_back h.width k.sized.some_wide k.sized.wide);
+  height = only_once SaysSize (decimal h.height) (values_of 72 (range_words h.range)) h.height (none_other 72 h.range refl) (size_back h.height k.sized.some_high k.sized.high);
+  rate = only_most (SaysRatio 4294967295) (0, 0) (decimal h.rate ++ 58 ∷ decimal h.scale) (values_of 70 (range_words h.range)) (h.rate, h.scale) (none_other 70 h.range refl) (ratio_back 4294967295 h.rate h.scale (omega arith) k.rate);
+  structure = only_most SaysStructure 0 (structure_name h.structure) (values_of 73 (range_words h.range)) h.structure (none_other 73 h.range refl) (structure_back h.structure k.structure);
+  aspect = only_most (SaysRatio 65535) (0, 0) (decimal h.sar_num ++ 58 ∷ decimal h.sar_den) (values_of 65 (range_words h.range)) (h.sar_num, h.sar_den) (none_other 65 h.range refl) (ratio_back 65535 h.sar_num h.sar_den (omega arith) k.aspect);
+  chroma = only_most (SaysChroma most) (chroma_planes 1 1) (chroma_name depth h ++ depth_name depth) (values_of 67 (range_words h.range)) (chroma_in depth (as_said most depth h)) (none_other 67 h.range refl) (chroma_back (nat_lt 8 most) h.siting h.chroma_planes h.log2_h h.log2_v h.extra_plane depth named.least named.most named.name);
+  range = range_told (nat_lt 8 most) h.range;
 }
-
-line_tags : (most depth : ℕ) (h : VideoHead) → IsHead h → IsNamed depth h → depth ≤ most →
-    all_judged most no_tags (width_word h ∷ height_word h ∷ rate_word h ∷ structure_word h ∷ aspect_word h ∷ chroma_word depth h ∷ []) ≡ Ok (all_tags depth h)
-line_tags most depth h k named small =
-    let chroma : Chroma = chroma_with depth h.chroma_planes h.log2_h h.log2_v h.extra_plane in
-    let one = judged_width most no_tags h.width (decimal h.width) refl (size_back h.width k.sized.some_wide k.sized.wide) in
-    let t1 : Tags = record no_tags { width = Some h.width } in
-    let two = judged_height most t1 h.height (decimal h.height) refl (size_back h.height k.sized.some_high k.sized.high) in
-    let t2 : Tags = record t1 { height = Some h.height } in
-    let three = judged_rate most t2 (h.rate, h.scale) (decimal h.rate ++ 58 ∷ decimal h.scale) refl (ratio_back 4294967295 h.rate h.scale (omega arith) k.rate) in
-    let t3 : Tags = record t2 { rate = Some (h.rate, h.scale) } in
-    let four = judged_structure most t3 h.structure (structure_name h.structure) refl (structure_back h.structure k.structure) in
-    let t4 : Tags = record t3 { structure = Some h.structure } in
-    let five = judged_aspect most t4 (h.sar_num, h.sar_den) (decimal h.sar_num ++ 58 ∷ decimal h.sar_den) refl (ratio_back 65535 h.sar_num h.sar_den (omega arith) k.aspect) in
-    let t5 : Tags = record t4 { aspect = Some (h.sar_num, h.sar_den) } in
-    let six = judged_chroma most t5 chroma (chroma_name depth h ++ depth_name depth) refl (capped_back_by most chroma (chroma_name depth h ++ depth_name depth) (chroma_back h.chroma_planes h.log2_h h.log2_v h.extra_plane depth named.least named.most named.name) small) in
-    rw one (rw two (rw three (rw four (rw five (rw six refl)))))
-
-tags_head : (depth : ℕ) (h : VideoHead) → head_of_tags (all_tags depth h) ≡ Ok (record { head = h; depth = depth })
-unfolding head_of_tags
-tags_head depth h = refl
-
-pub line_back : (most depth : ℕ) (h : VideoHead) → IsHead h → IsNamed depth h → depth ≤ most → head_of_line most (head_line depth h) ≡ Ok (record { head = h; depth = depth })
-unfolding head_of_line
-line_back most depth h k named small = rw (line_words depth h k, line_tags most depth h k named small) (tags_head depth h)
 
 -- the line has no line feed
 spaced_without : (a b : List ℕ) → Without 10 a → Without 10 b → Without 10 (a ++ 32 ∷ b)
 spaced_without a b h k = without_both 10 a (32 ∷ b) h (refl, k)
 
+tail_single : (r : Option Range) → Without 10 (range_tail r)
+tail_single None = tt
+tail_single (Some range.Limited) = plain 10 (codes " XCOLORRANGE=LIMITED") refl
+tail_single (Some range.Full) = plain 10 (codes " XCOLORRANGE=FULL") refl
+
 pub line_single : (depth : ℕ) (h : VideoHead) → IsHead h → Without 10 (head_line depth h)
 line_single depth h k =
-    without_both 10 (codes "YUV4MPEG2 ") (joined (width_word h) (height_word h) (rate_word h) (structure_word h) (aspect_word h) (chroma_word depth h)) (plain 10 (codes "YUV4MPEG2 ") refl)
+    without_both 10 (codes "YUV4MPEG2 ") (joined (width_word h) (height_word h) (rate_word h) (structure_word h) (aspect_word h) (chroma_word depth h ++ range_tail h.range)) (plain 10 (codes "YUV4MPEG2 ") refl)
     (spaced_without (width_word h) _ (refl, digits_without 10 h.width (omega arith) (omega (arith, k.sized.wide)))
     (spaced_without (height_word h) _ (refl, digits_without 10 h.height (omega arith) (omega (arith, k.sized.high)))
     (spaced_without (rate_word h) _ (refl, ratio_plain 10 4294967295 h.rate h.scale (omega arith) (omega arith) k.rate)
     (spaced_without (structure_word h) _ (refl, structure_plain 10 h.structure refl)
-    (spaced_without (aspect_word h) (chroma_word depth h) (refl, ratio_plain 10 65535 h.sar_num h.sar_den (omega arith) (omega arith) k.aspect)
-    (refl, name_plain_10 depth h))))))
+    (spaced_without (aspect_word h) _ (refl, ratio_plain 10 65535 h.sar_num h.sar_den (omega arith) (omega arith) k.aspect)
+    (without_both 10 (chroma_word depth h) (range_tail h.range) (refl, name_plain_10 depth h) (tail_single h.range)))))))
 
 -- the line is short
 spaced_short : (a b : List ℕ) (m n : ℕ) → length a ≤ m → length b ≤ n → length (a ++ 32 ∷ b) ≤ m + n + 1
@@ -369,9 +412,20 @@ cond_short false x y n h k = k
 structure_short : (s : ℕ) → length (structure_name s) ≤ 1
 structure_short s = cond_short (s == 3) (codes "p") _ 1 (omega arith) (cond_short (s == 1) (codes "t") _ 1 (omega arith) (cond_short (s == 2) (codes "b") (codes "?") 1 (omega arith) (omega arith)))
 
-chroma_short : (planes : Bool) (log2_h log2_v : ℕ) (extra : Bool) → length (name_of_chroma planes log2_h log2_v extra) ≤ 8
-chroma_short planes log2_h log2_v extra =
-    cond_short planes _ (codes "mono") 8 (cond_short extra (codes "444alpha") _ 8 (omega arith) (cond_short (log2_v == 1) (codes "420jpeg") _ 8 (omega arith) (cond_short (log2_h == 1) (codes "422") _ 8 (omega arith) (cond_short (log2_h == 2) (codes "411") (codes "444") 8 (omega arith) (omega arith))))) (omega arith)
+siting_short : (s : Option Siting) → length (siting_name s) ≤ 8
+siting_short None = omega arith
+siting_short (Some siting.Centre) = omega arith
+siting_short (Some siting.Left) = omega arith
+siting_short (Some siting.TopLeft) = omega arith
+
+chroma_short : (planes : Bool) (log2_h log2_v : ℕ) (extra : Bool) (s : Option Siting) → length (name_of_chroma planes log2_h log2_v extra s) ≤ 8
+chroma_short planes log2_h log2_v extra s =
+    cond_short planes _ (codes "mono") 8 (cond_short extra (codes "444alpha") _ 8 (omega arith) (cond_short (log2_v == 1) (siting_name s) _ 8 (siting_short s) (cond_short (log2_h == 1) (codes "422") _ 8 (omega arith) (cond_short (log2_h == 2) (codes "411") (codes "444") 8 (omega arith) (omega arith))))) (omega arith)
+
+tail_short : (r : Option Range) → length (range_tail r) ≤ 20
+tail_short None = omega arith
+tail_short (Some range.Limited) = omega arith
+tail_short (Some range.Full) = omega arith
 
 deep_short : (named planes : Bool) (log2_h log2_v : ℕ) → length (cond named (cond planes (cond (log2_v == 1) (codes "420p") (cond (log2_h == 1) (codes "422p") (codes "444p"))) (codes "mono")) []) ≤ 8
 deep_short named planes log2_h log2_v =
@@ -383,10 +437,10 @@ depth_short depth =
 
 name_short : (depth : ℕ) (h : VideoHead) → length (chroma_name depth h ++ depth_name depth) ≤ 10
 name_short depth h =
-    let front : length (chroma_name depth h) ≤ 8 = cond_short (depth == 8) _ _ 8 (chroma_short h.chroma_planes h.log2_h h.log2_v h.extra_plane) (deep_short (is_named depth h.chroma_planes h.log2_h h.log2_v h.extra_plane) h.chroma_planes h.log2_h h.log2_v) in
+    let front : length (chroma_name depth h) ≤ 8 = cond_short (depth == 8) _ _ 8 (chroma_short h.chroma_planes h.log2_h h.log2_v h.extra_plane h.siting) (deep_short (is_named depth h.chroma_planes h.log2_h h.log2_v h.extra_plane) h.chroma_planes h.log2_h h.log2_v) in
     omega (arith, length-append (chroma_name depth h) (depth_name depth), front, depth_short depth)
 
-ten_more : (xs : List ℕ) → length xs ≤ 84 → length (codes "YUV4MPEG2 " ++ xs) ≤ 1024
+ten_more : (xs : List ℕ) → length xs ≤ 104 → length (codes "YUV4MPEG2 " ++ xs) ≤ 1024
 ten_more xs h = omega (arith, length-append (codes "YUV4MPEG2 ") xs, h)
 
 pub line_short : (depth : ℕ) (h : VideoHead) → IsHead h → length (head_line depth h) ≤ 1024
@@ -397,13 +451,15 @@ line_short depth h k =
     let aspect = ratio_short h.sar_num h.sar_den (omega (arith, k.aspect.first)) (omega (arith, k.aspect.second)) in
     let chroma = name_short depth h in
     let structure = structure_short h.structure in
-    let t5 = aspect_word h ++ 32 ∷ chroma_word depth h in
+    let last = chroma_word depth h ++ range_tail h.range in
+    let t5 = aspect_word h ++ 32 ∷ last in
     let t4 = structure_word h ++ 32 ∷ t5 in
     let t3 = rate_word h ++ 32 ∷ t4 in
     let t2 = height_word h ++ 32 ∷ t3 in
-    let five : length (aspect_word h ++ 32 ∷ chroma_word depth h) ≤ 34 = spaced_short (aspect_word h) (chroma_word depth h) 22 11 (omega (arith, aspect)) (omega (arith, chroma)) in
-    let four : length (structure_word h ++ 32 ∷ t5) ≤ 37 = spaced_short (structure_word h) t5 2 34 (omega (arith, structure)) five in
-    let three : length (rate_word h ++ 32 ∷ t4) ≤ 60 = spaced_short (rate_word h) t4 22 37 (omega (arith, rate)) four in
-    let two : length (height_word h ++ 32 ∷ t3) ≤ 72 = spaced_short (height_word h) t3 11 60 (omega (arith, high)) three in
-    let one : length (width_word h ++ 32 ∷ t2) ≤ 84 = spaced_short (width_word h) t2 11 72 (omega (arith, wide)) two in
+    let six : length (chroma_word depth h ++ range_tail h.range) ≤ 31 = omega (arith, length-append (chroma_word depth h) (range_tail h.range), chroma, tail_short h.range) in
+    let five : length (aspect_word h ++ 32 ∷ last) ≤ 54 = spaced_short (aspect_word h) last 22 31 (omega (arith, aspect)) six in
+    let four : length (structure_word h ++ 32 ∷ t5) ≤ 57 = spaced_short (structure_word h) t5 2 54 (omega (arith, structure)) five in
+    let three : length (rate_word h ++ 32 ∷ t4) ≤ 80 = spaced_short (rate_word h) t4 22 57 (omega (arith, rate)) four in
+    let two : length (height_word h ++ 32 ∷ t3) ≤ 92 = spaced_short (height_word h) t3 11 80 (omega (arith, high)) three in
+    let one : length (width_word h ++ 32 ∷ t2) ≤ 104 = spaced_short (width_word h) t2 11 92 (omega (arith, wide)) two in
     ten_more (width_word h ++ 32 ∷ t2) one

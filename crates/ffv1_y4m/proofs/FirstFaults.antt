@@ -177,7 +177,7 @@ ends_in (suc steps) most text depth h rest count few r =
     ends_by most text depth h rest count (picture_read depth h rest) refl r (λ p left more less reaches. ends_in steps most text depth h left more (omega (arith, few, less)) reaches)
 
 abbrev Whole : ℕ → List ℕ → Type 0
-Whole most text = (depth : ℕ) × (h : VideoHead) × (ps : List (List (List ℕ))) × IsText text depth h ps × (depth ≤ most)
+Whole most text = (depth : ℕ) × (h : VideoHead) × (ps : List (List (List ℕ))) × IsText most text depth h ps × (depth ≤ most)
 
 whole_by : (most : ℕ) (text : List ℕ) (o : Outcome DeepHead) → 8 ≤ most → header_of most text ≡ o → Whole most text ⊎ ((f : Fault) × (n : ℕ) × TextFault most text f n)
 whole_by most text (Err (f, left)) deep is =
@@ -211,14 +211,14 @@ never depth h (p ∷ ps) (q ∷ qs) rest f n a b is fails =
     sym (picture_found depth h p (flat_map picture_text ps ++ rest) a.0.0 a.0.1) ∙ (ap (picture_read depth h) same ∙ picture_found depth h q (flat_map picture_text qs) b.0.0 b.0.1) in
     never depth h ps qs rest f n a.1 b.1 (ap rest_in both) fails
 
-pub never_both : (most : ℕ) (text : List ℕ) (depth : ℕ) (h : VideoHead) (ps : List (List (List ℕ))) (f : Fault) (n : ℕ) → IsText text depth h ps → depth ≤ most → TextFault most text f n → ⊥
+pub never_both : (most : ℕ) (text : List ℕ) (depth : ℕ) (h : VideoHead) (ps : List (List (List ℕ))) (f : Fault) (n : ℕ) → IsText most text depth h ps → depth ≤ most → TextFault most text f n → ⊥
 never_both most text depth h ps f n t small (inl fails) =
     let k = header_refused most text f n fails in
     let found = text_found text most depth h ps t small in
     not_both (record { head = h; depth = depth }) found.0 k.0 f (header_of most text) found.1 k.1
 never_both most text depth h ps f n t small (inr (deep, k, rest, count, r, m, fails, at)) = apart most text depth deep h k ps rest count f m t small r fails
   where
-    apart : (most : ℕ) (text : List ℕ) (depth deep : ℕ) (h k : VideoHead) (ps : List (List (List ℕ))) (rest : List ℕ) (count : ℕ) (f : Fault) (m : ℕ) → IsText text depth h ps → depth ≤ most → ReachesPicture most text deep k rest count → PictureFault deep k rest f m → ⊥
+    apart : (most : ℕ) (text : List ℕ) (depth deep : ℕ) (h k : VideoHead) (ps : List (List (List ℕ))) (rest : List ℕ) (count : ℕ) (f : Fault) (m : ℕ) → IsText most text depth h ps → depth ≤ most → ReachesPicture most text deep k rest count → PictureFault deep k rest f m → ⊥
     apart most text depth deep h k ps rest count f m t small r fails =
         let mine : HasLine text t.line (flat_map picture_text ps) = record { single = t.single; short = t.short; whole = t.whole } in
         let lines = one_line text r.line t.line (flat_map picture_text r.pictures ++ rest) (flat_map picture_text ps) r.begins mine in

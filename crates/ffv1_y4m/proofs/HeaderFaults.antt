@@ -86,7 +86,7 @@ long_is most text f rest e = long_by most text (line_end most text) f rest e
 
 tags_fault : (most : ℕ) (text line rest : List ℕ) (f : Fault) → HasLine text line rest → head_of_line most line ≡ Err f → Line most line → (n : ℕ) × HeaderFault most text f n
 tags_fault most text line rest f has e (inl (tags, t)) =
-    let k = tags_known most tags [] no_tags f none_held (sym (tags_judged most line tags t) ∙ e) in
+    let k = tags_known most tags [] no_tags f (none_held most) (sym (tags_judged most line tags t) ∙ e) in
     (9 + k.0, inr (line, rest, tags, has, t, k.0, k.1, refl))
 tags_fault most text line rest f has e (inr (is, none)) =
     let same : ◌≡◌ {A = Result DeepHead Fault} (Err fault.Header) (Err f) = sym is ∙ e in
@@ -112,7 +112,7 @@ none_found most text (Ok (line, left)) is none = (left, none_by most text line l
 none_found most text (Err (g, left)) is none = (left, ap (λ z. Err (z, left)) (long_is 1025 text g left is))
 
 tags_refused : (most : ℕ) (text line rest : List ℕ) (tags : List (List ℕ)) (f : Fault) (m : ℕ) → HasLine text line rest → HasTags line tags → TagsFault most [] tags f m → header_of most text ≡ Err (f, rest)
-tags_refused most text line rest tags f m has t fails = rw (line_is text line rest has) (rw (tags_judged most line tags t, tags_found most tags [] no_tags f m none_held fails) refl)
+tags_refused most text line rest tags f m has t fails = rw (line_is text line rest has) (rw (tags_judged most line tags t, tags_found most tags [] no_tags f m (none_held most) fails) refl)
 
 pub header_refused : (most : ℕ) (text : List ℕ) (f : Fault) (n : ℕ) → HeaderFault most text f n → (rest : List ℕ) × (header_of most text ≡ Err (f, rest))
 header_refused most text f n (inl (none, is, at)) = rw is (none_found most text (line_read 1025 text) refl none)

@@ -1,5 +1,5 @@
 -- A header line and the tags that it says.
-use Rattle.std.proofs.Common.{◌≤◌, nat_le, ◌≡◌, ℕ, ◌==◌, ◌||◌, Bool, true, false, cond, Option, Some, None, List, [], ◌∷◌, ◌++◌, take, drop, codes, Result, Ok, Err, refl, ap, ◌∙◌, sym, subst, append-nil, take-append-drop}
+use Rattle.std.proofs.Common.{◌≤◌, nat_le, nat_lt, ◌≡◌, ℕ, ◌==◌, ◌||◌, Bool, true, false, cond, Option, Some, None, List, [], ◌∷◌, ◌++◌, take, drop, codes, Result, Ok, Err, refl, ap, ◌∙◌, sym, subst, append-nil, take-append-drop}
 use Rattle.std.specs.Option.{option_and_then}
 use Rattle.std.proofs.lemmas.Bool.{le-leb, leb-true, eqb-true, true≢false, false≢true}
 use Rattle.std.specs.Cmp.Lexicographic.{same_text}
@@ -9,9 +9,10 @@ use Rattle.ffv1_y4m.specs.declared.head.DeepHead.{DeepHead}
 use Rattle.ffv1_y4m.specs.declared.head.VideoHead.{VideoHead}
 use Rattle.ffv1_y4m.specs.declared.tags.Chroma.{Chroma}
 use Rattle.ffv1_y4m.specs.declared.tags.Tags.{Tags}
+use Rattle.ffv1_y4m.specs.declared.head.Range.{Range}
 use Rattle.ffv1_y4m.specs.Sequence.{◌>>=◌}
-use Rattle.ffv1_y4m.specs.Header.{first_value, first_answer, structure_of, tagged, words_of, onto_first, all_judged, no_tags, present, head_of_tags, head_of_line, head_from, or_else, size_of, ratio_of, chroma_named, chroma_of, chroma_planes, up_to, is_text}
-use Rattle.ffv1_y4m.specs.HeaderLine.{is_letter, AreTags, spaced, values_of, Once, AtMostOnce, SaysSize, SaysRatio, SaysStructure, SaysChroma, chroma_in, IsHeaderLine}
+use Rattle.ffv1_y4m.specs.Header.{first_value, first_answer, structure_of, tagged, words_of, onto_first, all_judged, no_tags, present, head_of_tags, head_of_line, head_from, or_else, size_of, ratio_of, chroma_named, chroma_of, chroma_planes, next_range, range_of, up_to, is_text}
+use Rattle.ffv1_y4m.specs.HeaderLine.{is_letter, AreTags, spaced, values_of, Once, AtMostOnce, Perhaps, SaysSize, SaysRatio, SaysStructure, SaysChroma, SaysRange, chroma_in, onto_ranging, ranging, IsHeaderLine}
 use Rattle.ffv1_y4m.specs.FirstFaults.{AreSpaceless}
 use Rattle.ffv1_y4m.proofs.AnswerParts.{is_some, some_in, is_fault}
 use Rattle.ffv1_y4m.proofs.CanonicalLine.{words_front, words_whole}
@@ -63,7 +64,7 @@ back_width most t value tags next u h m =
     let f = first_told t.width (size_of value) fault.Tag (λ n. record t { width = Some n }) next h in
     let P : Tags → Type 0 = λ z. Moved most z tags u in
     let k = subst P (sym f.is) m in
-    record { width = one_moves SaysSize t.width f.x value (values_of 87 tags) u.width f.none f.said k.width; height = k.height; rate = k.rate; structure = k.structure; aspect = k.aspect; chroma = k.chroma }
+    record { width = one_moves SaysSize t.width f.x value (values_of 87 tags) u.width f.none f.said k.width; height = k.height; rate = k.rate; structure = k.structure; aspect = k.aspect; chroma = k.chroma; range = k.range }
 
 back_height : (most : ℕ) (t : Tags) (value : List ℕ) (tags : List (List ℕ)) (next u : Tags) → Back most t value tags next u 72
 unfolding tagged
@@ -71,7 +72,7 @@ back_height most t value tags next u h m =
     let f = first_told t.height (size_of value) fault.Tag (λ n. record t { height = Some n }) next h in
     let P : Tags → Type 0 = λ z. Moved most z tags u in
     let k = subst P (sym f.is) m in
-    record { width = k.width; height = one_moves SaysSize t.height f.x value (values_of 72 tags) u.height f.none f.said k.height; rate = k.rate; structure = k.structure; aspect = k.aspect; chroma = k.chroma }
+    record { width = k.width; height = one_moves SaysSize t.height f.x value (values_of 72 tags) u.height f.none f.said k.height; rate = k.rate; structure = k.structure; aspect = k.aspect; chroma = k.chroma; range = k.range }
 
 back_rate : (most : ℕ) (t : Tags) (value : List ℕ) (tags : List (List ℕ)) (next u : Tags) → Back most t value tags next u 70
 unfolding tagged
@@ -79,7 +80,7 @@ back_rate most t value tags next u h m =
     let f = first_told t.rate (ratio_of 4294967295 value) fault.Tag (λ n. record t { rate = Some n }) next h in
     let P : Tags → Type 0 = λ z. Moved most z tags u in
     let k = subst P (sym f.is) m in
-    record { width = k.width; height = k.height; rate = one_moves (SaysRatio 4294967295) t.rate f.x value (values_of 70 tags) u.rate f.none f.said k.rate; structure = k.structure; aspect = k.aspect; chroma = k.chroma }
+    record { width = k.width; height = k.height; rate = one_moves (SaysRatio 4294967295) t.rate f.x value (values_of 70 tags) u.rate f.none f.said k.rate; structure = k.structure; aspect = k.aspect; chroma = k.chroma; range = k.range }
 
 back_structure : (most : ℕ) (t : Tags) (value : List ℕ) (tags : List (List ℕ)) (next u : Tags) → Back most t value tags next u 73
 unfolding tagged
@@ -87,7 +88,7 @@ back_structure most t value tags next u h m =
     let f = answer_told t.structure (structure_of value) (λ n. record t { structure = Some n }) next h in
     let P : Tags → Type 0 = λ z. Moved most z tags u in
     let k = subst P (sym f.is) m in
-    record { width = k.width; height = k.height; rate = k.rate; structure = one_moves SaysStructure t.structure f.x value (values_of 73 tags) u.structure f.none f.said k.structure; aspect = k.aspect; chroma = k.chroma }
+    record { width = k.width; height = k.height; rate = k.rate; structure = one_moves SaysStructure t.structure f.x value (values_of 73 tags) u.structure f.none f.said k.structure; aspect = k.aspect; chroma = k.chroma; range = k.range }
 
 back_aspect : (most : ℕ) (t : Tags) (value : List ℕ) (tags : List (List ℕ)) (next u : Tags) → Back most t value tags next u 65
 unfolding tagged
@@ -95,7 +96,7 @@ back_aspect most t value tags next u h m =
     let f = first_told t.aspect (ratio_of 65535 value) fault.Tag (λ n. record t { aspect = Some n }) next h in
     let P : Tags → Type 0 = λ z. Moved most z tags u in
     let k = subst P (sym f.is) m in
-    record { width = k.width; height = k.height; rate = k.rate; structure = k.structure; aspect = one_moves (SaysRatio 65535) t.aspect f.x value (values_of 65 tags) u.aspect f.none f.said k.aspect; chroma = k.chroma }
+    record { width = k.width; height = k.height; rate = k.rate; structure = k.structure; aspect = one_moves (SaysRatio 65535) t.aspect f.x value (values_of 65 tags) u.aspect f.none f.said k.aspect; chroma = k.chroma; range = k.range }
 
 back_chroma : (most : ℕ) (t : Tags) (value : List ℕ) (tags : List (List ℕ)) (next u : Tags) → Back most t value tags next u 67
 unfolding tagged
@@ -103,14 +104,23 @@ back_chroma most t value tags next u h m =
     let f = first_told t.chroma (chroma_of most value) fault.Unsupported (λ n. record t { chroma = Some n }) next h in
     let P : Tags → Type 0 = λ z. Moved most z tags u in
     let k = subst P (sym f.is) m in
-    record { width = k.width; height = k.height; rate = k.rate; structure = k.structure; aspect = k.aspect; chroma = one_moves (SaysUpTo most) t.chroma f.x value (values_of 67 tags) u.chroma f.none f.said k.chroma }
+    record { width = k.width; height = k.height; rate = k.rate; structure = k.structure; aspect = k.aspect; chroma = one_moves (SaysUpTo most) t.chroma f.x value (values_of 67 tags) u.chroma f.none f.said k.chroma; range = k.range }
+
+-- a range that a tag X says, or none
+range_back : (most : ℕ) (old : Option Range) (value : List ℕ) (values : List (List ℕ)) (new r last : Option Range) → range_of (nat_lt 8 most) value ≡ new → next_range old new ≡ Ok r → Moves (SaysRange most) r values last → Moves (SaysRange most) old (onto_ranging value new values) last
+range_back most old value values None r last is e m = subst (λ z. Moves (SaysRange most) z values last) (sym (ap (ok_in r) e)) m
+range_back most None value values (Some x) r last is e m =
+    one_moves (SaysRange most) None x value values last refl is (subst (λ z. Moves (SaysRange most) z values last) (sym (ap (ok_in r) e)) m)
+range_back most (Some y) value values (Some x) r last is e m = absurd (true≢false (ap is_fault e))
 
 back_comment : (most : ℕ) (t : Tags) (value : List ℕ) (tags : List (List ℕ)) (next u : Tags) → Back most t value tags next u 88
 unfolding tagged
 back_comment most t value tags next u h m =
+    let b = bound (next_range t.range (range_of (nat_lt 8 most) value)) (λ r. Ok (record t { range = r })) next h in
     let P : Tags → Type 0 = λ z. Moved most z tags u in
-    let k = subst P (sym (ap (ok_in t) h)) m in
-    record { width = k.width; height = k.height; rate = k.rate; structure = k.structure; aspect = k.aspect; chroma = k.chroma }
+    let k = subst P (sym (ap (ok_in t) b.goes_on)) m in
+    let range = range_back most t.range value (ranging (nat_lt 8 most) (values_of 88 tags)) (range_of (nat_lt 8 most) value) b.x u.range refl b.begins k.range in
+    record { width = k.width; height = k.height; rate = k.rate; structure = k.structure; aspect = k.aspect; chroma = k.chroma; range = range }
 
 back : (most : ℕ) (t : Tags) (value : List ℕ) (tags : List (List ℕ)) (next u : Tags) (letter : ℕ) → is_letter letter ≡ true → Back most t value tags next u letter
 back most t value tags next u letter known =
@@ -139,7 +149,7 @@ record AllTold (most : ℕ) (t : Tags) (tags : List (List ℕ)) (u : Tags) : Typ
 
 none_moved : (most : ℕ) (t u : Tags) → t ≡ u → Moved most t [] u
 none_moved most t u e =
-    record { width = ap (λ z. z.width) (sym e); height = ap (λ z. z.height) (sym e); rate = ap (λ z. z.rate) (sym e); structure = ap (λ z. z.structure) (sym e); aspect = ap (λ z. z.aspect) (sym e); chroma = ap (λ z. z.chroma) (sym e) }
+    record { width = ap (λ z. z.width) (sym e); height = ap (λ z. z.height) (sym e); rate = ap (λ z. z.rate) (sym e); structure = ap (λ z. z.structure) (sym e); aspect = ap (λ z. z.aspect) (sym e); chroma = ap (λ z. z.chroma) (sym e); range = ap (λ z. z.range) (sym e) }
 
 all_only : (most : ℕ) (tags : List (List ℕ)) (t u : Tags) → AreSpaceless tags → all_judged most t tags ≡ Ok u → AllTold most t tags u
 all_only most [] t u plain h = record { are = tt; moved = none_moved most t u (ap (ok_in t) h) }
@@ -161,17 +171,17 @@ named_by most (Some c) d h =
     let both = up_by most c d (nat_le c.depth most) refl h in
     (ap (λ z. Some z) both.0, subst (λ (z : Chroma). z.depth ≤ most) both.0 both.1)
 
-capped : (most : ℕ) (value : List ℕ) (c : Chroma) → SaysChroma value c → c.depth ≤ most → SaysUpTo most value c
+capped : (most : ℕ) (value : List ℕ) (c : Chroma) → SaysChroma most value c → c.depth ≤ most → SaysUpTo most value c
 capped most value c said small = rw (said, le-leb c.depth most small) refl
 
-all_capped : (most : ℕ) (d c : Chroma) (values : List (List ℕ)) → AtMostOnce SaysChroma d values c → c.depth ≤ most → AtMostOnce (SaysUpTo most) d values c
+all_capped : (most : ℕ) (d c : Chroma) (values : List (List ℕ)) → AtMostOnce (SaysChroma most) d values c → c.depth ≤ most → AtMostOnce (SaysUpTo most) d values c
 all_capped most d c [] h small = h
 all_capped most d c (value ∷ []) h small = capped most value c h small
 all_capped most d c (value ∷ second ∷ more) h small = absurd h
 
-all_named : (most : ℕ) (d c : Chroma) (values : List (List ℕ)) → AtMostOnce (SaysUpTo most) d values c → AtMostOnce SaysChroma d values c × (d.depth ≤ most → c.depth ≤ most)
+all_named : (most : ℕ) (d c : Chroma) (values : List (List ℕ)) → AtMostOnce (SaysUpTo most) d values c → AtMostOnce (SaysChroma most) d values c × (d.depth ≤ most → c.depth ≤ most)
 all_named most d c [] h = (h, λ small. subst (λ (z : Chroma). z.depth ≤ most) (sym h) small)
-all_named most d c (value ∷ []) h = let both = named_by most (chroma_named value) c h in (both.0, λ small. both.1)
+all_named most d c (value ∷ []) h = let both = named_by most (chroma_named (nat_lt 8 most) value) c h in (both.0, λ small. both.1)
 all_named most d c (value ∷ second ∷ more) h = absurd h
 
 -- what is said once
@@ -203,6 +213,17 @@ most_else : {X : Type 0} (says : List ℕ → X → Type 0) (d : X) (values : Li
 most_else says d [] x h = sym h
 most_else says d (value ∷ []) x h = refl
 most_else says d (value ∷ second ∷ more) x h = absurd h
+
+-- what is said once or not at all
+moves_perhaps : {X : Type 0} (says : List ℕ → X → Type 0) (values : List (List ℕ)) (new : Option X) → Moves says None values new → Perhaps says values new
+moves_perhaps says [] new h = h
+moves_perhaps says (value ∷ []) new h = h
+moves_perhaps says (value ∷ second ∷ more) new h = h
+
+perhaps_moves : {X : Type 0} (says : List ℕ → X → Type 0) (values : List (List ℕ)) (new : Option X) → Perhaps says values new → Moves says None values new
+perhaps_moves says [] new h = h
+perhaps_moves says (value ∷ []) new h = h
+perhaps_moves says (value ∷ second ∷ more) new h = h
 
 -- words
 pub spaced_words : (w : List ℕ) (ws : List (List ℕ)) → AreSpaceless (w ∷ ws) → words_of (w ++ spaced ws) ≡ w ∷ ws
@@ -245,17 +266,17 @@ line_by most h [] u line e are judging is =
 line_by most h (w ∷ ws) u line e are judging is =
     rw e (rw (spaced_words w ws (are_plain (w ∷ ws) are)) (rw judging is))
 
-tags_by : (depth : ℕ) (h : VideoHead) (rate : ℕ × ℕ) (structure : ℕ) (aspect : ℕ × ℕ) (chroma : Chroma) → rate ≡ (h.rate, h.scale) → structure ≡ h.structure → aspect ≡ (h.sar_num, h.sar_den) → chroma ≡ chroma_in depth h →
-    head_from h.width h.height rate structure aspect chroma ≡ record { head = h; depth = depth }
-tags_by depth h rate structure aspect chroma a b c d = rw (a, b, c, d) refl
+tags_by : (depth : ℕ) (h : VideoHead) (rate : ℕ × ℕ) (structure : ℕ) (aspect : ℕ × ℕ) (chroma : Chroma) (range : Option Range) → rate ≡ (h.rate, h.scale) → structure ≡ h.structure → aspect ≡ (h.sar_num, h.sar_den) → chroma ≡ chroma_in depth h → range ≡ h.range →
+    head_from (h.width, h.height) rate structure aspect chroma range ≡ record { head = h; depth = depth }
+tags_by depth h rate structure aspect chroma range a b c d e = rw (a, b, c, d, e) refl
 
 head_by : (depth : ℕ) (h : VideoHead) (u : Tags) → u.width ≡ Some h.width → u.height ≡ Some h.height → or_else u.rate (0, 0) ≡ (h.rate, h.scale) → or_else u.structure 0 ≡ h.structure → or_else u.aspect (0, 0) ≡ (h.sar_num, h.sar_den) →
-    or_else u.chroma (chroma_planes 1 1) ≡ chroma_in depth h → head_of_tags u ≡ Ok (record { head = h; depth = depth })
+    or_else u.chroma (chroma_planes 1 1) ≡ chroma_in depth h → u.range ≡ h.range → head_of_tags u ≡ Ok (record { head = h; depth = depth })
 unfolding head_of_tags
-head_by depth h u wide high rate structure aspect chroma =
-    rw (wide, high) (ap Ok (tags_by depth h (or_else u.rate (0, 0)) (or_else u.structure 0) (or_else u.aspect (0, 0)) (or_else u.chroma (chroma_planes 1 1)) rate structure aspect chroma))
+head_by depth h u wide high rate structure aspect chroma range =
+    rw (wide, high) (ap Ok (tags_by depth h (or_else u.rate (0, 0)) (or_else u.structure 0) (or_else u.aspect (0, 0)) (or_else u.chroma (chroma_planes 1 1)) u.range rate structure aspect chroma range))
 
-pub line_found : (line : List ℕ) (most depth : ℕ) (h : VideoHead) → IsHeaderLine line depth h → depth ≤ most → head_of_line most line ≡ Ok (record { head = h; depth = depth })
+pub line_found : (line : List ℕ) (most depth : ℕ) (h : VideoHead) → IsHeaderLine most line depth h → depth ≤ most → head_of_line most line ≡ Ok (record { head = h; depth = depth })
 line_found line most depth h l small =
     let named : AtMostOnce (SaysUpTo most) (chroma_planes 1 1) (values_of 67 l.tags) (chroma_in depth h) = all_capped most (chroma_planes 1 1) (chroma_in depth h) (values_of 67 l.tags) l.chroma small in
     let u : Tags = record {
@@ -265,6 +286,7 @@ line_found line most depth h l small =
       structure = option_of (values_of 73 l.tags) h.structure;
       aspect = option_of (values_of 65 l.tags) (h.sar_num, h.sar_den);
       chroma = option_of (values_of 67 l.tags) (chroma_in depth h);
+      range = h.range;
     } in
     let moved : Moved most no_tags l.tags u = record {
       width = once_moves SaysSize (values_of 87 l.tags) h.width l.width;
@@ -273,9 +295,10 @@ line_found line most depth h l small =
       structure = most_moves SaysStructure 0 (values_of 73 l.tags) h.structure l.structure;
       aspect = most_moves (SaysRatio 65535) (0, 0) (values_of 65 l.tags) (h.sar_num, h.sar_den) l.aspect;
       chroma = most_moves (SaysUpTo most) (chroma_planes 1 1) (values_of 67 l.tags) (chroma_in depth h) named;
+      range = perhaps_moves (SaysRange most) (ranging (nat_lt 8 most) (values_of 88 l.tags)) h.range l.range;
     } in
     let head = head_by depth h u refl refl (most_else (SaysRatio 4294967295) (0, 0) (values_of 70 l.tags) (h.rate, h.scale) l.rate) (most_else SaysStructure 0 (values_of 73 l.tags) h.structure l.structure)
-    (most_else (SaysRatio 65535) (0, 0) (values_of 65 l.tags) (h.sar_num, h.sar_den) l.aspect) (most_else (SaysUpTo most) (chroma_planes 1 1) (values_of 67 l.tags) (chroma_in depth h) named) in
+    (most_else (SaysRatio 65535) (0, 0) (values_of 65 l.tags) (h.sar_num, h.sar_den) l.aspect) (most_else (SaysUpTo most) (chroma_planes 1 1) (values_of 67 l.tags) (chroma_in depth h) named) refl in
     line_by most (record { head = h; depth = depth }) l.tags u line l.spelled l.are (all_found l.tags most no_tags u l.are moved) head
 
 -- the other way round
@@ -284,10 +307,10 @@ record HeadTold (u : Tags) (h : DeepHead) : Type 0 where
   k : ℕ
   wide : u.width ≡ Some w
   high : u.height ≡ Some k
-  is : head_from w k (or_else u.rate (0, 0)) (or_else u.structure 0) (or_else u.aspect (0, 0)) (or_else u.chroma (chroma_planes 1 1)) ≡ h
+  is : head_from (w, k) (or_else u.rate (0, 0)) (or_else u.structure 0) (or_else u.aspect (0, 0)) (or_else u.chroma (chroma_planes 1 1)) u.range ≡ h
 
 sizes_told : (u : Tags) (wide high : Option ℕ) (h : DeepHead) → u.width ≡ wide → u.height ≡ high →
-    (present wide >>= λ w. present high >>= λ k. Ok (head_from w k (or_else u.rate (0, 0)) (or_else u.structure 0) (or_else u.aspect (0, 0)) (or_else u.chroma (chroma_planes 1 1)))) ≡ Ok h → HeadTold u h
+    (present wide >>= λ w. present high >>= λ k. Ok (head_from (w, k) (or_else u.rate (0, 0)) (or_else u.structure 0) (or_else u.aspect (0, 0)) (or_else u.chroma (chroma_planes 1 1)) u.range)) ≡ Ok h → HeadTold u h
 sizes_told u None high h p q e = absurd (true≢false (ap is_fault e))
 sizes_told u (Some w) None h p q e = absurd (true≢false (ap is_fault e))
 sizes_told u (Some w) (Some k) h p q e = record { w = w; k = k; wide = p; high = q; is = ap (ok_in h) e }
@@ -298,7 +321,7 @@ head_told u h e = sizes_told u u.width u.height h refl refl e
 
 -- a line says this depth, which is read, and this head
 abbrev pub Said : ℕ → List ℕ → DeepHead → Type 0
-Said most line h = IsHeaderLine line h.depth h.head × (8 ≤ most → h.depth ≤ most)
+Said most line h = IsHeaderLine most line h.depth h.head × (8 ≤ most → h.depth ≤ most)
 
 words_line : (most : ℕ) (line : List ℕ) (h : DeepHead) (words : List (List ℕ)) (u : Tags) → line ≡ codes "YUV4MPEG2" ++ spaced words → AllTold most no_tags words u → HeadTold u h → Said most line h
 words_line most line h words u spelled t k =
@@ -316,6 +339,7 @@ words_line most line h words u spelled t k =
         structure = most_of SaysStructure 0 (values_of 73 words) u.structure m.structure;
         aspect = most_of (SaysRatio 65535) (0, 0) (values_of 65 words) u.aspect m.aspect;
         chroma = named.0;
+        range = moves_perhaps (SaysRange most) (ranging (nat_lt 8 most) (values_of 88 words)) u.range m.range;
       }),
       named.1,
     )

@@ -36,6 +36,7 @@ mod TagFaults
 mod HeaderLines
 mod HeaderFaults
 mod SaidHeads
+mod StrictHeads
 mod LineRuns
 pub mod NextLines
 mod PlaneRooms

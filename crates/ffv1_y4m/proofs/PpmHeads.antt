@@ -54,12 +54,12 @@ named_if false depth next p q = q
 
 maximum_named : (text : List ℕ) → IsSome IsImageDepth (maximum_depth text)
 maximum_named text =
-    named_if (is_text text (codes "255")) 8 _ (λ width height. record { least = omega arith; most = omega arith; name = refl })
-    (named_if (is_text text (codes "511")) 9 _ (λ width height. record { least = omega arith; most = omega arith; name = refl })
-    (named_if (is_text text (codes "1023")) 10 _ (λ width height. record { least = omega arith; most = omega arith; name = refl })
-    (named_if (is_text text (codes "4095")) 12 _ (λ width height. record { least = omega arith; most = omega arith; name = refl })
-    (named_if (is_text text (codes "16383")) 14 _ (λ width height. record { least = omega arith; most = omega arith; name = refl })
-    (named_if (is_text text (codes "65535")) 16 None (λ width height. record { least = omega arith; most = omega arith; name = refl }) tt)))))
+    named_if (is_text text (codes "255")) 8 _ (λ width height. record { least = omega arith; most = omega arith; name = refl; sited = λ unsaid. refl })
+    (named_if (is_text text (codes "511")) 9 _ (λ width height. record { least = omega arith; most = omega arith; name = refl; sited = λ unsaid. refl })
+    (named_if (is_text text (codes "1023")) 10 _ (λ width height. record { least = omega arith; most = omega arith; name = refl; sited = λ unsaid. refl })
+    (named_if (is_text text (codes "4095")) 12 _ (λ width height. record { least = omega arith; most = omega arith; name = refl; sited = λ unsaid. refl })
+    (named_if (is_text text (codes "16383")) 14 _ (λ width height. record { least = omega arith; most = omega arith; name = refl; sited = λ unsaid. refl })
+    (named_if (is_text text (codes "65535")) 16 None (λ width height. record { least = omega arith; most = omega arith; name = refl; sited = λ unsaid. refl }) tt)))))
 
 abbrev pub IsLineDepth : ℕ → ℕ → Type 0
 IsLineDepth most depth = (depth ≤ most) × IsImageDepth depth

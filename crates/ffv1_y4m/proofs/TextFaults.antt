@@ -1,11 +1,12 @@
 -- What a header reads as is a fault of its text: no failed read, no want of memory.
-use Rattle.std.proofs.Common.{ℕ, Bool, true, false, cond, Option, Some, None, List, [], ◌∷◌, ◌≤◌, drop, length, Result, Ok, Err, inl, refl, arith}
+use Rattle.std.proofs.Common.{ℕ, Bool, true, false, cond, Option, Some, None, List, [], ◌∷◌, ◌≤◌, nat_lt, drop, length, Result, Ok, Err, inl, refl, arith}
 use Rattle.ffv1_y4m.specs.declared.fault.Fault.{Fault}
 use Rattle.ffv1_y4m.specs.declared.fault.Fault.TheVariants as fault
 use Rattle.ffv1_y4m.specs.declared.head.DeepHead.{DeepHead}
 use Rattle.ffv1_y4m.specs.declared.tags.Tags.{Tags}
+use Rattle.ffv1_y4m.specs.declared.head.Range.{Range}
 use Rattle.ffv1_y4m.specs.Sequence.{◌>>=◌}
-use Rattle.ffv1_y4m.specs.Header.{first_value, first_answer, structure_of, tagged, judged, words_of, all_judged, no_tags, present, head_of_tags, head_of_line, size_of, ratio_of, chroma_of}
+use Rattle.ffv1_y4m.specs.Header.{first_value, first_answer, structure_of, tagged, judged, words_of, all_judged, no_tags, present, head_of_tags, head_of_line, next_range, range_of, size_of, ratio_of, chroma_of}
 use Rattle.ffv1_y4m.specs.State.{IsHeaderFault, OnFault}
 use Rattle.ffv1_y4m.specs.Sequence.{judge, left}
 use Rattle.ffv1_y4m.specs.Reads.{Nowhere, Says, Stands}
@@ -45,6 +46,11 @@ textual_answer : {X Y : Type 0} (old : Option X) (new : Result Y Fault) → Text
 textual_answer (Some x) new h = record { fault = tt }
 textual_answer None new h = h
 
+textual_range : (old new : Option Range) → Textual (next_range old new)
+textual_range old None = record { fault = tt }
+textual_range None (Some r) = record { fault = tt }
+textual_range (Some s) (Some r) = record { fault = tt }
+
 textual_structure : (value : List ℕ) → Textual (structure_of value)
 unfolding structure_of
 textual_structure value =
@@ -62,7 +68,7 @@ textual_tagged most t letter value =
     (textual_cond _ _ _ (textual_next _ _ (textual_answer t.structure (structure_of value) (textual_structure value)) (λ n. textual_ok _))
     (textual_cond _ _ _ (textual_next _ _ (textual_first t.aspect (ratio_of 65535 value) fault.Tag tt) (λ n. textual_ok _))
     (textual_cond _ _ _ (textual_next _ _ (textual_first t.chroma (chroma_of most value) fault.Unsupported tt) (λ n. textual_ok _))
-    (textual_cond _ _ _ (textual_ok _) tag))))))
+    (textual_cond _ _ _ (textual_next _ _ (textual_range t.range (range_of (nat_lt 8 most) value)) (λ r. textual_ok _)) tag))))))
 
 textual_judged : (most : ℕ) (t : Tags) (word : List ℕ) → Textual (judged most t word)
 textual_judged most t [] = record { fault = tt }

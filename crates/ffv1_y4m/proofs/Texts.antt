@@ -1,6 +1,6 @@
 -- A text and what it reads as.
-use Rattle.std.proofs.Common.{◌≡◌, ℕ, ◌≤◌, nat_lt, Bool, true, false, cond, Some, None, List, [], ◌∷◌, ◌++◌, length, take, drop, map, flat_map, Result, Ok, Err, refl, ap, ◌∙◌, sym, subst, append_assoc, arith, take-append-drop, length-take}
-use Rattle.std.proofs.lemmas.Bool.{ltb-false, le-ltb, true≢false, false≢true}
+use Rattle.std.proofs.Common.{◌≡◌, ℕ, ◌≤◌, ◌<◌, ◌==◌, ◌&&◌, zero, suc, codes, if◌then◌else◌, nat_lt, Bool, true, false, cond, Option, Some, None, List, [], ◌∷◌, ◌++◌, length, take, drop, map, flat_map, Result, Ok, Err, refl, ap, ◌∙◌, sym, subst, append_assoc, arith, take-append-drop, length-take}
+use Rattle.std.proofs.lemmas.Bool.{ltb-false, le-ltb, lt-ltb, true≢false, false≢true}
 use Rattle.std.proofs.lemmas.Grind.{common_steps}
 use Rattle.std.proofs.Math.Seq.{take-append_seam, drop-append_seam}
 use Rattle.ffv1_y4m.specs.declared.fault.Fault.{Fault}
@@ -8,16 +8,18 @@ use Rattle.ffv1_y4m.specs.declared.fault.Fault.TheVariants as fault
 use Rattle.ffv1_samples.specs.Samples.{are_in_depth}
 use Rattle.ffv1_y4m.specs.declared.head.DeepHead.{DeepHead}
 use Rattle.ffv1_y4m.specs.declared.head.VideoHead.{VideoHead}
-use Rattle.ffv1_y4m.specs.Header.{header_of, head_of_line, line_read}
+use Rattle.ffv1_y4m.specs.Header.{header_of, head_of_line, line_read, or_else}
 use Rattle.ffv1_y4m.specs.Sequence.{Outcome, ◌then◌, give, judge, where_begun}
 use Rattle.ffv1_y4m.specs.Pictures.{plane_read, planes_read, frame_begun, frame_line, picture_read, picture_text}
-use Rattle.ffv1_y4m.specs.VideoHead.{AreInDepth, Fits, IsHead, IsNamed, plane_bytes}
-use Rattle.ffv1_y4m.specs.Canonical.{header_text, canonical_text, next_text}
+use Rattle.ffv1_y4m.specs.VideoHead.{AreInDepth, Fits, IsHead, IsNamed, has_siting, is_chroma, is_named, plane_bytes}
+use Rattle.ffv1_y4m.specs.Canonical.{as_said, chroma_name, depth_name, header_text, canonical_text, name_of_chroma, name_text, next_text, range_end, siting_name, sizes_text, times_text}
+use Rattle.ffv1_y4m.specs.declared.head.Siting.{Siting}
+use Rattle.ffv1_y4m.specs.declared.head.Siting.TheVariants as siting
 use Rattle.ffv1_y4m.specs.HeaderLine.{Without}
 use Rattle.ffv1_y4m.specs.Text.{AllFit, IsText, ReadsAll}
 use Rattle.ffv1_y4m.proofs.AnswerParts.{value_in, rest_in, is_fault, is_some, some_in, parted_by}
 use Rattle.ffv1_y4m.proofs.HeaderLines.{line_found, line_only}
-use Rattle.ffv1_y4m.proofs.CanonicalLine.{head_line, header_parts, line_back, line_single, line_short}
+use Rattle.ffv1_y4m.proofs.CanonicalLine.{head_line, header_parts, line_said, line_single, line_short}
 use Rattle.ffv1_y4m.proofs.Lines.{line_local, line_was}
 use Rattle.ffv1_y4m.proofs.Frames.{frame_ended, frame_found, frame_only}
 
@@ -56,7 +58,7 @@ header_found most line rest h single short is =
     let found : line_read 1025 (line ++ 10 ∷ rest) ≡ Ok (line, rest) = rw (← append_assoc line (10 ∷ []) rest) (line_local 1025 line single (omega (arith, short)) rest) in
     rw found (rw is refl)
 
-pub text_found : (text : List ℕ) (most depth : ℕ) (h : VideoHead) (ps : List (List (List ℕ))) → IsText text depth h ps → depth ≤ most → (rest : List ℕ) × (header_of most text ≡ Ok (said depth h, rest)) × ReadsAll depth h rest ps
+pub text_found : (text : List ℕ) (most depth : ℕ) (h : VideoHead) (ps : List (List (List ℕ))) → IsText most text depth h ps → depth ≤ most → (rest : List ℕ) × (header_of most text ≡ Ok (said depth h, rest)) × ReadsAll depth h rest ps
 text_found text most depth h ps t small =
     (flat_map picture_text ps, rw t.whole (header_found most t.line (flat_map picture_text ps) (said depth h) t.single t.short (line_found t.line most depth h t.said small)), pictures_found depth h ps t.fit)
 
@@ -166,27 +168,87 @@ header_told most text h rest is =
     let b = judged_told (head_of_line most t.value) t.mid h rest t.goes_on in
     record { line = t.value; single = a.single; short = omega (arith, a.short); head = b.0; whole = a.whole ∙ ap (λ z. t.value ++ 10 ∷ z) b.1 }
 
-text_of : (most : ℕ) (text : List ℕ) (depth : ℕ) (h : VideoHead) (rest : List ℕ) (ps : List (List (List ℕ))) → HeaderTold most text (said depth h) rest → PicturesTold depth h rest ps → IsText text depth h ps
+text_of : (most : ℕ) (text : List ℕ) (depth : ℕ) (h : VideoHead) (rest : List ℕ) (ps : List (List (List ℕ))) → HeaderTold most text (said depth h) rest → PicturesTold depth h rest ps → IsText most text depth h ps
 text_of most text depth h rest ps a b = record { line = a.line; single = a.single; short = a.short; said = (line_only a.line most (said depth h) a.head).0; whole = a.whole ∙ ap (λ z. a.line ++ 10 ∷ z) b.whole; fit = b.fit }
 
-pub text_only : (text : List ℕ) (most depth : ℕ) (h : VideoHead) (rest : List ℕ) (ps : List (List (List ℕ))) → header_of most text ≡ Ok (said depth h, rest) → ReadsAll depth h rest ps → IsText text depth h ps
+pub text_only : (text : List ℕ) (most depth : ℕ) (h : VideoHead) (rest : List ℕ) (ps : List (List (List ℕ))) → header_of most text ≡ Ok (said depth h, rest) → ReadsAll depth h rest ps → IsText most text depth h ps
 text_only text most depth h rest ps is reads = text_of most text depth h rest ps (header_told most text (said depth h) rest is) (pictures_only depth h rest ps reads)
 
--- the canonical text is a text of its head and pictures
-pub canonical_is : (depth : ℕ) (h : VideoHead) (pictures : List (List (List ℕ))) → IsHead h → IsNamed depth h → AllFit depth h pictures → IsText (canonical_text depth h pictures) depth h pictures
-canonical_is depth h pictures k named fit = record {
+-- what a head says of siting and range makes no difference to its pictures
+fit_said : (most depth : ℕ) (h : VideoHead) (ps : List (List (List ℕ))) → AllFit depth h ps → AllFit depth (as_said most depth h) ps
+fit_said most depth h [] fit = tt
+fit_said most depth h (p ∷ ps) fit = (fit.0, fit_said most depth h ps fit.1)
+
+-- the canonical text is a text of its pictures and of its head, as a text says it
+pub canonical_is : (most depth : ℕ) (h : VideoHead) (pictures : List (List (List ℕ))) → IsHead h → IsNamed depth h → AllFit depth h pictures → IsText most (canonical_text depth h pictures) depth (as_said most depth h) pictures
+canonical_is most depth h pictures k named fit = record {
   line = head_line depth h;
   single = line_single depth h k;
   short = line_short depth h k;
-  said = (line_only (head_line depth h) depth (said depth h) (line_back depth depth h k named (omega arith))).0;
+  said = line_said most depth h k named;
   whole = ap (λ z. z ++ flat_map picture_text pictures) (header_parts depth h) ∙ append_assoc (head_line depth h) (10 ∷ []) (flat_map picture_text pictures);
-  fit = fit;
+  fit = fit_said most depth h pictures fit;
 }
 
 -- and reads as them
 pub canonical_back : (most depth : ℕ) (h : VideoHead) (pictures : List (List (List ℕ))) → IsHead h → IsNamed depth h → AllFit depth h pictures → depth ≤ most →
-    (rest : List ℕ) × (header_of most (canonical_text depth h pictures) ≡ Ok (said depth h, rest)) × ReadsAll depth h rest pictures
-canonical_back most depth h pictures k named fit small = text_found (canonical_text depth h pictures) most depth h pictures (canonical_is depth h pictures k named fit) small
+    (rest : List ℕ) × (header_of most (canonical_text depth h pictures) ≡ Ok (said depth (as_said most depth h), rest)) × ReadsAll depth (as_said most depth h) rest pictures
+canonical_back most depth h pictures k named fit small = text_found (canonical_text depth h pictures) most depth (as_said most depth h) pictures (canonical_is most depth h pictures k named fit) small
+
+nothing_said : (h : VideoHead) → h.siting ≡ None → h.range ≡ None → record h { siting = None; range = None } ≡ h
+nothing_said h unsited unranged =
+    let one : record h { siting = None; range = None } ≡ record h { range = None } = ap (λ z. record h { siting = z; range = None }) (sym unsited) in
+    let two : record h { range = None } ≡ h = ap (λ z. record h { range = z }) (sym unranged) in
+    one ∙ two
+
+-- if depths above 8 are not read, a head that says neither siting nor range is said as it is
+plain_said : (most depth : ℕ) (h : VideoHead) (b deep : Bool) → has_siting depth h.chroma_planes h.log2_h h.log2_v ≡ b → nat_lt 8 most ≡ deep → deep ≡ false → h.siting ≡ None → h.range ≡ None → as_said most depth h ≡ h
+plain_said most depth h b true test read strict unsited unranged = absurd (true≢false strict)
+plain_said most depth h true false test read strict unsited unranged = rw (test, read) (nothing_said h unsited unranged)
+plain_said most depth h false false test read strict unsited unranged = rw (test, read) (nothing_said h unsited unranged)
+
+pub canonical_strict : (most depth : ℕ) (h : VideoHead) (pictures : List (List (List ℕ))) → IsHead h → IsNamed depth h → h.siting ≡ None → h.range ≡ None → most ≤ 8 → AllFit depth h pictures → IsText most (canonical_text depth h pictures) depth h pictures
+canonical_strict most depth h pictures k named unsited unranged strict fit =
+    let shallow : nat_lt 8 most ≡ false = le-ltb 8 most strict in
+    let same : as_said most depth h ≡ h = plain_said most depth h _ _ refl refl shallow unsited unranged in
+    subst (λ z. IsText most (canonical_text depth h pictures) depth z pictures) same (canonical_is most depth h pictures k named fit)
+
+-- the canonical text of the head that a text says is that of the head
+half_wide : (a b : ℕ) (extra : Bool) → is_chroma true a b extra ≡ true → (b == 1) ≡ true → (a == 1) ≡ true
+half_wide zero zero extra named test = absurd (false≢true test)
+half_wide zero (suc b) extra named test = absurd (false≢true named)
+half_wide (suc zero) b extra named test = refl
+half_wide (suc (suc zero)) zero extra named test = absurd (false≢true test)
+half_wide (suc (suc zero)) (suc b) extra named test = absurd (false≢true named)
+half_wide (suc (suc (suc a))) b extra named test = absurd (false≢true named)
+
+middle_name : (s : Option Siting) → siting_name (Some (or_else s siting.Centre)) ≡ siting_name s
+middle_name None = refl
+middle_name (Some s) = refl
+
+half_name : (planes extra c : Bool) (a b : ℕ) (s : Option Siting) → is_chroma planes a b extra ≡ true → (b == 1) ≡ c → name_of_chroma planes a b extra (if (planes && (a == 1 && b == 1)) && true then Some (or_else s siting.Centre) else None) ≡ name_of_chroma planes a b extra s
+half_name false extra c a b s named test = refl
+half_name true true c a b s named test = refl
+half_name true false false a b s named test = rw test refl
+half_name true false true a b s named test = rw (half_wide a b false named test, test) (middle_name s)
+
+chroma_of_named : (depth : ℕ) (planes : Bool) (a b : ℕ) (extra : Bool) → is_named depth planes a b extra ≡ true → is_chroma planes a b extra ≡ true
+chroma_of_named depth planes a b extra named = front (is_chroma planes a b extra) _ named
+  where
+    front : (x y : Bool) → x && y ≡ true → x ≡ true
+    front true y e = refl
+    front false y e = e
+
+name_by : (depth : ℕ) (h : VideoHead) (eight : Bool) → (depth == 8) ≡ eight → IsNamed depth h → chroma_name depth (record h { siting = if has_siting depth h.chroma_planes h.log2_h h.log2_v && true then Some (or_else h.siting siting.Centre) else None }) ≡ chroma_name depth h
+name_by depth h false test named = rw test refl
+name_by depth h true test named = rw test (half_name h.chroma_planes h.extra_plane (h.log2_v == 1) h.log2_h h.log2_v h.siting (chroma_of_named depth h.chroma_planes h.log2_h h.log2_v h.extra_plane named.name) refl)
+
+header_same : (most depth : ℕ) (h : VideoHead) → IsNamed depth h → nat_lt 8 most ≡ true → header_text depth (as_said most depth h) ≡ header_text depth h
+unfolding header_text sizes_text times_text
+header_same most depth h named deep = rw deep (ap (λ z. sizes_text h ++ (times_text h ++ (name_text (codes " C") z ++ name_text (depth_name depth) (range_end h.range)))) (name_by depth h (depth == 8) refl named))
+
+pub canonical_same : (most depth : ℕ) (h : VideoHead) (pictures : List (List (List ℕ))) → IsNamed depth h → 8 < most → canonical_text depth (as_said most depth h) pictures ≡ canonical_text depth h pictures
+canonical_same most depth h pictures named deep = ap (λ z. z ++ flat_map picture_text pictures) (header_same most depth h named (lt-ltb 8 most deep))
 
 -- picture by picture
 pub canonical_written : (depth : ℕ) (h : VideoHead) (p : List (List ℕ)) (ps : List (List (List ℕ))) → next_text depth h false p ++ flat_map (next_text depth h true) ps ≡ canonical_text depth h (p ∷ ps)

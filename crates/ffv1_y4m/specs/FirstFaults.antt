@@ -1,12 +1,12 @@
 -- Where the first fault of a text of YUV4MPEG2 is: where the part begins that is not as the format
 -- has it, and before which all are. Parts are the header's line, its tags, the line that begins a
 -- picture, and planes.
-use Rattle.std.specs.Prelude.{◌≡◌, ◌⊎◌, ℕ, suc, ◌+◌, ◌<◌, ◌≤◌, ◌==◌, ◌&&◌, not}
+use Rattle.std.specs.Prelude.{◌≡◌, ◌⊎◌, ℕ, suc, ◌+◌, ◌<◌, ◌≤◌, ◌==◌, ◌&&◌, ◌||◌, not, nat_lt}
 use Rattle.std.specs.Prelude.{Bool, true, false, if◌then◌else◌, List, [], ◌∷◌, ◌++◌, length, codes}
 use Rattle.std.specs.Prelude.{flat_map, Option, Some, None, Result, Ok, Err}
 use Rattle.ffv1_samples.specs.Samples.{are_in_depth}
 use Rattle.ffv1_y4m.specs.Header.{chroma_of, ratio_of, size_of, structure_of}
-use Rattle.ffv1_y4m.specs.HeaderLine.{IsHeaderLine, Without, spaced, values_of}
+use Rattle.ffv1_y4m.specs.HeaderLine.{IsHeaderLine, Without, ranging, spaced, values_of}
 use Rattle.ffv1_y4m.specs.Pictures.{frame_line, picture_text}
 use Rattle.ffv1_y4m.specs.Text.{AllFit}
 use Rattle.ffv1_y4m.specs.VideoHead.{plane_bytes}
@@ -40,12 +40,20 @@ value_fault most letter value =
     else if letter == 88 then None
     else Some fault.Tag
 
+-- a tag X and one of these say a range
+abbrev pub is_second_range : ℕ → List (List ℕ) → ℕ → List ℕ → Bool
+is_second_range most before letter value =
+    letter == 88
+    && (is_there (ranging (nat_lt 8 most) (value ∷ []))
+    && is_there (ranging (nat_lt 8 most) (values_of 88 before)))
+
 -- what is wrong with a tag after these: it is empty, its letter is there for the second time and is
--- not X, or its value
+-- not X, it says a range for the second time, or its value
 abbrev pub tag_fault : ℕ → List (List ℕ) → List ℕ → Option Fault
 tag_fault most before [] = Some fault.Tag
 tag_fault most before (letter ∷ value) =
-    if not (letter == 88) && is_there (values_of letter before) then Some fault.Tag
+    if is_second_range most before letter value
+    || (not (letter == 88) && is_there (values_of letter before)) then Some fault.Tag
     else value_fault most letter value
 
 -- the first fault of the tags that come after these, and where its tag begins, from the space on
@@ -125,7 +133,7 @@ pub record ReachesPicture (most : ℕ) (text : List ℕ) (depth : ℕ) (h : Vide
   pub line : List ℕ
   pub pictures : List (List (List ℕ))
   pub begins : HasLine text line (flat_map picture_text pictures ++ rest)
-  pub said : IsHeaderLine line depth h
+  pub said : IsHeaderLine most line depth h
   pub small : depth ≤ most
   pub fit : AllFit depth h pictures
   pub counted : count ≡ suc (length line) + length (flat_map picture_text pictures)

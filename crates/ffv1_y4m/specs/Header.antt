@@ -1,6 +1,6 @@
 -- The header line of YUV4MPEG2, as MJPEG Tools write it (yuv4mpeg(5)): which head a text begins
 -- with, or the first fault from the left.
-use Rattle.std.specs.Prelude.{◌≡◌, ℕ, ◌+◌, ◌<◌, ◌^◌, ◌==◌, ◌&&◌, ◌||◌, Bool, true, false}
+use Rattle.std.specs.Prelude.{◌≡◌, ℕ, ◌+◌, ◌<◌, ◌^◌, ◌==◌, ◌&&◌, Bool, true, false}
 use Rattle.std.specs.Prelude.{if◌then◌else◌, nat_eq, nat_lt, nat_le, List, [], ◌∷◌, length, take}
 use Rattle.std.specs.Prelude.{drop, codes, decimal, Option, Some, None, Result, Ok, Err}
 use Rattle.std.specs.Borrow.{Bor}
@@ -13,6 +13,10 @@ use Rattle.ffv1_y4m.specs.Sequence.{◌>>=◌, Reading, ◌then◌, judge}
 use Rattle.ffv1_y4m.specs.declared.head.DeepHead.{DeepHead}
 use Rattle.ffv1_y4m.specs.declared.tags.Chroma.{Chroma}
 use Rattle.ffv1_y4m.specs.declared.tags.Tags.{Tags}
+use Rattle.ffv1_y4m.specs.declared.head.Range.{Range}
+use Rattle.ffv1_y4m.specs.declared.head.Range.TheVariants as range
+use Rattle.ffv1_y4m.specs.declared.head.Siting.{Siting}
+use Rattle.ffv1_y4m.specs.declared.head.Siting.TheVariants as siting
 use Rattle.ffv1_y4m.specs.declared.fault.Fault.{Fault}
 use Rattle.ffv1_y4m.specs.declared.fault.Fault.TheVariants as fault
 
@@ -71,11 +75,24 @@ ratio_of most value = parted_of most value (position (λ c. c == 58) value)
 -- chroma planes of these sizes, of 8 bits
 abbrev pub chroma_planes : ℕ → ℕ → Chroma
 chroma_planes log2_h log2_v =
-    record { planes = true; log2_h = log2_h; log2_v = log2_v; extra = false; depth = 8 }
+    record {
+      planes = true;
+      log2_h = log2_h;
+      log2_v = log2_v;
+      extra = false;
+      depth = 8;
+      siting = None;
+    }
+
+-- 4:2:0 of 8 bits; the siting is said if depths above 8 are read
+abbrev pub sited_planes : Bool → Siting → Chroma
+sited_planes deep s =
+    if deep then record (chroma_planes 1 1) { siting = Some s } else chroma_planes 1 1
 
 -- no chroma planes, of 8 bits
 abbrev pub no_chroma : Chroma
-no_chroma = record { planes = false; log2_h = 0; log2_v = 0; extra = false; depth = 8 }
+no_chroma =
+    record { planes = false; log2_h = 0; log2_v = 0; extra = false; depth = 8; siting = None }
 
 -- the depth above 8 of a text
 abbrev pub depth_of : List ℕ → Option ℕ
@@ -110,20 +127,30 @@ deep_chroma_of value = deep_named (take 4 value) (depth_of (drop 4 value))
 abbrev pub other_chroma_of : List ℕ → Option Chroma
 other_chroma_of value =
     if is_text value (codes "444alpha") then Some
-    (record { planes = true; log2_h = 0; log2_v = 0; extra = true; depth = 8 })
+    (record { planes = true; log2_h = 0; log2_v = 0; extra = true; depth = 8; siting = None })
     else if is_text value (codes "mono") then Some no_chroma
     else deep_chroma_of value
 
--- the chroma of a name
-unfoldable pub chroma_named : List ℕ → Option Chroma
-chroma_named value =
-    if is_text value (codes "420jpeg") ||
-    (is_text value (codes "420mpeg2") || is_text value (codes "420paldv")) then Some
-    (chroma_planes 1 1)
-    else if is_text value (codes "422") then Some (chroma_planes 1 0)
+-- the chroma of a name that says no siting
+abbrev pub unsited_named : List ℕ → Option Chroma
+unsited_named value =
+    if is_text value (codes "422") then Some (chroma_planes 1 0)
     else if is_text value (codes "444") then Some (chroma_planes 0 0)
     else if is_text value (codes "411") then Some (chroma_planes 2 0)
     else other_chroma_of value
+
+-- the chroma of the name `420`, which is another one for `420jpeg` if depths above 8 are read
+abbrev pub plain_named : Bool → Option Chroma
+plain_named deep = if deep then Some (sited_planes true siting.Centre) else None
+
+-- the chroma of a name, by whether depths above 8 are read
+unfoldable pub chroma_named : Bool → List ℕ → Option Chroma
+chroma_named deep value =
+    if is_text value (codes "420jpeg") then Some (sited_planes deep siting.Centre)
+    else if is_text value (codes "420mpeg2") then Some (sited_planes deep siting.Left)
+    else if is_text value (codes "420paldv") then Some (sited_planes deep siting.TopLeft)
+    else if is_text value (codes "420") then plain_named deep
+    else unsited_named value
 
 -- chroma of at most this depth
 abbrev pub up_to : ℕ → Chroma → Option Chroma
@@ -131,7 +158,16 @@ up_to most c = if nat_le c.depth most then Some c else None
 
 -- the chroma of a name, if depths up to this one are read
 abbrev pub chroma_of : ℕ → List ℕ → Option Chroma
-chroma_of most value = option_and_then (up_to most) (chroma_named value)
+chroma_of most value = option_and_then (up_to most) (chroma_named (nat_lt 8 most) value)
+
+-- the range that the value of a tag X says, if depths above 8 are read
+abbrev pub range_of : Bool → List ℕ → Option Range
+range_of deep value =
+    if deep
+    then (if is_text value (codes "COLORRANGE=FULL") then Some range.Full
+    else if is_text value (codes "COLORRANGE=LIMITED") then Some range.Limited
+    else None)
+    else None
 
 -- the structure of a picture: progressive, top first, bottom first, unknown; mixed is not supported
 unfoldable pub structure_of : List ℕ → Result ℕ Fault
@@ -152,6 +188,7 @@ no_tags = record {
   structure = None;
   aspect = None;
   chroma = None;
+  range = None;
 }
 
 -- a value for the first time, if it is one; that it is the second time comes first
@@ -164,6 +201,12 @@ first_value None (Some x) refusal = Ok x
 abbrev pub first_answer : {X Y : Type 0} → Option X → Result Y Fault → Result Y Fault
 first_answer (Some old) new = Err fault.Tag
 first_answer None new = new
+
+-- the range after one more tag X, which says one or none; it is said once
+abbrev pub next_range : Option Range → Option Range → Result (Option Range) Fault
+next_range old None = Ok old
+next_range None (Some new) = Ok (Some new)
+next_range (Some old) (Some new) = Err fault.Tag
 
 -- the tags with one more, by its letter: W H F I A C X
 unfoldable pub tagged : ℕ → Tags → ℕ → List ℕ → Result Tags Fault
@@ -184,7 +227,8 @@ tagged most t letter value =
     else if letter == 67 then
     (first_value t.chroma (chroma_of most value) fault.Unsupported >>= λ c. Ok
     (record t { chroma = Some c }))
-    else if letter == 88 then Ok t
+    else if letter == 88 then
+    (next_range t.range (range_of (nat_lt 8 most) value) >>= λ r. Ok (record t { range = r }))
     else Err fault.Tag
 
 -- one word of the line: a letter and its value
@@ -213,11 +257,11 @@ or_else None d = d
 
 -- the head that the tags give, once there are both sizes; without them no rate, an unknown
 -- structure and aspect, and 4:2:0 of 8 bits
-abbrev pub head_from : ℕ → ℕ → ℕ × ℕ → ℕ → ℕ × ℕ → Chroma → DeepHead
-head_from width height rate structure aspect chroma = record {
+abbrev pub head_from : ℕ × ℕ → ℕ × ℕ → ℕ → ℕ × ℕ → Chroma → Option Range → DeepHead
+head_from sizes rate structure aspect chroma range = record {
   head = record {
-    width = width;
-    height = height;
+    width = sizes.0;
+    height = sizes.1;
     rate = rate.0;
     scale = rate.1;
     structure = structure;
@@ -227,6 +271,8 @@ head_from width height rate structure aspect chroma = record {
     log2_h = chroma.log2_h;
     log2_v = chroma.log2_v;
     extra_plane = chroma.extra;
+    siting = chroma.siting;
+    range = range;
   };
   depth = chroma.depth;
 }
@@ -240,8 +286,8 @@ unfoldable pub head_of_tags : Tags → Result DeepHead Fault
 head_of_tags t = do
   width ← present t.width
   height ← present t.height
-  Ok (head_from width height (or_else t.rate (0, 0)) (or_else t.structure 0)
-      (or_else t.aspect (0, 0)) (or_else t.chroma (chroma_planes 1 1)))
+  Ok (head_from (width, height) (or_else t.rate (0, 0)) (or_else t.structure 0)
+      (or_else t.aspect (0, 0)) (or_else t.chroma (chroma_planes 1 1)) t.range)
 
 -- the head and the depth of a header line, given without its line feed, if depths up to `most`
 -- are read

@@ -10,14 +10,14 @@ abbrev pub AllFit : ℕ → VideoHead → List (List (List ℕ)) → Type 0
 AllFit depth h [] = Unit {0}
 AllFit depth h (p ∷ ps) = (Fits depth h p × AreInDepth depth p) × AllFit depth h ps
 
--- a text is a line of at most 1024 bytes that says this depth and this head, a line feed, and these
--- pictures
-pub record IsText (text : List ℕ) (depth : ℕ) (h : VideoHead)
+-- a text is a line of at most 1024 bytes that says this depth and this head, as it is read if
+-- depths up to `most` are, a line feed, and these pictures
+pub record IsText (most : ℕ) (text : List ℕ) (depth : ℕ) (h : VideoHead)
     (pictures : List (List (List ℕ))) : Type 0 where
   pub line : List ℕ
   pub single : Without 10 line
   pub short : length line ≤ 1024
-  pub said : IsHeaderLine line depth h
+  pub said : IsHeaderLine most line depth h
   pub whole : text ≡ line ++ 10 ∷ flat_map picture_text pictures
   pub fit : AllFit depth h pictures
 

@@ -1,7 +1,7 @@
 -- The head of a stream of pictures, and the planes of its pictures.
 use Rattle.std.specs.Prelude.{◌≡◌, ℕ, zero, suc, ◌+◌, ◌-◌, ◌*◌, ◌/◌, ◌^◌, ◌≤◌, ◌==◌, if◌then◌else◌}
 use Rattle.std.specs.Prelude.{List, [], ◌∷◌, length, map, Bool, true, false, not, nat_lt}
-use Rattle.std.specs.Prelude.{◌&&◌, ◌||◌}
+use Rattle.std.specs.Prelude.{◌&&◌, ◌||◌, None}
 use Rattle.ffv1_samples.specs.Samples.{are_in_depth}
 use Rattle.ffv1_y4m.specs.declared.head.VideoHead.{VideoHead}
 
@@ -74,11 +74,20 @@ is_named depth planes log2_h log2_v extra =
     is_chroma planes log2_h log2_v extra
     && (depth == 8 || (has_depth_name planes depth && (not extra && nat_lt log2_h 2)))
 
--- the chroma of a head has a name at this depth
+-- the chroma and the depth whose name says a siting: 4:2:0 of 8 bits
+abbrev pub has_siting : ℕ → Bool → ℕ → ℕ → Bool
+has_siting depth planes log2_h log2_v = depth == 8 && (planes && (log2_h == 1 && log2_v == 1))
+
+-- the chroma of a head has a name at this depth, and a siting only if such a name says one
 pub record IsNamed (depth : ℕ) (h : VideoHead) : Type 0 where
   pub least : 8 ≤ depth
   pub most : depth ≤ 16
   pub name : is_named depth h.chroma_planes h.log2_h h.log2_v h.extra_plane ≡ true
+  pub sited : has_siting depth h.chroma_planes h.log2_h h.log2_v ≡ false → h.siting ≡ None
+
+-- a head says neither siting nor range
+abbrev pub SaysNeither : VideoHead → Type 0
+SaysNeither h = (h.siting ≡ None) × (h.range ≡ None)
 
 -- a head as it is read: sizes, numbers, chroma that has a name
 pub record IsHead (h : VideoHead) : Type 0 where
@@ -103,4 +112,6 @@ colour_head width height = record {
   log2_h = 0;
   log2_v = 0;
   extra_plane = false;
+  siting = None;
+  range = None;
 }

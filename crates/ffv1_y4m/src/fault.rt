@@ -24,7 +24,7 @@ pub enum Fault {
     #[error("60 Header")]
     Header,
     /// A tag of the header is empty, unknown, there for the second time or has no value of its
-    /// kind, or a size is missing.
+    /// kind, a range is said for the second time, or a size is missing.
     #[error("61 Tag")]
     Tag,
     /// A tag names a colour space or an interlacing that this codec leaves out.

@@ -75,11 +75,11 @@ pub fn text_is_whole_or_faulty()
         TextFault most text f m → TextFault most text g n → (f ≡ g) × (m ≡ n) }
     ensures some { (most : ℕ) (text : List ℕ) → 8 ≤ most →
         ((depth : ℕ) × (h : VideoHead) × (pictures : List (List (List ℕ)))
-        × IsText text depth h pictures × (depth ≤ most))
+        × IsText most text depth h pictures × (depth ≤ most))
         ⊎ ((f : Fault) × (n : ℕ) × TextFault most text f n) }
     ensures none { (most : ℕ) (text : List ℕ) (depth : ℕ) (h : VideoHead)
         (pictures : List (List (List ℕ))) (f : Fault) (n : ℕ) →
-        IsText text depth h pictures → depth ≤ most → TextFault most text f n → ⊥ }
+        IsText most text depth h pictures → depth ≤ most → TextFault most text f n → ⊥ }
     ensures inside { (most : ℕ) (text : List ℕ) (f : Fault) (n : ℕ) → TextFault most text f n →
         n ≤ length text }
 {}

@@ -25,6 +25,30 @@ pub struct VideoHead {
     pub log2_v: u8,
     /// Whether there is a plane of transparency.
     pub extra_plane: bool,
+    /// Where samples of chroma lie, of 4:2:0 of 8 bits; None if it is not said.
+    pub siting: Option<Siting>,
+    /// The range of the samples' values; None if it is not said.
+    pub range: Option<Range>,
+}
+
+/// Where a sample of chroma lies, of the four samples of Y that share it.
+#[derive(Clone, Copy, Debug, PartialEq, Eq)]
+pub enum Siting {
+    /// In the centre of the four, as in JPEG and MPEG-1: `420jpeg`.
+    Centre,
+    /// Between the two on the left, as in MPEG-2: `420mpeg2`.
+    Left,
+    /// On the upper left one, as in DV of 625 lines: `420paldv`.
+    TopLeft,
+}
+
+/// Which of the values of a depth samples take.
+#[derive(Clone, Copy, Debug, PartialEq, Eq)]
+pub enum Range {
+    /// Room is left below black and above white: at 8 bits, Y has 16 to 235.
+    Limited,
+    /// All values.
+    Full,
 }
 
 /// A head, and the depth of its samples.

@@ -1,13 +1,14 @@
 //! Laws of texts.
 
 ghost use Rattle.std.specs.Prelude.{◌≡◌, ℕ, ◌≤◌, ◌*◌, List, [], ◌∷◌, ◌++◌, length, flat_map, true};
-ghost use Rattle.std.specs.Prelude.{codes, decimal, false, Ok};
+ghost use Rattle.std.specs.Prelude.{codes, decimal, false, None, Ok, ◌<◌};
 ghost use Rattle.ffv1_y4m.specs.declared.head.VideoHead.{VideoHead};
 ghost use Rattle.ffv1_y4m.specs.Header.{head_of_line, header_of};
 ghost use Rattle.ffv1_y4m.specs.HeaderLine.{IsHeaderLine};
 ghost use Rattle.ffv1_y4m.specs.Text.{AllFit, IsText, ReadsAll};
-ghost use Rattle.ffv1_y4m.specs.Canonical.{canonical_text, next_text};
-ghost use Rattle.ffv1_y4m.specs.VideoHead.{Fits, IsHead, IsNamed, colour_head, plane_bytes};
+ghost use Rattle.ffv1_y4m.specs.Canonical.{as_said, canonical_text, next_text};
+ghost use Rattle.ffv1_y4m.specs.VideoHead.{Fits, IsHead, IsNamed, colour_head, has_siting};
+ghost use Rattle.ffv1_y4m.specs.VideoHead.{SaysNeither, plane_bytes};
 ghost use Rattle.ffv1_y4m.specs.State.{HasRoom, samples_of};
 ghost use Rattle.std.specs.declared.vec.Vec.{Vec};
 ghost use Rattle.ffv1_y4m.specs.Images.{AtImage, image_lines, image_text, IsImages, IsImagesIn};
@@ -27,44 +28,74 @@ use std::alloc::Allocator;
 /// A line is read as the depth and the head that it says, if depths up to that one are read; and
 /// what is so read says that depth and that head.
 pub fn header_line_is_read_exactly()
-    ensures found { (line : List ℕ) (most depth : ℕ) (h : VideoHead) → IsHeaderLine line depth h →
-        depth ≤ most → head_of_line most line ≡ Ok (record { head = h; depth = depth }) }
+    ensures found { (line : List ℕ) (most depth : ℕ) (h : VideoHead) →
+        IsHeaderLine most line depth h → depth ≤ most →
+        head_of_line most line ≡ Ok (record { head = h; depth = depth }) }
     ensures only { (line : List ℕ) (most depth : ℕ) (h : VideoHead) →
         head_of_line most line ≡ Ok (record { head = h; depth = depth }) →
-        IsHeaderLine line depth h × (8 ≤ most → depth ≤ most) }
+        IsHeaderLine most line depth h × (8 ≤ most → depth ≤ most) }
 {}
 
 /// A head that a line says has sizes, numbers and chroma that are read here.
 pub fn said_head_can_be_read()
-    ensures { (line : List ℕ) (depth : ℕ) (h : VideoHead) → IsHeaderLine line depth h → IsHead h }
+    ensures { (most : ℕ) (line : List ℕ) (depth : ℕ) (h : VideoHead) →
+        IsHeaderLine most line depth h → IsHead h }
 {}
 
-/// A head that a line says has chroma that has a name at the depth that it says.
+/// A head that a line says has chroma that has a name at the depth that it says, and a siting only
+/// if such a name says one.
 pub fn said_chroma_has_a_name()
-    ensures { (line : List ℕ) (depth : ℕ) (h : VideoHead) → IsHeaderLine line depth h →
-        IsNamed depth h }
+    ensures { (most : ℕ) (line : List ℕ) (depth : ℕ) (h : VideoHead) →
+        IsHeaderLine most line depth h → IsNamed depth h }
+{}
+
+/// If depths above 8 are not read, a line and a header say neither siting nor range.
+pub fn strict_head_says_neither()
+    ensures line { (most : ℕ) (line : List ℕ) (depth : ℕ) (h : VideoHead) →
+        IsHeaderLine most line depth h → most ≤ 8 → SaysNeither h }
+    ensures header { (most : ℕ) (text : List ℕ) (depth : ℕ) (h : VideoHead) (rest : List ℕ) →
+        header_of most text ≡ Ok (record { head = h; depth = depth }, rest) → most ≤ 8 →
+        SaysNeither h }
+{}
+
+/// If depths above 8 are read, a head is said as it is, unless it is one of 4:2:0 of 8 bits that
+/// says no siting.
+pub fn sited_head_is_said_as_it_is()
+    ensures { (most depth : ℕ) (h : VideoHead) → IsNamed depth h → 8 < most →
+        (h.siting ≡ None → has_siting depth h.chroma_planes h.log2_h h.log2_v ≡ false) →
+        as_said most depth h ≡ h }
 {}
 
 /// A text is read as its depth, its head and its pictures, if depths up to that one are read; and
 /// what is so read is a text of pictures. The canonical text of a head and of pictures that fit it
-/// is one, so it reads back as them. It is what a writer writes of them, picture by picture.
+/// is one, so it reads back as them, and as the head that a text says: above 8 bits 4:2:0 of 8 bits
+/// lies in the centre if the head says nothing else, up to 8 bits siting and range are not said.
+/// It is what a writer writes of them, picture by picture.
 pub fn text_is_read_as_its_pictures()
     ensures found { (text : List ℕ) (most depth : ℕ) (h : VideoHead)
-        (pictures : List (List (List ℕ))) → IsText text depth h pictures → depth ≤ most →
+        (pictures : List (List (List ℕ))) → IsText most text depth h pictures → depth ≤ most →
         (rest : List ℕ) × (header_of most text ≡ Ok (record { head = h; depth = depth }, rest))
         × ReadsAll depth h rest pictures }
     ensures only { (text : List ℕ) (most depth : ℕ) (h : VideoHead) (rest : List ℕ)
         (pictures : List (List (List ℕ))) →
         header_of most text ≡ Ok (record { head = h; depth = depth }, rest) →
-        ReadsAll depth h rest pictures → IsText text depth h pictures }
-    ensures canonical { (depth : ℕ) (h : VideoHead) (pictures : List (List (List ℕ))) → IsHead h →
-        IsNamed depth h → AllFit depth h pictures →
-        IsText (canonical_text depth h pictures) depth h pictures }
+        ReadsAll depth h rest pictures → IsText most text depth h pictures }
+    ensures canonical { (most depth : ℕ) (h : VideoHead) (pictures : List (List (List ℕ))) →
+        IsHead h → IsNamed depth h → AllFit depth h pictures →
+        IsText most (canonical_text depth h pictures) depth (as_said most depth h) pictures }
+    ensures strict { (most depth : ℕ) (h : VideoHead) (pictures : List (List (List ℕ))) →
+        IsHead h → IsNamed depth h → h.siting ≡ None → h.range ≡ None → most ≤ 8 →
+        AllFit depth h pictures →
+        IsText most (canonical_text depth h pictures) depth h pictures }
+    ensures same { (most depth : ℕ) (h : VideoHead) (pictures : List (List (List ℕ))) →
+        IsNamed depth h → 8 < most → canonical_text depth (as_said most depth h) pictures
+        ≡ canonical_text depth h pictures }
     ensures back { (most depth : ℕ) (h : VideoHead) (pictures : List (List (List ℕ))) → IsHead h →
         IsNamed depth h → AllFit depth h pictures → depth ≤ most →
         (rest : List ℕ)
         × (header_of most (canonical_text depth h pictures)
-        ≡ Ok (record { head = h; depth = depth }, rest)) × ReadsAll depth h rest pictures }
+        ≡ Ok (record { head = as_said most depth h; depth = depth }, rest))
+        × ReadsAll depth (as_said most depth h) rest pictures }
     ensures written { (depth : ℕ) (h : VideoHead) (picture : List (List ℕ))
         (pictures : List (List (List ℕ))) →
         next_text depth h false picture ++ flat_map (next_text depth h true) pictures

@@ -40,7 +40,7 @@ mod y4m_reader;
 mod y4m_writer;
 
 pub use fault::Fault;
-pub use head::VideoHead;
+pub use head::{Range, Siting, VideoHead};
 pub use planes::{has_chroma_name, has_chroma_name_at, plane_bytes, plane_count, plane_size};
 pub use ppm_reader::PpmReader;
 pub use ppm_writer::PpmWriter;

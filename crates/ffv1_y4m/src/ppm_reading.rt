@@ -99,6 +99,8 @@ pub(crate) fn sized_head(width: u32, height: u32, depth: u32) -> DeepHead
         log2_h: 0,
         log2_v: 0,
         extra_plane: false,
+        siting: None,
+        range: None,
     };
     DeepHead { head, depth }
 }

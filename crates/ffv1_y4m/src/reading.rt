@@ -9,7 +9,7 @@ ghost use Rattle.ffv1_y4m.specs.Header.{head_of_line, header_of, line_read};
 ghost use Rattle.ffv1_y4m.specs.declared.head.DeepHead.{DeepHead};
 ghost use Rattle.ffv1_y4m.specs.State.{IsHeaderFault, IsLineFault, IsPictureFault, NoWant, OnFault};
 ghost use Rattle.std.specs.Vec.{vec_capacity};
-ghost use Rattle.ffv1_y4m.specs.VideoHead.{IsHead, IsNamed};
+ghost use Rattle.ffv1_y4m.specs.VideoHead.{IsHead, IsNamed, SaysNeither};
 ghost use Rattle.ffv1_y4m.specs.Passage.{known_text, passage, passage_from};
 ghost use Rattle.ffv1_y4m.specs.Pictures.{frame_begun, plane_read};
 ghost use Rattle.ffv1_y4m.specs.Reads.{IsNone, Nowhere, Stands, seen};
@@ -32,6 +32,7 @@ fn head_of_line(most: u32, line: &[u8]) -> Result<DeepHead, Fault>
     ensures head { IfOk result (λ h. IsHead h.head) }
     ensures named { IfOk result (λ h. IsNamed h.depth h.head) }
     ensures most { IfOk result (λ h. 8 ≤ most → h.depth ≤ most) }
+    ensures strict { IfOk result (λ h. most ≤ 8 → SaysNeither h.head) }
 {
     if is_text(line, b"YUV4MPEG2") {
         return Err(Fault::Tag);
@@ -99,6 +100,7 @@ pub(crate) fn read_header<R: ByteIn>(
     ensures head { IfOk result (λ h. IsHead h.head) }
     ensures named { IfOk result (λ h. IsNamed h.depth h.head) }
     ensures most { IfOk result (λ h. 8 ≤ most → h.depth ≤ most) }
+    ensures strict { IfOk result (λ h. most ≤ 8 → SaysNeither h.head) }
     ensures own { OnFault IsHeaderFault result }
 {
     let mut line = [0u8; LINE];

@@ -5,9 +5,11 @@ ghost use Rattle.ffv1_y4m.specs.Header.{no_tags, judged, tagged, all_judged, wor
 ghost use Rattle.ffv1_y4m.specs.Header.{other_chroma_of, head_of_tags, first_value, first_answer};
 ghost use Rattle.ffv1_y4m.specs.Header.{at_depth, chroma_named, chroma_planes, deep_chroma_of};
 ghost use Rattle.ffv1_y4m.specs.Header.{deep_named, depth_of, no_chroma, structure_of};
+ghost use Rattle.ffv1_y4m.specs.Header.{next_range, plain_named, range_of, sited_planes};
+ghost use Rattle.ffv1_y4m.specs.Header.{unsited_named};
 
 use crate::fault::Fault;
-use crate::head::{DeepHead, VideoHead};
+use crate::head::{DeepHead, Range, Siting, VideoHead};
 use crate::planes::has_depth_name;
 use crate::values::{aspect, is_text, rate, size, split_once, structure};
 
@@ -19,6 +21,7 @@ pub(crate) struct Chroma {
     pub(crate) log2_v: u8,
     pub(crate) extra: bool,
     pub(crate) depth: u32,
+    pub(crate) siting: Option<Siting>,
 }
 
 /// What the tags so far have said.
@@ -30,6 +33,7 @@ pub(crate) struct Tags {
     pub(crate) structure: Option<u8>,
     pub(crate) aspect: Option<(u16, u16)>,
     pub(crate) chroma: Option<Chroma>,
+    pub(crate) range: Option<Range>,
 }
 
 /// Chroma planes of these sizes, of 8 bits.
@@ -42,7 +46,21 @@ fn planes(log2_h: u8, log2_v: u8) -> Chroma
         log2_v,
         extra: false,
         depth: 8,
+        siting: None,
     }
+}
+
+/// 4:2:0 of 8 bits; the siting is said if depths above 8 are read.
+fn sited(deep: bool, siting: Siting) -> Chroma
+    ensures { result ≡ sited_planes deep siting }
+{
+    if deep {
+        return Chroma {
+            siting: Some(siting),
+            ..planes(1, 1)
+        };
+    }
+    planes(1, 1)
 }
 
 /// The depth above 8 of a text.
@@ -112,17 +130,44 @@ fn no_chroma() -> Chroma
         log2_v: 0,
         extra: false,
         depth: 8,
+        siting: None,
     }
 }
 
 /// The chroma of a name.
 #[tactic(auto, unfolding(crate::specs::Header::chroma_named))]
-fn chroma_named(value: &[u8]) -> Option<Chroma>
-    ensures { result ≡ chroma_named value.now }
+fn chroma_named(deep: bool, value: &[u8]) -> Option<Chroma>
+    ensures { result ≡ chroma_named deep value.now }
 {
-    if is_text(value, b"420jpeg") || is_text(value, b"420mpeg2") || is_text(value, b"420paldv") {
-        return Some(planes(1, 1));
+    if is_text(value, b"420jpeg") {
+        return Some(sited(deep, Siting::Centre));
     }
+    if is_text(value, b"420mpeg2") {
+        return Some(sited(deep, Siting::Left));
+    }
+    if is_text(value, b"420paldv") {
+        return Some(sited(deep, Siting::TopLeft));
+    }
+    if is_text(value, b"420") {
+        return plain_name(deep);
+    }
+    unsited_chroma(value)
+}
+
+/// The chroma of the name `420`, which is read if depths above 8 are.
+fn plain_name(deep: bool) -> Option<Chroma>
+    ensures { result ≡ plain_named deep }
+{
+    if deep {
+        return Some(sited(true, Siting::Centre));
+    }
+    None
+}
+
+/// The chroma of a name that says no siting.
+fn unsited_chroma(value: &[u8]) -> Option<Chroma>
+    ensures { result ≡ unsited_named value.now }
+{
     if is_text(value, b"422") {
         return Some(planes(1, 0));
     }
@@ -147,6 +192,7 @@ fn other_chroma(value: &[u8]) -> Option<Chroma>
             log2_v: 0,
             extra: true,
             depth: 8,
+            siting: None,
         });
     }
     if is_text(value, b"mono") {
@@ -159,7 +205,7 @@ fn other_chroma(value: &[u8]) -> Option<Chroma>
 fn chroma_up_to(most: u32, value: &[u8]) -> Option<Chroma>
     ensures { result ≡ chroma_of most value.now }
 {
-    let Some(chroma) = chroma_named(value) else {
+    let Some(chroma) = chroma_named(8 < most, value) else {
         return None;
     };
     if chroma.depth <= most {
@@ -176,6 +222,33 @@ fn first<T: Drop>(old: Option<T>, new: Option<T>, refusal: Fault) -> Result<T, F
         (Some(_), _) => Err(Fault::Tag),
         (None, None) => Err(refusal),
         (None, Some(value)) => Ok(value),
+    }
+}
+
+/// The range that the value of a tag X says, if depths above 8 are read.
+fn range(deep: bool, value: &[u8]) -> Option<Range>
+    ensures { result ≡ range_of deep value.now }
+{
+    if !deep {
+        return None;
+    }
+    if is_text(value, b"COLORRANGE=FULL") {
+        return Some(Range::Full);
+    }
+    if is_text(value, b"COLORRANGE=LIMITED") {
+        return Some(Range::Limited);
+    }
+    None
+}
+
+/// The range after one more tag X, which says one or none.
+fn next_range(old: Option<Range>, new: Option<Range>) -> Result<Option<Range>, Fault>
+    ensures { result ≡ next_range old new }
+{
+    match (old, new) {
+        (_, None) => Ok(old),
+        (None, Some(range)) => Ok(Some(range)),
+        (Some(_), Some(_)) => Err(Fault::Tag),
     }
 }
 
@@ -196,7 +269,7 @@ fn tagged(most: u32, tags: Tags, letter: u8, value: &[u8]) -> Result<Tags, Fault
             chroma_up_to(most, value),
             Fault::Unsupported,
         )?),
-        b'X' => (),
+        b'X' => tags.range = next_range(tags.range, range(8 < most, value))?,
         _ => return Err(Fault::Tag),
     }
     Ok(tags)
@@ -233,6 +306,7 @@ pub(crate) fn all_tags(most: u32, line: &[u8]) -> Result<Tags, Fault>
         structure: None,
         aspect: None,
         chroma: None,
+        range: None,
     };
     let mut rest = line;
     while let Some((word, words)) = split_once(rest, b' ') {
@@ -264,6 +338,8 @@ pub(crate) fn head_of_tags(tags: Tags) -> Result<DeepHead, Fault>
         log2_h: chroma.log2_h,
         log2_v: chroma.log2_v,
         extra_plane: chroma.extra,
+        siting: chroma.siting,
+        range: tags.range,
     };
     Ok(DeepHead {
         head,

@@ -3,7 +3,7 @@
 ghost use Rattle.std.specs.Prelude.{◌≡◌, ◌≤◌, ℕ, List, ◌++◌, map, flat_map};
 ghost use Rattle.ffv1_wire.specs.Passage.{passage};
 ghost use Rattle.ffv1_y4m.specs.Canonical.{chroma_name, deep_name, depth_name, header_text};
-ghost use Rattle.ffv1_y4m.specs.Canonical.{name_text, number_text};
+ghost use Rattle.ffv1_y4m.specs.Canonical.{name_text, number_text, range_end, siting_name};
 ghost use Rattle.ffv1_y4m.specs.Canonical.{ratio_text, sizes_text, structure_name, times_text};
 ghost use Rattle.ffv1_y4m.specs.Ppm.{image_header_text};
 ghost use Rattle.ffv1_y4m.specs.Pictures.{frame_line, picture_text};
@@ -11,7 +11,7 @@ ghost use Rattle.ffv1_y4m.specs.State.{samples_of};
 ghost use Rattle.ffv1_y4m.specs.Writes.{Writes};
 
 use crate::fault::Fault;
-use crate::head::VideoHead;
+use crate::head::{Range, Siting, VideoHead};
 use crate::planes::has_chroma_name_at;
 use ffv1_wire::{ByteOut, write_all};
 use itoa::Buffer;
@@ -82,6 +82,28 @@ fn depth_name(depth: u32) -> &'static [u8]
     }
 }
 
+/// The name of 4:2:0 of 8 bits.
+fn siting_name(siting: Option<Siting>) -> &'static [u8]
+    ensures { result.now ≡ siting_name siting }
+{
+    match siting {
+        None | Some(Siting::Centre) => b"420jpeg",
+        Some(Siting::Left) => b"420mpeg2",
+        Some(Siting::TopLeft) => b"420paldv",
+    }
+}
+
+/// The tag of the range, if there is one, and the line feed.
+fn range_end(range: Option<Range>) -> &'static [u8]
+    ensures { result.now ≡ range_end range }
+{
+    match range {
+        None => b"\n",
+        Some(Range::Limited) => b" XCOLORRANGE=LIMITED\n",
+        Some(Range::Full) => b" XCOLORRANGE=FULL\n",
+    }
+}
+
 /// The name of the chroma, up to the depth in it.
 fn chroma_name(head: &VideoHead, depth: u32) -> &'static [u8]
     ensures { result.now ≡ chroma_name depth head.now }
@@ -96,7 +118,7 @@ fn chroma_name(head: &VideoHead, depth: u32) -> &'static [u8]
         return b"444alpha";
     }
     match (head.log2_h, head.log2_v) {
-        (_, 1) => b"420jpeg",
+        (_, 1) => siting_name(head.siting),
         (1, _) => b"422",
         (2, _) => b"411",
         _ => b"444",
@@ -186,7 +208,7 @@ pub(crate) fn write_header<W: ByteOut>(
     write_sizes(output, head)?;
     write_times(output, head)?;
     write_name(output, b" C", chroma_name(head, depth))?;
-    write_name(output, depth_name(depth), b"\n")?;
+    write_name(output, depth_name(depth), range_end(head.range))?;
     Ok(())
 }
 

@@ -7,7 +7,8 @@ ghost use Rattle.ffv1_y4m.specs.Pictures.{GrowsInPicture, picture_read};
 ghost use Rattle.ffv1_y4m.specs.Reads.{Answers, Nowhere};
 ghost use Rattle.ffv1_y4m.specs.State.{HasRoom, IsHeaderFault, IsPictureFault, Lent, NextAnswers};
 ghost use Rattle.ffv1_y4m.specs.State.{NoWant, OnFault, failing, said_by, samples_of, shown};
-ghost use Rattle.ffv1_y4m.specs.VideoHead.{AreInDepth, Fits, IsHead, IsNamed, plane_bytes};
+ghost use Rattle.ffv1_y4m.specs.VideoHead.{AreInDepth, Fits, IsHead, IsNamed, SaysNeither};
+ghost use Rattle.ffv1_y4m.specs.VideoHead.{plane_bytes};
 
 use crate::fault::Fault;
 use crate::head::VideoHead;
@@ -49,6 +50,9 @@ impl<A: Allocator + Copy> Y4mReader<A> {
     /// them. `Tag` if a tag is empty, has an unknown letter, is there for the second time (except
     /// X) or has no value of its kind, or W or H is missing. `Unsupported` if C names no chroma
     /// that is read here, or I is mixed. `Read` if a read failed.
+    ///
+    /// C may be `420jpeg`, `420mpeg2`, `420paldv`, `422`, `444`, `411`, `444alpha` or `mono`; the
+    /// head says no siting and no range, and X may be anything.
     pub fn open<R: ByteIn>(
         alloc: A,
         first: Option<u8>,
@@ -60,12 +64,19 @@ impl<A: Allocator + Copy> Y4mReader<A> {
         ensures own { OnFault IsHeaderFault result }
         ensures head { IfOk result (λ r. IsHead r.head) }
         ensures depth { IfOk result (λ r. r.depth ≡ 8) }
+        ensures neither { IfOk result (λ r. SaysNeither r.head) }
     {
         open_at(alloc, 8, first, input)
     }
 
     /// Reads the header as `open` does, and reads depths of up to 16 bits too: C may also be
     /// `420p`, `422p` or `444p` and 9, 10, 12, 14 or 16 after it, or `mono` and 9, 10, 12 or 16.
+    ///
+    /// The head then says a siting and a range, if the text does (yuv4mpeg(5), and FFmpeg's tags
+    /// X): `420jpeg`, `420mpeg2` and `420paldv` say that chroma lies in the centre, on the left and
+    /// on the upper left; `420` is read as `420jpeg`. X of `COLORRANGE=FULL` or
+    /// `COLORRANGE=LIMITED` says the range, and `Tag` is answered if a second one does; any other X
+    /// says nothing.
     pub fn open_deep<R: ByteIn>(
         alloc: A,
         first: Option<u8>,
@@ -151,6 +162,7 @@ fn open_at<R: ByteIn, A: Allocator + Copy>(
     ensures head { IfOk result (λ r. IsHead r.head) }
     ensures named { IfOk result (λ r. IsNamed r.depth r.head) }
     ensures most { IfOk result (λ r. 8 ≤ most → r.depth ≤ most) }
+    ensures strict { IfOk result (λ r. most ≤ 8 → SaysNeither r.head) }
 {
     let said = read_header(most, first, input)?;
     Ok(Y4mReader {

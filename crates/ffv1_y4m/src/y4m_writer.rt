@@ -68,7 +68,10 @@ impl Y4mWriter {
     }
 
     /// Writes the next picture of these planes, and before the first one the header:
-    /// `YUV4MPEG2 W{width} H{height} F{rate}:{scale} I{structure} A{sar_num}:{sar_den} C{chroma}`.
+    /// `YUV4MPEG2 W{width} H{height} F{rate}:{scale} I{structure} A{sar_num}:{sar_den} C{chroma}`,
+    /// and after it ` XCOLORRANGE=FULL` or ` XCOLORRANGE=LIMITED` if the head says a range. C of
+    /// 4:2:0 of 8 bits is `420mpeg2` or `420paldv` if its siting is on the left or on the upper
+    /// left, else `420jpeg`; the siting of other chroma is not written.
     ///
     /// The planes are those of the head, as a reader gives them: then what is written reads back.
     /// Planes of another number or size are written as they are, and what stands then is no text of
