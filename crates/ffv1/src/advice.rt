@@ -140,9 +140,9 @@ pub static ROWS: [&str; 64] = [
     "81 BadElement\n  An ID has more than 4 bytes, or a size, a track number or the number of a \
      field more than 8; a size is unknown but may not be; an element stands in the Segment, or in \
      a Cluster of known size, that is not allowed there (in a Cluster an element of a Segment, \
-     EBML or Segment whatever its size); or a block has a number that no track has. It may also \
-     come later in the file.\n  Damage, or another file after one whose Segment has no known \
-     size. Fetch another copy of the file.",
+     EBML or Segment whatever its size); a BlockGroup ends without a Block; or a block has a \
+     number that no track has. It may also come later in the file.\n  Damage, or another file \
+     after one whose Segment has no known size. Fetch another copy of the file.",
     "82 NoTracks\n  A Cluster, or the end of the Segment, comes before any Tracks: some programs \
      move Tracks to the end when they grow.\n  Write the file anew: mkvmerge -o new.mkv old.mkv.",
     "83 Encoded\n  The track is compressed or encrypted: it has ContentEncodings.\n  Write the \

@@ -46,7 +46,7 @@ use std::process::ExitCode;
 use std::rt::Files;
 use std::time::Clock;
 use std::{env, io};
-use told::{Paths, advise, help};
+use told::{Paths, advise, help, tell_colour_lost};
 
 /// Prints a count: on standard output, or on standard error if the output itself goes there.
 fn print_count(
@@ -128,8 +128,8 @@ fn pack_target<R: ByteIn, H: Files + Print>(
     }
 }
 
-/// Packs a video into a file, and prints how many frames and bytes of them there are. The input is
-/// opened first, and then the output.
+/// Packs a video into a file, and prints how many frames and bytes of them there are, and before it
+/// if an AVI loses colours. The input is opened first, and then the output.
 fn run_pack(
     rt: &(impl Files + Input + Print + Eprint + Clock),
     alloc: Global,
@@ -154,6 +154,9 @@ fn run_pack(
             &mut ToWrite::new(target),
             choice,
         )?;
+        if packed.loses_colour {
+            met.printed(tell_colour_lost(rt, files.output))?;
+        }
         (packed.frames, packed.bytes)
     };
     let count = format!(in alloc; "frames {frames} bytes {bytes}")?;

@@ -19,7 +19,7 @@ use Rattle.ffv1_matroska.specs.Writers.{Finishes, Puts, Writing as Writer, piece
 use Rattle.ffv1_matroska.specs.declared.track_entry.TrackEntry.{TrackEntry}
 use Rattle.ffv1_engine.specs.declared.fault.Fault.{Fault}
 use Rattle.ffv1_engine.specs.declared.fault.Fault.TheVariants as fault
-use Rattle.ffv1_engine.specs.declared.packing.Packed.{Packed}
+use Rattle.ffv1_engine.specs.declared.matroska_packing.Put.{Put}
 use Rattle.ffv1_engine.specs.Internal.Clusters.{AreClusters, EndsFar, EndsPutting, PutAll, PutsAll, PutsSome, StopsPutting, StopsPuttingBy, begun_for}
 use Rattle.ffv1_engine.specs.Internal.Encoding.{Encoded, EncodesOne, EndsAt, EndsKnown, EndsLong, StopsBy, StopsNext}
 use Rattle.ffv1_engine.specs.Faults.{Cause, cause_of, of_avi}
@@ -85,7 +85,7 @@ put_none k w o n fresh = record {
 }
 
 -- frames were put, and now one more is
-module _ (laws : MorePieces) (k : RecordProfile) (w v u : Writer) (frames : List (List ℕ)) (frame : List ℕ) (p q : Passage) (packed : Packed) (e : PutAll k w v frames p packed)
+module _ (laws : MorePieces) (k : RecordProfile) (w v u : Writer) (frames : List (List ℕ)) (frame : List ℕ) (p q : Passage) (packed : Put) (e : PutAll k w v frames p packed)
     (joins : q.old ≡ p.new) (counts : q.before ≡ p.after) where
   head_is : v.head ≡ w.head
   head_is = ap (λ (x : Writer). x.head) e.is
@@ -169,7 +169,7 @@ some_frame : (a : Accepted) (r : VideoReading) (ps : List Planes) → 0 < length
 some_frame a r [] some = some
 some_frame a r (p ∷ ps) some = omega arith
 
-module _ (i o : Passage) (a : Accepted) (r s : VideoReading) (w v : Writer) (frames : List (List ℕ)) (packed : Packed) (e : Encoded i a r s frames) (put : PutAll a.profile w v frames o packed) where
+module _ (i o : Passage) (a : Accepted) (r s : VideoReading) (w v : Writer) (frames : List (List ℕ)) (packed : Put) (e : Encoded i a r s frames) (put : PutAll a.profile w v frames o packed) where
   place_is : v.at ≡ end_place w.head w.details (frames_for a r.head e.pictures)
   place_is = ap (λ (x : Writer). x.at) put.is ∙ ap (λ fs. end_place w.head w.details fs) e.are
 

@@ -1,6 +1,6 @@
 -- The file of a video that was encoded.
 use Rattle.std.specs.Prelude.{◌≡◌, ◌≤◌, ◌<◌, ℕ, List, [], ◌∷◌, length, map, Option, Some, None, Ok, Err}
-use Rattle.std.proofs.Common.{refl, ◌∙◌, ap, subst, inr, suc}
+use Rattle.std.proofs.Common.{refl, ◌∙◌, ap, subst, inl, inr, suc}
 use Rattle.std.specs.Io.KnownBytes.{Appends}
 use Rattle.ffv1_wire.specs.Passage.{Passage}
 use Rattle.ffv1_wire.specs.Writes.{AppendsBeginning}
@@ -16,8 +16,9 @@ use Rattle.ffv1_engine.specs.declared.profile.Profile.{Profile}
 use Rattle.ffv1_engine.specs.Profiles.{greatest_depth, record_profile}
 use Rattle.ffv1_engine.specs.declared.packing.Packed.{Packed}
 use Rattle.ffv1_engine.specs.declared.fault.Fault.TheVariants as fault
+use Rattle.ffv1_engine.specs.Colours.{loses_colour}
 use Rattle.ffv1_engine.specs.Faults.{of_avi}
-use Rattle.ffv1_engine.specs.Pack.{FaultsPacked, IsPackable, Packs, RefusesPack}
+use Rattle.ffv1_engine.specs.Pack.{FaultsPacked, IsPackFault, IsPackable, Packs, RefusesPack}
 use Rattle.ffv1_engine.specs.Internal.Pack.{EncodesVideo, EndsVideo}
 use Rattle.ffv1_engine.specs.Packing.{AllShort, AreReadableIn, IsFor, bytes_in, packed_file, packed_frames, packed_head, said_for}
 use Rattle.ffv1_engine.specs.Video.{Video}
@@ -78,8 +79,8 @@ module _ (profile : Profile) (choice : Choice) (i o : Passage) (head : Head) (fr
   file_refused avi.Checksum w = absurd w.1
   file_refused avi.Rate w = absurd w.1
 
-  pub file_written : (u : Unit {0}) (packed : Packed) → WritesFile o head frames (Ok u) → packed.frames ≡ length frames → packed.bytes ≡ bytes_in frames → Packs profile choice i o packed
-  file_written u packed w many bytes = record {
+  pub file_written : (u : Unit {0}) (packed : Packed) → WritesFile o head frames (Ok u) → packed.frames ≡ length frames → packed.bytes ≡ bytes_in frames → packed.loses_colour ≡ loses_colour head.colour → Packs profile choice i o packed
+  file_written u packed w many bytes loses = record {
     video = e.video;
     accepted = e.accepted;
     reads = e.reads;
@@ -87,6 +88,26 @@ module _ (profile : Profile) (choice : Choice) (i o : Passage) (head : Head) (fr
     writes = subst (λ bytes. Appends o.old o.new bytes) file w.1.1;
     frames = many ∙ (ap (λ f. length f) e.frames_are ∙ long (λ planes. frame_of e.accepted planes (said_for e.video.head)) e.video.pictures);
     bytes = bytes ∙ ap bytes_in e.frames_are;
+    loses = loses ∙ ap (λ (h : Head). loses_colour h.colour) e.head_is;
     read = e.kept;
     written = w.1.0;
   }
+
+-- a fault of the writer is one of packing
+pub refused_own : (profile : Profile) (o : Passage) (head : Head) (frames : List (List ℕ)) (f : FileFault) → WritesFile o head frames (Err f) → IsPackFault profile (of_avi f)
+refused_own profile o head frames avi.TooLarge w = inl refl
+refused_own profile o head frames avi.Write w = inl refl
+refused_own profile o head frames avi.OutOfMemory w = absurd w.1
+refused_own profile o head frames avi.NotAvi w = absurd w.1
+refused_own profile o head frames avi.NoFfv1 w = absurd w.1
+refused_own profile o head frames avi.Truncated w = absurd w.1
+refused_own profile o head frames avi.ChunkTooLong w = absurd w.1
+refused_own profile o head frames avi.EmptyFrame w = absurd w.1
+refused_own profile o head frames avi.Read w = absurd w.1
+refused_own profile o head frames avi.NotMatroska w = absurd w.1
+refused_own profile o head frames avi.BadElement w = absurd w.1
+refused_own profile o head frames avi.NoTracks w = absurd w.1
+refused_own profile o head frames avi.Encoded w = absurd w.1
+refused_own profile o head frames avi.Laced w = absurd w.1
+refused_own profile o head frames avi.Checksum w = absurd w.1
+refused_own profile o head frames avi.Rate w = absurd w.1

@@ -49,6 +49,7 @@ mod RecordShort
 mod PackedPictures
 mod FileTurns
 mod PackedFrames
+mod ColourNumbers
 mod PackedText
 mod PackedIsUnpacked
 mod MatroskaUnpacked

@@ -28,7 +28,7 @@ use Rattle.ffv1_engine.specs.declared.profile.Profile.{Profile}
 use Rattle.ffv1_engine.specs.Profiles.{greatest_depth, record_profile}
 use Rattle.ffv1_engine.specs.declared.fault.Fault.{Fault}
 use Rattle.ffv1_engine.specs.declared.fault.Fault.TheVariants as fault
-use Rattle.ffv1_engine.specs.declared.packing.Packed.{Packed}
+use Rattle.ffv1_engine.specs.declared.matroska_packing.Put.{Put}
 use Rattle.ffv1_engine.specs.Internal.Clusters.{AreClusters, EndsPutting, PutAll, PutsAll, PutsSome, StopsPutting, StopsPuttingBy}
 use Rattle.ffv1_engine.specs.Internal.Encoding.{AllKnown, PicturesKnown}
 use Rattle.ffv1_engine.specs.Faults.{Cause, cause_of, of_avi, of_record}
@@ -49,7 +49,7 @@ use Rattle.ffv1_engine.proofs.VideoEnds.{reads_video, some_pictures}
 
 -- that a text which is read to its end is a video
 abbrev pub TextsOnly : Type 0
-TextsOnly = (text : List ℕ) (most depth : ℕ) (h : VideoHead) (rest : List ℕ) (pictures : List (List (List ℕ))) → header_of most text ≡ Ok (record { head = h; depth = depth }, rest) → ReadsAll depth h rest pictures → IsText text depth h pictures
+TextsOnly = (text : List ℕ) (most depth : ℕ) (h : VideoHead) (rest : List ℕ) (pictures : List (List (List ℕ))) → header_of most text ≡ Ok (record { head = h; depth = depth }, rest) → ReadsAll depth h rest pictures → IsText most text depth h pictures
 
 abbrev pub ImagesOnly : Type 0
 ImagesOnly = (text : List ℕ) (most depth : ℕ) (h : VideoHead) (rest : List ℕ) (image : List (List ℕ)) (images : List (List (List ℕ))) → image_header most text ≡ Ok (record { head = h; depth = depth }, rest) → ReadsFrom most (record { head = h; depth = depth }) rest image images →
@@ -248,7 +248,7 @@ module _ (profile : Profile) (choice : Choice) (p : Passage) (r : VideoReading) 
     pub putting_stops : (f : Fault) → StopsPutting a r w q o f → RefusesMatroska profile choice (joined p q) o f
     putting_stops f s = stops_by (cause_of f) f (subst (λ x. StopsPutting a r x q o f) opens.fresh s)
 
-    module _ (v : Writer) (packed : Packed) (h : PutsAll a r w v q o packed) where
+    module _ (v : Writer) (packed : Put) (h : PutsAll a r w v q o packed) where
       put : PutAll a.profile fresh v h.frames o packed
       put = subst (λ x. PutAll a.profile x v h.frames o packed) opens.fresh h.put
 

@@ -15,7 +15,9 @@ use Rattle.ffv1_files.specs.Whole.{IsWhole}
 use Rattle.ffv1_files.specs.declared.container.Scope.TheVariants.{Whole}
 use Rattle.ffv1_matroska.specs.MatroskaFiles.{MatroskaFile}
 use Rattle.ffv1_matroska.specs.Opened as matroska
-use Rattle.ffv1_matroska.specs.Written.{begun_of, checked, codec_name, display, duration_field, ebml_header, entry_element, entry_fields, finished_of, frame_duration, interlaced_of, long_element, open_of, opening, order_element, private_content, private_end, private_front, short_element, video_content}
+use Rattle.ffv1_matroska.specs.Colours.{colour}
+use Rattle.ffv1_matroska.proofs.WrittenBytes.{colours_few}
+use Rattle.ffv1_matroska.specs.Written.{begun_of, checked, codec_name, colour_content, colour_element, display, duration_field, ebml_header, entry_element, entry_fields, finished_of, frame_duration, interlaced_of, long_element, open_of, opening, order_element, private_content, private_end, private_front, short_element, video_content}
 use Rattle.ffv1_matroska.specs.WrittenFiles.{AreWritten, IsWritable}
 use Rattle.ffv1_matroska.specs.Tracks.{codec_id, codec_private, default_duration, entry, pixel_height, pixel_width, track_number, track_type, video}
 use Rattle.ffv1_matroska.specs.WrittenIdents.{display_height, display_unit, display_width, field_order, flag_interlaced, flag_lacing, language, track_uid}
@@ -38,8 +40,10 @@ use Rattle.ffv1_engine.specs.Profiles.{greatest_depth, record_profile}
 use Rattle.ffv1_record.specs.declared.config.Profile.TheVariants as record_profiles
 use Rattle.ffv1_engine.proofs.ReadableFrames.{readable_wide}
 use Rattle.ffv1_engine.proofs.PackedFrames.{FrameLaws, frame_bytes, frame_some}
+use Rattle.ffv1_reads.specs.declared.colour.Colour.{Colour}
+use Rattle.ffv1_engine.proofs.ColourNumbers.{colour_small}
 use Rattle.ffv1_engine.proofs.Depths.{all_within}
-use Rattle.ffv1_engine.proofs.PackedIsUnpacked.{Given, reads_is, short_in}
+use Rattle.ffv1_engine.proofs.PackedIsUnpacked.{FileLaws, Given, given_by, reads_is, short_in}
 use Rattle.ffv1_engine.proofs.PackedText.{RecordLaws, rated_by, sized}
 use Rattle.ffv1_engine.proofs.RecordShort.{HasLowNumbers, low_numbers, record_are_bytes, record_most}
 
@@ -77,14 +81,20 @@ display_most head details =
     either_most (details.sar_num == 0 || details.sar_den == 0) _ _ 32 (none_most 32)
     (appended_most _ _ 26 6 (appended_most _ _ 13 13 (number_most display_width 8 (head.width * details.sar_num)) (number_most display_height 8 (head.height * details.sar_den))) (number_most display_unit 1 3))
 
-content_most : (head : Head) (details : TrackEntry) → length (video_content head details) ≤ 62
+colour_most : (c : Colour) → length (colour_element c) ≤ 41
+unfolding colour_element
+colour_most c = either_most (length (colour_content c) == 0) [] (short_element colour (colour_content c)) 41 (none_most 41) (short_most colour (colour_content c) 36 (colours_few c))
+
+content_most : (head : Head) (details : TrackEntry) → length (video_content head details) ≤ 103
 unfolding video_content
 content_most head details =
-    appended_most _ _ 30 32
+    appended_most _ _ 62 41
+    (appended_most _ _ 30 32
     (appended_most _ _ 24 6
     (appended_most _ _ 18 6 (appended_most _ _ 9 9 (number_most pixel_width 4 head.width) (number_most pixel_height 4 head.height)) (number_most flag_interlaced 1 (interlaced_of details.structure)))
     (order_most details.structure))
-    (display_most head details)
+    (display_most head details))
+    (colour_most head.colour)
 
 duration_most : (head : Head) → length (duration_field head) ≤ 13
 unfolding duration_field
@@ -97,10 +107,10 @@ name_most : (id : CodecId) → length (codec_name id) ≤ 15
 name_most codec.Native = let e : length (codes "V_FFV1") ≡ 6 = refl in omega (arith, e)
 name_most codec.Vfw = let e : length (codes "V_MS/VFW/FOURCC") ≡ 15 = refl in omega (arith, e)
 
-fields_most : (head : Head) (details : TrackEntry) → length (entry_fields head details) ≤ 132
+fields_most : (head : Head) (details : TrackEntry) → length (entry_fields head details) ≤ 173
 unfolding entry_fields
 fields_most head details =
-    appended_most _ _ 65 67
+    appended_most _ _ 65 108
     (appended_most _ _ 52 13
     (appended_most _ _ 32 20
     (appended_most _ _ 24 8
@@ -110,7 +120,7 @@ fields_most head details =
     (short_most language (codes "und") 3 text_three))
     (short_most codec_id (codec_name details.codec_id) 15 (name_most details.codec_id)))
     (duration_most head))
-    (short_most video (video_content head details) 62 (content_most head details))
+    (short_most video (video_content head details) 103 (content_most head details))
 
 -- the header of Video for Windows
 front_long : (head : Head) → length (private_front codec.Vfw head) ≡ 40
@@ -167,6 +177,7 @@ writable profile frame_laws records choice v a has some rated =
       height = let few = sizes.high in omega (arith, few);
       rate = let few = ratio.first in omega (arith, few);
       scale = let few = ratio.second in omega (arith, few);
+      colour = colour_small v.head.head;
       timed = has.timed;
       record_is = all_bytes (record_of a.configuration) (record_are_bytes a.configuration);
       short = tracks_short (packed_head choice v a) (details_for choice v.head)
@@ -236,17 +247,12 @@ accepted_wide w = record { configuration = w.packs.accepted.configuration; table
 pub packed_so : (packing : Profile) (choice : Choice) (text : List ℕ) (w : WasPackedMatroska packing choice text) → IsReadVideo (greatest_depth packing) text (matroska_video w)
 packed_so packing choice text w = reads_is (greatest_depth packing) text w.input.old w.input.new w.packs.video w.known w.packs.reads
 
-pub given : (packing : Profile) (choice : Choice) (text : List ℕ) (w : WasPackedMatroska packing choice text) → Given Wide (choice_for packing choice w.packs.video.head) text (matroska_video w) (accepted_wide w)
-given packing choice text w = record {
-  most = greatest_depth packing;
-  is = reads_is (greatest_depth packing) text w.input.old w.input.new w.packs.video w.known w.packs.reads;
-  bytes = w.bytes;
-  for = record { configuration = w.packs.has.for.configuration; accepted = w.packs.has.for.accepted; passes = w.packs.has.for.accepted.passes; profiled = refl };
-  some = w.packs.some;
-  short = short_in Wide w.packs.accepted w.packs.video.head w.packs.video.pictures w.packs.has.short;
-  readable = readable_wide (record_profile packing) (packed_frames (matroska_video w) w.packs.accepted) w.packs.has.readable;
-  rated = w.rated;
-}
+pub given : (packing : Profile) → FileLaws Wide → FrameLaws → (choice : Choice) (text : List ℕ) (w : WasPackedMatroska packing choice text) → Given Wide (choice_for packing choice w.packs.video.head) (matroska_video w) (accepted_wide w)
+given packing files frame_laws choice text w =
+    given_by files frame_laws Wide (greatest_depth packing) (choice_for packing choice w.packs.video.head) text (matroska_video w) (accepted_wide w) (packed_so packing choice text w) w.bytes
+    (record { configuration = w.packs.has.for.configuration; accepted = w.packs.has.for.accepted; passes = w.packs.has.for.accepted.passes; profiled = refl })
+    (short_in Wide w.packs.accepted w.packs.video.head w.packs.video.pictures w.packs.has.short) w.packs.some
+    (readable_wide (record_profile packing) (packed_frames (matroska_video w) w.packs.accepted) w.packs.has.readable) w.rated
 
 -- and it is read
 pub read_wide : (packing : Profile) (choice : Choice) (text : List ℕ) (w : WasPackedMatroska packing choice text) → IsReadIn Wide (matroska_video w) w.packs.accepted

@@ -21,14 +21,14 @@ use Rattle.ffv1_engine.proofs.ByteLists.{bytes_behind, bytes_front, bytes_pushed
 use Rattle.ffv1_engine.proofs.VideoFits.{fits}
 
 -- its head is one that readers give
-pub head_given : ((line : List ℕ) (depth : ℕ) (h : VideoHead) → IsHeaderLine line depth h → IsHead h) → (most : ℕ) (ppm : Bool) (text : List ℕ) (h : SaidHead) (ps : List Planes) → IsReadVideoBy most ppm text h ps → IsHeadBy ppm h.head
+pub head_given : ((most : ℕ) (line : List ℕ) (depth : ℕ) (h : VideoHead) → IsHeaderLine most line depth h → IsHead h) → (most : ℕ) (ppm : Bool) (text : List ℕ) (h : SaidHead) (ps : List Planes) → IsReadVideoBy most ppm text h ps → IsHeadBy ppm h.head
 head_given said most true text h ps v = (record { some_wide = v.1.sized.some_wide; wide = v.1.sized.wide; some_high = v.1.sized.some_high; high = v.1.sized.high }, v.0)
-head_given said most false text h ps v = said v.line h.depth h.head v.said
+head_given said most false text h ps v = said most v.line h.depth h.head v.said
 
 -- and its chroma has a name at its depth
-pub name_given : ((line : List ℕ) (depth : ℕ) (h : VideoHead) → IsHeaderLine line depth h → IsNamed depth h) → (most : ℕ) (ppm : Bool) (text : List ℕ) (h : SaidHead) (ps : List Planes) → IsReadVideoBy most ppm text h ps → IsNamed h.depth h.head
+pub name_given : ((most : ℕ) (line : List ℕ) (depth : ℕ) (h : VideoHead) → IsHeaderLine most line depth h → IsNamed depth h) → (most : ℕ) (ppm : Bool) (text : List ℕ) (h : SaidHead) (ps : List Planes) → IsReadVideoBy most ppm text h ps → IsNamed h.depth h.head
 name_given named most true text h ps v = subst (λ k. IsNamed h.depth k) (sym v.0) v.1.named
-name_given named most false text h ps v = named v.line h.depth h.head v.said
+name_given named most false text h ps v = named most v.line h.depth h.head v.said
 
 -- what frames say of its pictures
 aspect_by : (a b : Bool) (n d : ℕ) → (n == 0) ≡ a → (d == 0) ≡ b → a ≡ b → n ≤ 65535 → d ≤ 65535 → is_aspect n d ≡ true

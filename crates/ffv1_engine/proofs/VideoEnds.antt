@@ -154,7 +154,7 @@ images_read most text h rest kind e =
     unseen (λ k. record { head = k.head; depth = k.depth }) (λ k. record { head = k.head; depth = k.depth }) (λ k. refl) (image_header most text) h rest
     (sym (ap (λ b. cond b (seen_as (image_header most text) (λ k. record { head = k.head; depth = k.depth })) (seen_as (header_of most text) (λ k. record { head = k.head; depth = k.depth }))) kind) ∙ e)
 
-module _ (texts_only : (text : List ℕ) (most depth : ℕ) (h : VideoHead) (rest : List ℕ) (pictures : List (List (List ℕ))) → header_of most text ≡ Ok (record { head = h; depth = depth }, rest) → ReadsAll depth h rest pictures → IsText text depth h pictures)
+module _ (texts_only : (text : List ℕ) (most depth : ℕ) (h : VideoHead) (rest : List ℕ) (pictures : List (List (List ℕ))) → header_of most text ≡ Ok (record { head = h; depth = depth }, rest) → ReadsAll depth h rest pictures → IsText most text depth h pictures)
     (images_only : (text : List ℕ) (most depth : ℕ) (h : VideoHead) (rest : List ℕ) (image : List (List ℕ)) (images : List (List (List ℕ))) → image_header most text ≡ Ok (record { head = h; depth = depth }, rest) → ReadsFrom most (record { head = h; depth = depth }) rest image images → IsImagesIn most text depth h.width h.height (image ∷ images)) where
   by_kind : (ppm : Bool) (most : ℕ) (h : SaidHead) (text behind left rest : List ℕ) (ps : List Planes) → ppm ≡ is_ppm text → video_head most text ≡ Ok (h, behind) → ReadsPictures ppm most h true behind ps left →
       picture_next ppm most h (at_first ps) left ≡ Ok (None, rest) → 0 < length ps → IsHeadBy ppm h.head → IsReadVideoBy most ppm text h ps

@@ -6,6 +6,7 @@ pub mod Plane
 pub mod Report
 pub mod Trial
 pub mod Video
+pub mod Colours
 pub mod Grids
 pub mod Packing
 pub mod GridChecks

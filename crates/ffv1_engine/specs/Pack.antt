@@ -19,6 +19,7 @@ use Rattle.ffv1_engine.specs.declared.fault.Fault.{Fault}
 use Rattle.ffv1_engine.specs.declared.fault.Fault.TheVariants as fault
 use Rattle.ffv1_words.specs.declared.order.Choice.{Choice}
 use Rattle.ffv1_engine.specs.declared.packing.Packed.{Packed}
+use Rattle.ffv1_engine.specs.Colours.{loses_colour}
 use Rattle.ffv1_engine.specs.Faults.{Cause, cause_of, of_y4m, of_record}
 use Rattle.ffv1_engine.specs.Faults.Cause.{Reading, Writing, Memory, Content}
 use Rattle.ffv1_engine.specs.Trial.{Silent}
@@ -53,6 +54,7 @@ pub record Packs (profile : Profile) (choice : Choice) (input output : Passage) 
   pub writes : Appends output.old output.new (packed_file choice video accepted)
   pub frames : packed.frames ≡ length video.pictures
   pub bytes : packed.bytes ≡ bytes_in (packed_frames video accepted)
+  pub loses : packed.loses_colour ≡ loses_colour (packed_head choice video accepted).colour
   pub read : input.after ≡ input.before
   pub written : output.after ≡ output.before
 

@@ -14,6 +14,7 @@ use Rattle.ffv1_codec.specs.SliceList.{Said}
 use Rattle.ffv1_codec.specs.Frame.{frame_of, HasLongSlice}
 use Rattle.ffv1_reads.specs.Head.{Head, frame_limit, limit}
 use Rattle.ffv1_avi.specs.Written.{file_of}
+use Rattle.ffv1_engine.specs.Colours.{colour_of}
 use Rattle.ffv1_engine.specs.Video.{SaidHead}
 use Rattle.ffv1_words.specs.declared.order.Choice.{Choice}
 use Rattle.ffv1_engine.specs.declared.profile.Profile.{Profile}
@@ -63,7 +64,8 @@ said_for h = record {
   sar_den = h.head.sar_den;
 }
 
--- the head of the file; PPM has no rate of its own
+-- the head of the file, with what its colours are, of which an AVI says nothing; PPM has no rate of
+-- its own
 abbrev pub head_for : Choice → Bool → SaidHead → Configuration → Head
 head_for choice ppm h c = record {
   width = h.head.width;
@@ -71,6 +73,7 @@ head_for choice ppm h c = record {
   rate = if ppm then choice.rate else h.head.rate;
   scale = if ppm then choice.scale else h.head.scale;
   config_record = record_of c;
+  colour = colour_of h.head;
 }
 
 -- an accepted configuration is the one of this video, and passes the checks of a profile

@@ -11,9 +11,10 @@ use Rattle.ffv1_codec.specs.Picture.{Planes}
 use Rattle.ffv1_avi.specs.Chunks.{AviFile}
 use Rattle.ffv1_reads.specs.Head.{Head}
 use Rattle.ffv1_avi.specs.Riffs.{RiffFile}
-use Rattle.ffv1_y4m.specs.Canonical.{canonical_text}
+use Rattle.ffv1_y4m.specs.Canonical.{as_said, canonical_text}
 use Rattle.ffv1_y4m.specs.Images.{image_text}
 use Rattle.ffv1_y4m.specs.VideoHead.{IsRatio}
+use Rattle.ffv1_engine.specs.Colours.{plain}
 use Rattle.ffv1_engine.specs.Video.{SaidHead}
 use Rattle.ffv1_engine.specs.declared.profile.Profile.{Profile}
 use Rattle.ffv1_engine.specs.declared.profile.Profile.TheVariants.{Strict, Wide}
@@ -44,10 +45,16 @@ pub record WasPacked (packing : Profile) (choice : Choice) (text : List ℕ) : T
       AreReadable (record_profile packing) (packed_frames packs.video packs.accepted)
   pub rated : packs.video.ppm ≡ true → IsRatio 4294967295 choice.rate choice.scale
 
--- the video of the text, and the file that was written of it
+-- the video of the text, and what an AVI holds of it: range and siting are not part of that
+abbrev pub text_video : {packing : Profile} → {choice : Choice} → {text : List ℕ} →
+    WasPacked packing choice text → Video
+text_video w = w.packs.video
+
 abbrev pub video_in : {packing : Profile} → {choice : Choice} → {text : List ℕ} →
     WasPacked packing choice text → Video
-video_in w = w.packs.video
+video_in w = plain (text_video w)
+
+-- the file that was written of it
 
 abbrev pub file_in : {packing : Profile} → {choice : Choice} → {text : List ℕ} →
     WasPacked packing choice text → List ℕ
@@ -66,7 +73,7 @@ pub record IsReadIn (profile : Profile) (v : Video) (a : Accepted) : Type 0 wher
   pub readable : AreReadable (record_profile profile) (packed_frames v a)
 
 -- the canonical text of a video: of YUV4MPEG2 the header with each tag but X, in one order, and
--- each picture after `FRAME`; of PPM each image after its header
+-- after them the range, and each picture after `FRAME`; of PPM each image after its header
 abbrev pub canonical_by : Bool → SaidHead → List Planes → List ℕ
 canonical_by false h pictures = canonical_text h.depth h.head pictures
 canonical_by true h pictures =
@@ -74,6 +81,15 @@ canonical_by true h pictures =
 
 abbrev pub canonical_of : Video → List ℕ
 canonical_of v = canonical_by v.ppm v.head v.pictures
+
+-- a video as its canonical text says it, if depths up to `most` are read: above 8 bits 4:2:0 of 8
+-- bits lies in the centre if the video says nothing else
+abbrev pub said_again : ℕ → Bool → SaidHead → SaidHead
+said_again most true h = h
+said_again most false h = record h { head = as_said most h.depth h.head }
+
+abbrev pub read_again : ℕ → Video → Video
+read_again most v = record v { head = said_again most v.ppm v.head }
 
 -- a file of this head and these frames, by its chunks: those of its first movi, or of every RIFF
 abbrev pub IsFileIn : Profile → List ℕ → Head → List (List ℕ) → Type 0

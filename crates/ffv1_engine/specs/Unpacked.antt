@@ -11,6 +11,7 @@ use Rattle.ffv1_y4m.specs.VideoHead.{is_named}
 use Rattle.ffv1_y4m.specs.declared.head.VideoHead.{VideoHead}
 use Rattle.ffv1_engine.specs.declared.fault.Fault.{Fault}
 use Rattle.ffv1_engine.specs.declared.fault.Fault.TheVariants as fault
+use Rattle.ffv1_engine.specs.Colours.{range_named, siting_in}
 use Rattle.ffv1_engine.specs.Stream.{Frame, Stream}
 
 -- whether the pictures of a stream are written as PPM
@@ -31,6 +32,8 @@ video_of s said = record {
   log2_h = s.accepted.configuration.log2_h;
   log2_v = s.accepted.configuration.log2_v;
   extra_plane = s.accepted.configuration.extra_plane;
+  siting = siting_in s.accepted.configuration s.head.colour;
+  range = range_named s.head.colour.range;
 }
 
 -- the pictures that frames code

@@ -28,23 +28,23 @@ abbrev pub is_ppm : List ℕ → Bool
 is_ppm [] = false
 is_ppm (c ∷ cs) = c == 80
 
--- a text is this video
+-- a text is this video, by tags that say neither range nor siting, and images of three lines
 abbrev pub IsVideoBy : Bool → List ℕ → SaidHead → List Planes → Type 0
 IsVideoBy true text h pictures =
     (h.head ≡ colour_head h.head.width h.head.height)
     × IsImages text h.depth h.head.width h.head.height pictures
-IsVideoBy false text h pictures = IsText text h.depth h.head pictures
+IsVideoBy false text h pictures = IsText 8 text h.depth h.head pictures
 
 abbrev pub IsVideo : List ℕ → Video → Type 0
 IsVideo text v = IsVideoBy v.ppm text v.head v.pictures
 
--- the same, as it is read if depths up to `most` are: above 8 with headers of PPM as Netpbm
--- writes them
+-- the same, as it is read if depths up to `most` are: above 8 with range and siting, and with
+-- headers of PPM as Netpbm writes them
 abbrev pub IsReadVideoBy : ℕ → Bool → List ℕ → SaidHead → List Planes → Type 0
 IsReadVideoBy most true text h pictures =
     (h.head ≡ colour_head h.head.width h.head.height)
     × IsImagesIn most text h.depth h.head.width h.head.height pictures
-IsReadVideoBy most false text h pictures = IsText text h.depth h.head pictures
+IsReadVideoBy most false text h pictures = IsText most text h.depth h.head pictures
 
 abbrev pub IsReadVideo : ℕ → List ℕ → Video → Type 0
 IsReadVideo most text v = IsReadVideoBy most v.ppm text v.head v.pictures

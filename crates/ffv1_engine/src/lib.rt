@@ -19,6 +19,7 @@
 #![tactic(auto)]
 
 mod checking;
+mod colours;
 mod comparison;
 mod default_grid;
 mod encoding;

@@ -22,7 +22,6 @@ ghost use Rattle.ffv1_engine.specs.Internal.VideoReads.{reading_of};
 use crate::default_grid::grid_for;
 use crate::encoding::{encode_picture, encoder_for, file_head, most_frame};
 use crate::fault::Fault;
-use crate::packing::Packed;
 use crate::profile::Profile;
 use crate::verifying::VerifyingEncoder;
 use crate::video::VideoReader;
@@ -42,6 +41,13 @@ pub struct PackedMatroska {
     /// Whether the file was finished: false if the output cannot be written over, so that the
     /// size of its Segment stays unknown.
     pub finished: bool,
+}
+
+/// How many Clusters were written, and how many bytes their frames have.
+#[derive(Clone, Copy)]
+struct Put {
+    frames: u64,
+    bytes: u64,
 }
 
 /// A video whose head was read, and what encodes and writes its pictures.
@@ -147,7 +153,7 @@ fn put_pictures<R: ByteIn, W: ByteOut, A: Allocator + Copy>(
     encoder: &mut VerifyingEncoder<A>,
     writer: &mut MatroskaWriter<A>,
     output: &mut W,
-) -> Result<Packed, Fault>
+) -> Result<Put, Fault>
     requires working { (reading_of reader.old).failed ≡ None }
     requires begun { (reading_of reader.old).begun ≡ true }
     requires suits { (profile : Profile) × (choice : Choice) × IsFor profile choice
@@ -164,7 +170,7 @@ fn put_pictures<R: ByteIn, W: ByteOut, A: Allocator + Copy>(
     written_laws::writes_make_up_the_file();
     let most = most_frame(encoder.config().profile());
     let mut planes = Vec::new(alloc);
-    let mut packed = Packed {
+    let mut packed = Put {
         frames: 0,
         bytes: 0,
     };
@@ -191,6 +197,9 @@ fn put_pictures<R: ByteIn, W: ByteOut, A: Allocator + Copy>(
 /// rows, whose greatest slice has fewer bytes of samples than 12 MiB, and whose slices share no
 /// chroma sample. If there is none, it has, in `Wide`, the first whose slices may share one; else
 /// the first of any columns and rows whose slices share none; else one slice.
+///
+/// Colour says the range and the siting of chroma that the text says, if it says any (RFC 9559,
+/// 5.1.4.1.28.16).
 ///
 /// The codec's ID is that of the choice: `V_FFV1`, as RFC 9043, 4.3.3, asks for, or
 /// `V_MS/VFW/FOURCC` with a header of Video for Windows before the record (RFC 9559, 8).

@@ -9,6 +9,7 @@ ghost use Rattle.ffv1_engine.specs.Internal.Pack.{EncodesVideo, StopsVideo};
 ghost use Rattle.ffv1_engine.specs.Pack.{IsPackFault};
 ghost use Rattle.ffv1_engine.specs.Packing.{bytes_in};
 
+use crate::colours::loses_colour;
 use crate::encoding::{encode_pictures, encoder_for, file_head};
 use crate::fault::Fault;
 use crate::profile::Profile;
@@ -27,6 +28,9 @@ pub struct Packed {
     pub frames: u64,
     /// How many bytes the frames have, without what the file adds to them.
     pub bytes: u64,
+    /// Whether the text says a range of colours, or that chroma does not lie in the centre: the
+    /// file does not, so that `unpack` writes the text without it.
+    pub loses_colour: bool,
 }
 
 /// The head and the frames of a file.
@@ -78,12 +82,14 @@ fn bytes_in<A: Allocator>(frames: &[Vec<u8, A>]) -> u64
 /// Packs a video: YUV4MPEG2 or, if the first byte is `P`, binary PPM is read, each picture is
 /// encoded, and an AVI of the frames is written (RFC 9043, 4.3.3).
 ///
-/// The file's configuration record has one quantisation table set, and says that all frames are key
-/// frames. The frames of YUV4MPEG2 say its structure and aspect, and the file its rate and scale;
-/// PPM is coded by the colour transform, with structure and aspect unknown, and the rate and scale
-/// of the choice. All frames are encoded before the first byte is written. The profile says which
-/// depths are read: `Strict` those of 8 bits a sample, `Wide` also 9, 10, 12, 14 and 16, of one
-/// depth in a text; of what both read, the same is written.
+/// The file's configuration record has one quantisation table set, and says that all frames are
+/// key frames. The frames of YUV4MPEG2 say its structure and aspect, and the file its rate and
+/// scale; PPM is coded by the colour transform, with structure and aspect unknown, and the rate
+/// and scale of the choice. An AVI says neither the range of colours nor the siting of chroma;
+/// whether the text says what is lost so is answered. All frames are encoded before the first
+/// byte is written. The profile says which depths are read: `Strict` those of 8 bits a sample,
+/// `Wide` also 9, 10, 12, 14 and 16, of one depth in a text; of what both read, the same is
+/// written.
 ///
 /// If the choice says `verify`, each frame is decoded as soon as it is coded, and compared with
 /// its picture, in memory that is taken once. What is written and answered is the same, but that
@@ -121,5 +127,6 @@ pub fn pack<R: ByteIn, W: ByteOut, A: Allocator + Copy>(
     Ok(Packed {
         frames: stream.frames.len() as u64,
         bytes: bytes_in(&stream.frames),
+        loses_colour: loses_colour(&stream.head.colour),
     })
 }

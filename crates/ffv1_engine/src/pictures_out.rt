@@ -21,6 +21,7 @@ ghost use Rattle.ffv1_engine.specs.Internal.Unpack.{IsWritingFault};
 ghost use Rattle.ffv1_engine.specs.Unpacked.{video_of};
 ghost use Rattle.ffv1_engine.specs.Unpacking.{UnpackingStops, UnpacksAll};
 
+use crate::colours::{range_named, siting_in};
 use crate::fault::Fault;
 use crate::player::{Player, Stop, play};
 use ffv1_codec::{Info, KeepLines, laws as codec_laws};
@@ -57,6 +58,8 @@ pub(crate) fn text_head<A: Allocator>(head: &FileHead<A>, checked: &Checked<A>) 
         log2_h: config.log2_h as u8,
         log2_v: config.log2_v as u8,
         extra_plane: config.extra_plane,
+        siting: siting_in(checked, &head.colour),
+        range: range_named(head.colour.range),
     }
 }
 

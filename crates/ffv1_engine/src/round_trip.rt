@@ -1,6 +1,6 @@
 //! What is packed is unpacked: the law that joins both.
 
-ghost use Rattle.std.specs.Prelude.{◌≡◌, ◌<◌, ℕ, Bool, List, [], Ok, Some, length, true};
+ghost use Rattle.std.specs.Prelude.{◌≡◌, ◌<◌, ℕ, Bool, List, [], Ok, Some, length, false, true};
 ghost use Rattle.clap.specs.Words.{Row};
 ghost use Rattle.ffv1_wire.specs.Passage.{Passage};
 ghost use Rattle.ffv1_y4m.specs.VideoHead.{IsRatio};
@@ -20,7 +20,8 @@ ghost use Rattle.ffv1_engine.specs.PackMatroska.{HasClusters, begun_file};
 ghost use Rattle.ffv1_engine.specs.Packing.{AreReadable, packed_frames, packed_head};
 ghost use Rattle.ffv1_engine.specs.RoundTrip.{IsReadIn};
 ghost use Rattle.ffv1_engine.specs.RoundTrip.{Holds, IsNoContent, IsUnpacked, WasPacked};
-ghost use Rattle.ffv1_engine.specs.RoundTrip.{accepted_in, canonical_of, file_in, video_in};
+ghost use Rattle.ffv1_engine.specs.RoundTrip.{accepted_in, canonical_of, file_in, read_again};
+ghost use Rattle.ffv1_engine.specs.RoundTrip.{text_video, video_in};
 ghost use Rattle.ffv1_engine.specs.Unpack.{UnpackDone, UnpackStops};
 ghost use Rattle.ffv1_engine.specs.Profiles.{greatest_depth, record_profile};
 ghost use Rattle.ffv1_record.specs.Accepted.{PassesEdges};
@@ -44,11 +45,13 @@ pub fn named_rate_fits_a_file()
 
 /// A text that `pack` has packed is unpacked again, if it was packed in `Wide`, or has no frame
 /// longer than 67108864 bytes. Its file holds a stream of frames that code its pictures. If
-/// `unpack` is Ok on that file, at either profile that reads samples of its depth, it has read all
-/// of it and written the canonical text of the video: a text of the same video, and for PPM whose
-/// headers are three lines each, as they are at `Strict`, the very text that was packed. If
-/// `unpack`, `check` or `show` is refused on it, at such a profile, that is for `OutOfMemory` (2),
-/// `Read` (56) or `Write` (57), and for no fault of the file.
+/// `unpack` is Ok on that file, at either profile that reads samples of its depth, it has read
+/// all of it and written the canonical text of the video without its range and siting, of which
+/// an AVI says nothing: a text of that video, and for PPM whose headers are three lines each, as
+/// they are at `Strict`, the very text that was packed. It is the canonical text of all that was
+/// packed if `pack` answers that no colour is lost. If `unpack`, `check` or `show` is refused on
+/// it, at such a profile, that is for `OutOfMemory` (2), `Read` (56) or `Write` (57), and for no
+/// fault of the file.
 ///
 /// The profile that a text was packed in reads its depth, its grid and its frames. `Wide` reads
 /// those of each text that was packed. `Strict` reads those of 8 bits whose slices share no chroma
@@ -56,8 +59,10 @@ pub fn named_rate_fits_a_file()
 /// 67108864 bytes.
 ///
 /// The same holds, at `Wide`, of any text that `pack_matroska` has packed, whether its file is
-/// finished or open: it writes no frame that is not read. A file that is begun, of some first
-/// pictures, is read as their frames, and to its last byte.
+/// finished or open: it writes no frame that is not read. The canonical text then has range and
+/// siting, too; it is read as the same video, but that 4:2:0 of 8 bits without a siting lies in the
+/// centre then, and has the same canonical text. A file that is begun, of some first pictures, is
+/// read as their frames, and to its last byte.
 pub fn packed_is_unpacked()
     ensures read { (packing profile : Profile) (choice : Choice) (text : List ℕ)
         (w : WasPacked packing choice text) →
@@ -90,9 +95,12 @@ pub fn packed_is_unpacked()
     ensures same { (packing : Profile) (choice : Choice) (text : List ℕ)
         (w : WasPacked packing choice text) →
         IsVideo (canonical_of (video_in w)) (video_in w) }
+    ensures kept { (packing : Profile) (choice : Choice) (text : List ℕ)
+        (w : WasPacked packing choice text) → w.packed.loses_colour ≡ false →
+        canonical_of (video_in w) ≡ canonical_of (text_video w) }
     ensures packed { (packing : Profile) (choice : Choice) (text : List ℕ)
         (w : WasPacked packing choice text) →
-        IsReadVideo (greatest_depth packing) text (video_in w) }
+        IsReadVideo (greatest_depth packing) text (text_video w) }
     ensures strict { (choice : Choice) (text : List ℕ) (w : WasPacked Strict choice text) →
         IsVideo text (video_in w) }
     ensures ppm { (packing : Profile) (choice : Choice) (text : List ℕ)
@@ -120,7 +128,12 @@ pub fn packed_is_unpacked()
         IsNoContent f }
     ensures matroska_same { (packing : Profile) (choice : Choice) (text : List ℕ)
         (w : WasPackedMatroska packing choice text) →
-        IsVideo (canonical_of (matroska_video w)) (matroska_video w) }
+        IsReadVideo (greatest_depth packing) (canonical_of (matroska_video w))
+        (read_again (greatest_depth packing) (matroska_video w)) }
+    ensures matroska_again { (packing : Profile) (choice : Choice) (text : List ℕ)
+        (w : WasPackedMatroska packing choice text) →
+        canonical_of (read_again (greatest_depth packing) (matroska_video w))
+        ≡ canonical_of (matroska_video w) }
     ensures matroska_packed { (packing : Profile) (choice : Choice) (text : List ℕ)
         (w : WasPackedMatroska packing choice text) →
         IsReadVideo (greatest_depth packing) text (matroska_video w) }
@@ -152,6 +165,7 @@ pub fn packed_is_unpacked()
     record_laws::bytes_are_refused_for_one_reason();
     y4m_laws::said_chroma_has_a_name();
     y4m_laws::said_head_can_be_read();
+    y4m_laws::strict_head_says_neither();
     range_laws::sentinel_ending_codes_its_list();
     y4m_laws::text_is_read_as_its_pictures();
     files_laws::written_avi_is_read_back();

@@ -13,7 +13,7 @@ use Rattle.ffv1_matroska.specs.Written.{begun_of, end_place}
 use Rattle.ffv1_matroska.specs.WrittenPlaces.{cluster_bytes, last_place}
 use Rattle.ffv1_engine.specs.declared.fault.Fault.{Fault}
 use Rattle.ffv1_engine.specs.declared.fault.Fault.TheVariants as fault
-use Rattle.ffv1_engine.specs.declared.packing.Packed.{Packed}
+use Rattle.ffv1_engine.specs.declared.matroska_packing.Put.{Put}
 use Rattle.ffv1_engine.specs.Internal.Encoding.{EncodesAll, EndsAt, EndsLong, PicturesKnown}
 use Rattle.ffv1_engine.specs.Faults.{Cause, cause_of}
 use Rattle.ffv1_engine.specs.Faults.Cause.{Reading, Writing, Memory, Content}
@@ -28,7 +28,7 @@ use Rattle.ffv1_engine.specs.Internal.VideoReads.{VideoReading}
 -- the Clusters of these frames, which are read in a profile, were written, and counted, by a writer
 -- that was new
 pub record PutAll (p : RecordProfile) (old new : Writer) (frames : List (List ℕ))
-    (output : Passage) (packed : Packed) : Type 0 where
+    (output : Passage) (packed : Put) : Type 0 where
   pub is : new ≡ writing_of old.head old.details frames
   pub readable : AreReadable p frames
   pub near : 0 < length frames → new.at ≤ last_place
@@ -51,7 +51,7 @@ begun_for a r w pictures = begun_of w.head w.details (frames_for a r.head pictur
 
 -- all pictures have Clusters, which were written
 pub record PutsAll (a : Accepted) (r : VideoReading) (old new : Writer) (input output : Passage)
-    (packed : Packed) : Type 0 where
+    (packed : Put) : Type 0 where
   pub frames : List (List ℕ)
   pub all : EncodesAll input a r frames
   pub put : PutAll a.profile old new frames output packed

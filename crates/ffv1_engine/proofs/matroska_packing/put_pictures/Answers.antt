@@ -6,7 +6,7 @@ use Rattle.ffv1_wire.specs.Passage.{passage}
 use Rattle.ffv1_engine.specs.Packing.{most_frame}
 use Rattle.ffv1_matroska.specs.Writers.{Puts, Writing}
 use Rattle.ffv1_engine.specs.Internal.Clusters.{PutAll}
-use Rattle.ffv1_engine.specs.declared.packing.Packed.{Packed}
+use Rattle.ffv1_engine.specs.declared.matroska_packing.Put.{Put}
 use Rattle.ffv1_engine.specs.Internal.VideoReads.{reading_of}
 use Rattle.ffv1_engine.proofs.ClustersPut.{encode_stops, encoded_more_is, put_long}
 use Rattle.ffv1_engine.proofs.ClustersPut.{put_more, put_none, put_stops, puts_all}
@@ -80,7 +80,7 @@ loop-planes-preserved g c =
     let ends = puts.2.ends in
     let counted = c.as_slice-size.ensures.value in
     let long = ap (λ b. length b) counted in
-    let packed : ℕ → Packed = λ n. record {
+    let packed : ℕ → Put = λ n. record {
       frames = c.loop-planes.packed.frames + 1;
       bytes =
           c.loop-planes.packed.bytes + n;

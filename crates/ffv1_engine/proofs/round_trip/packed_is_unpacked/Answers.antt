@@ -1,21 +1,23 @@
 -- A text that `pack` has packed is unpacked again.
-use Rattle.std.proofs.Common.{arith, refl}
+use Rattle.std.proofs.Common.{◌∙◌, refl, sym}
 use Rattle.ffv1_engine.specs.Grids.{choice_for}
 use Rattle.ffv1_engine.specs.Profiles.{greatest_depth}
 use Rattle.ffv1_engine.specs.declared.profile.Profile.{Profile}
 use Rattle.ffv1_engine.specs.declared.profile.Profile.TheVariants.{Strict, Wide}
 use Rattle.ffv1_files.specs.declared.container.Scope.TheVariants.{FirstMovi, Whole}
+use Rattle.ffv1_engine.proofs.ColourNumbers.{kept_text}
 use Rattle.ffv1_engine.proofs.PackedFrames.{FrameLaws}
 use Rattle.ffv1_matroska.specs.MatroskaFiles.{MatroskaFile}
 use Rattle.ffv1_engine.specs.MatroskaRoundTrip.{matroska_file}
 use Rattle.ffv1_engine.specs.Packing.{packed_file}
-use Rattle.ffv1_engine.specs.RoundTrip.{IsFileIn}
+use Rattle.ffv1_engine.specs.RoundTrip.{IsFileIn, text_video, video_in}
 use Rattle.ffv1_engine.proofs.MatroskaUnpacked.{MatroskaLaws, accepted_wide, begun_read, file_is}
 use Rattle.ffv1_engine.proofs.MatroskaUnpacked.{file_reads, given as of_matroska}
 use Rattle.ffv1_engine.proofs.MatroskaUnpacked.{packed_so as matroska_so, read_wide, writable}
 use Rattle.ffv1_engine.proofs.PackedIsUnpacked.{FileLaws, accepted_as, avi_is, avi_reads}
 use Rattle.ffv1_engine.proofs.PackedIsUnpacked.{check_refused, given, holds, lined_by, packed_so}
-use Rattle.ffv1_engine.proofs.PackedIsUnpacked.{ppm_by, read_in, same_by, same_ppm, same_video}
+use Rattle.ffv1_engine.proofs.PackedIsUnpacked.{again_by, again_text, ppm_by, read_in, same_ppm, same_video}
+use Rattle.ffv1_engine.proofs.PackedIsUnpacked.{strict_by}
 use Rattle.ffv1_engine.proofs.PackedIsUnpacked.{show_refused, unpack_refused, written}
 use Rattle.ffv1_engine.proofs.PackedText.{RecordLaws}
 use Rattle.ffv1_engine.proofs.round_trip.packed_is_unpacked.Goals as goal
@@ -29,7 +31,9 @@ file_laws Strict c = record {
   next = c.frames_come_in_turn.ensures;
   said = c.said_head_can_be_read.ensures;
   named = c.said_chroma_has_a_name.ensures;
+  neither = c.strict_head_says_neither.ensures.line;
   canonical = c.text_is_read_as_its_pictures.ensures.canonical;
+  strict = c.text_is_read_as_its_pictures.ensures.strict;
 }
 file_laws Wide c = record {
   file = c.written_file_is_read_back.ensures.riff;
@@ -39,7 +43,9 @@ file_laws Wide c = record {
   next = c.frames_come_in_turn.ensures;
   said = c.said_head_can_be_read.ensures;
   named = c.said_chroma_has_a_name.ensures;
+  neither = c.strict_head_says_neither.ensures.line;
   canonical = c.text_is_read_as_its_pictures.ensures.canonical;
+  strict = c.text_is_read_as_its_pictures.ensures.strict;
 }
 
 frame_laws : goal.After-written_bytes_are_a_record → FrameLaws
@@ -99,55 +105,55 @@ returns-clause-read c = read_in
 
 pub returns-clause-holds : goal.returns-clause-holds
 returns-clause-holds c = λ packing profile choice text w read.
-    holds profile (file_laws profile c) (frame_laws c) (record_laws c) choice text w.packs.video
-    (accepted_as profile w) refl read.deep (given packing profile choice text w read)
-    (packed_file choice w.packs.video (accepted_as profile w))
+    holds profile (file_laws profile c) (frame_laws c) (record_laws c) choice (video_in w) (accepted_as profile w) refl read.deep (given packing profile (file_laws profile c) (frame_laws c) choice text w read)
+    (packed_file choice (text_video w) (accepted_as profile w))
     (avi_reads packing profile (file_laws profile c) (frame_laws c) (record_laws c) choice text w
     read) (IsFileIn profile) (avi_is packing profile (file_laws profile c) (frame_laws c)
     (record_laws c) choice text w read)
 
 pub returns-clause-written : goal.returns-clause-written
 returns-clause-written c = λ packing profile choice text w input output count read.
-    written profile (file_laws profile c) (frame_laws c) (record_laws c) choice text w.packs.video
-    (accepted_as profile w) refl read.deep (given packing profile choice text w read)
-    (packed_file choice w.packs.video (accepted_as profile w))
+    written profile (file_laws profile c) (frame_laws c) (record_laws c) choice (video_in w) (accepted_as profile w) refl read.deep (given packing profile (file_laws profile c) (frame_laws c) choice text w read)
+    (packed_file choice (text_video w) (accepted_as profile w))
     (avi_reads packing profile (file_laws profile c) (frame_laws c) (record_laws c) choice text w
     read) input output count
 
 pub returns-clause-refused : goal.returns-clause-refused
 returns-clause-refused c = λ packing profile choice text w input output f read known stops.
-    unpack_refused profile (file_laws profile c) (frame_laws c) (record_laws c) choice text
-    w.packs.video (accepted_as profile w) refl read.deep (given packing profile choice text w read)
-    (packed_file choice w.packs.video (accepted_as profile w))
+    unpack_refused profile (file_laws profile c) (frame_laws c) (record_laws c) choice (video_in w) (accepted_as profile w) refl read.deep (given packing profile (file_laws profile c) (frame_laws c) choice text w read)
+    (packed_file choice (text_video w) (accepted_as profile w))
     (avi_reads packing profile (file_laws profile c) (frame_laws c) (record_laws c) choice text w
     read) input output known f stops
 
 pub returns-clause-checked : goal.returns-clause-checked
 returns-clause-checked c = λ packing profile choice text w place input output f read known stops.
-    check_refused profile (file_laws profile c) (frame_laws c) (record_laws c) choice text
-    w.packs.video (accepted_as profile w) refl read.deep (given packing profile choice text w read)
-    (packed_file choice w.packs.video (accepted_as profile w))
+    check_refused profile (file_laws profile c) (frame_laws c) (record_laws c) choice (video_in w) (accepted_as profile w) refl read.deep (given packing profile (file_laws profile c) (frame_laws c) choice text w read)
+    (packed_file choice (text_video w) (accepted_as profile w))
     (avi_reads packing profile (file_laws profile c) (frame_laws c) (record_laws c) choice text w
     read) input output known place f stops
 
 pub returns-clause-shown : goal.returns-clause-shown
 returns-clause-shown c = λ packing profile choice text w cost input output f read known stops.
-    show_refused profile (file_laws profile c) (frame_laws c) (record_laws c) choice text
-    w.packs.video (accepted_as profile w) refl read.deep (given packing profile choice text w read)
-    (packed_file choice w.packs.video (accepted_as profile w))
+    show_refused profile (file_laws profile c) (frame_laws c) (record_laws c) choice (video_in w) (accepted_as profile w) refl read.deep (given packing profile (file_laws profile c) (frame_laws c) choice text w read)
+    (packed_file choice (text_video w) (accepted_as profile w))
     (avi_reads packing profile (file_laws profile c) (frame_laws c) (record_laws c) choice text w
     read) input output known cost f stops
 
 pub returns-clause-same : goal.returns-clause-same
 returns-clause-same c = same_video (file_laws Strict c)
 
+pub returns-clause-kept : goal.returns-clause-kept
+returns-clause-kept c = λ packing choice text w none. kept_text w.packs.video.ppm w.packs.video.head
+    w.packs.video.pictures (sym w.packs.loses ∙ none)
+
 pub returns-clause-packed : goal.returns-clause-packed
 returns-clause-packed c = packed_so
 
 pub returns-clause-strict : goal.returns-clause-strict
-returns-clause-strict c = λ choice text w. lined_by c.text_is_read_as_its_images.ensures.lined 8
-    w.packs.video.ppm text w.packs.video.head w.packs.video.pictures (omega arith)
-    (packed_so Strict choice text w)
+returns-clause-strict c = λ choice text w. strict_by (file_laws Strict c) w.packs.video.ppm text
+    w.packs.video.head w.packs.video.pictures (lined_by
+    c.text_is_read_as_its_images.ensures.lined w.packs.video.ppm text w.packs.video.head
+    w.packs.video.pictures (packed_so Strict choice text w))
 
 pub returns-clause-ppm : goal.returns-clause-ppm
 returns-clause-ppm c = same_ppm
@@ -155,54 +161,59 @@ returns-clause-ppm c = same_ppm
 pub returns-clause-matroska_holds : goal.returns-clause-matroska_holds
 returns-clause-matroska_holds c = λ packing choice text w.
     holds Wide (file_laws Wide c) (frame_laws c) (record_laws c)
-    (choice_for packing choice w.packs.video.head) text w.packs.video (accepted_wide w) refl
-    (read_wide packing choice text w).deep (of_matroska packing choice text w) (matroska_file w)
+    (choice_for packing choice w.packs.video.head) w.packs.video (accepted_wide w) refl
+    (read_wide packing choice text w).deep (of_matroska packing (file_laws Wide c) (frame_laws c) choice text w) (matroska_file w)
     (file_reads packing (frame_laws c) (record_laws c) (matroska_laws c) choice text w) MatroskaFile
     (file_is packing (frame_laws c) (record_laws c) (matroska_laws c) choice text w)
 
 pub returns-clause-matroska_written : goal.returns-clause-matroska_written
 returns-clause-matroska_written c = λ packing choice text w.
     written Wide (file_laws Wide c) (frame_laws c) (record_laws c)
-    (choice_for packing choice w.packs.video.head) text w.packs.video (accepted_wide w) refl
-    (read_wide packing choice text w).deep (of_matroska packing choice text w) (matroska_file w)
+    (choice_for packing choice w.packs.video.head) w.packs.video (accepted_wide w) refl
+    (read_wide packing choice text w).deep (of_matroska packing (file_laws Wide c) (frame_laws c) choice text w) (matroska_file w)
     (file_reads packing (frame_laws c) (record_laws c) (matroska_laws c) choice text w)
 
 pub returns-clause-matroska_refused : goal.returns-clause-matroska_refused
 returns-clause-matroska_refused c = λ packing choice text w input output f known stops.
     unpack_refused Wide (file_laws Wide c) (frame_laws c) (record_laws c)
-    (choice_for packing choice w.packs.video.head) text w.packs.video (accepted_wide w) refl
-    (read_wide packing choice text w).deep (of_matroska packing choice text w) (matroska_file w)
+    (choice_for packing choice w.packs.video.head) w.packs.video (accepted_wide w) refl
+    (read_wide packing choice text w).deep (of_matroska packing (file_laws Wide c) (frame_laws c) choice text w) (matroska_file w)
     (file_reads packing (frame_laws c) (record_laws c) (matroska_laws c) choice text w) input output
     known f stops
 
 pub returns-clause-matroska_checked : goal.returns-clause-matroska_checked
 returns-clause-matroska_checked c = λ packing choice text w place input output f known stops.
     check_refused Wide (file_laws Wide c) (frame_laws c) (record_laws c)
-    (choice_for packing choice w.packs.video.head) text w.packs.video (accepted_wide w) refl
-    (read_wide packing choice text w).deep (of_matroska packing choice text w) (matroska_file w)
+    (choice_for packing choice w.packs.video.head) w.packs.video (accepted_wide w) refl
+    (read_wide packing choice text w).deep (of_matroska packing (file_laws Wide c) (frame_laws c) choice text w) (matroska_file w)
     (file_reads packing (frame_laws c) (record_laws c) (matroska_laws c) choice text w) input output
     known place f stops
 
 pub returns-clause-matroska_shown : goal.returns-clause-matroska_shown
 returns-clause-matroska_shown c = λ packing choice text w cost input output f known stops.
     show_refused Wide (file_laws Wide c) (frame_laws c) (record_laws c)
-    (choice_for packing choice w.packs.video.head) text w.packs.video (accepted_wide w) refl
-    (read_wide packing choice text w).deep (of_matroska packing choice text w) (matroska_file w)
+    (choice_for packing choice w.packs.video.head) w.packs.video (accepted_wide w) refl
+    (read_wide packing choice text w).deep (of_matroska packing (file_laws Wide c) (frame_laws c) choice text w) (matroska_file w)
     (file_reads packing (frame_laws c) (record_laws c) (matroska_laws c) choice text w) input output
     known cost f stops
 
 pub returns-clause-matroska_same : goal.returns-clause-matroska_same
-returns-clause-matroska_same c = λ packing choice text w. same_by (file_laws Wide c)
-    (greatest_depth packing) w.packs.video.ppm text w.packs.video.head w.packs.video.pictures
-    (matroska_so packing choice text w)
+returns-clause-matroska_same c = λ packing choice text w. again_by (file_laws Wide c)
+    c.text_is_read_as_its_images.ensures.same (greatest_depth packing) w.packs.video.ppm text
+    w.packs.video.head w.packs.video.pictures (matroska_so packing choice text w)
+
+pub returns-clause-matroska_again : goal.returns-clause-matroska_again
+returns-clause-matroska_again c = λ packing choice text w. again_text (file_laws Wide c)
+    (c.text_is_read_as_its_pictures.ensures.same) packing w.packs.video.ppm text w.packs.video.head
+    w.packs.video.pictures (matroska_so packing choice text w)
 
 pub returns-clause-matroska_packed : goal.returns-clause-matroska_packed
 returns-clause-matroska_packed c = matroska_so
 
 pub returns-clause-matroska_strict : goal.returns-clause-matroska_strict
 returns-clause-matroska_strict c = λ choice text w. lined_by
-    c.text_is_read_as_its_images.ensures.lined 8 w.packs.video.ppm text w.packs.video.head
-    w.packs.video.pictures (omega arith) (matroska_so Strict choice text w)
+    c.text_is_read_as_its_images.ensures.lined w.packs.video.ppm text w.packs.video.head
+    w.packs.video.pictures (matroska_so Strict choice text w)
 
 pub returns-clause-matroska_ppm : goal.returns-clause-matroska_ppm
 returns-clause-matroska_ppm c = λ packing choice text w is. ppm_by w.packs.video.ppm text
