@@ -4,7 +4,7 @@ use crate::fields::{Count, bytes, counted, number};
 use crate::matroska::number_of;
 use anyhow::{Context, Result};
 use ffv1_matroska::{CodecId, MatroskaWriter, TrackEntry};
-use ffv1_reads::FileHead;
+use ffv1_reads::{Colour, FileHead};
 use ffv1_sum::crc32;
 use ffv1_wire::{ByteOut, ToMemory, ToWrite};
 use std::alloc::Global;
@@ -33,6 +33,7 @@ fn head(alloc: Global, fields: &mut SplitWhitespace<'_>) -> Result<FileHead> {
         height,
         rate,
         scale,
+        colour: Colour::UNSAID,
         config_record,
     })
 }

@@ -1,6 +1,7 @@
 //! Matroska: what Tracks say, and files that are read and written.
 
 mod closed;
+mod colours;
 mod commands;
 mod packing;
 mod rates;

@@ -59,6 +59,7 @@ pub(super) fn file_of(
         height,
         rate,
         scale,
+        colour: ffv1_reads::Colour::UNSAID,
         config_record: write_record(alloc, &checked)?,
     };
     let mut frames = Vec::new(alloc);

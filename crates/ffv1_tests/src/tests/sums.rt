@@ -167,6 +167,7 @@ fn file_with(alloc: Global, frames: &[Vec<u8>]) -> Result<Vec<u8>, Fault> {
         height: 1,
         rate: 25,
         scale: 1,
+        colour: ffv1_reads::Colour::UNSAID,
         config_record: write_record(alloc, &made::mono(alloc, 1, 1, 1, false)?.check()?)?,
     };
     let mut out = ToWrite::new(Vec::new(alloc));

@@ -120,6 +120,7 @@ fn file_with(alloc: Global, config: Config, frames: &[Vec<u8>]) -> Result<Vec<u8
         height,
         rate: 25,
         scale: 1,
+        colour: ffv1_reads::Colour::UNSAID,
         config_record: write_record(alloc, &config.check()?)?,
     };
     let mut out = ToWrite::new(Vec::new(alloc));

@@ -7,3 +7,4 @@ mod image_depths;
 mod images;
 mod pictures;
 mod scarce;
+mod sitings;

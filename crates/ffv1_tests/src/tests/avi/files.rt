@@ -4,7 +4,7 @@ ghost use Rattle.std.specs.Prelude.{◌≡◌, ◌+◌, ◌<◌, ◌≤◌, IfOk
 
 use super::example::EXAMPLE;
 use ffv1_avi::{AviReader, write_avi};
-use ffv1_reads::{FileFault, FileHead};
+use ffv1_reads::{Colour, FileFault, FileHead};
 use ffv1_wire::{FromRead, ToWrite};
 use std::alloc::{Allocator, Global};
 use std::process::Abort;
@@ -31,6 +31,7 @@ pub(super) fn example_head(rt: &HostRuntime) -> Result<FileHead, Fail>
         height: 288,
         rate: 25,
         scale: 1,
+        colour: Colour::UNSAID,
         config_record: record,
     })
 }
@@ -62,6 +63,27 @@ fn written(rt: HostRuntime) -> Result<(), Fail> {
     let frames = example_frames(&rt)?;
     let file = file_of(rt.alloc(), &head, frames.as_slice())?;
     assert!(rt; file.as_slice() == EXAMPLE.as_slice());
+    Ok(())
+}
+
+/// Colours are not written.
+#[test]
+fn colours_are_not_written(rt: HostRuntime) -> Result<(), Fail> {
+    let mut head = example_head(&rt)?;
+    head.colour.matrix = 1;
+    head.colour.range = 2;
+    let frames = example_frames(&rt)?;
+    let file = file_of(rt.alloc(), &head, frames.as_slice())?;
+    assert!(rt; file.as_slice() == EXAMPLE.as_slice());
+    Ok(())
+}
+
+/// No colours are read.
+#[test]
+fn no_colours_are_read(rt: HostRuntime) -> Result<(), Fail> {
+    let mut input = FromRead::new(EXAMPLE.as_slice());
+    let reader = AviReader::open(rt.alloc(), &mut input)?;
+    assert!(rt; reader.head().colour == Colour::UNSAID);
     Ok(())
 }
 
@@ -170,4 +192,24 @@ fn long_frames(rt: HostRuntime) {
     assert!(rt; twice(rt.alloc(), &long(67108864)) == Ok((short, short, 6, 0)));
     let empty = Err(FileFault::EmptyFrame);
     assert!(rt; twice(rt.alloc(), &long(0)) == Ok((empty, empty, 0, 6)));
+}
+
+/// The fault of the example with this name of its format.
+fn named(alloc: Global, name: [u8; 4]) -> (Option<FileFault>, Option<FileFault>) {
+    let mut file = EXAMPLE;
+    put(&mut file, 188, name);
+    let first = AviReader::open(alloc, &mut FromRead::new(&file[..])).err();
+    let all = AviReader::open_all(alloc, &mut FromRead::new(&file[..])).err();
+    (first, all)
+}
+
+/// Each letter may be small if every RIFF is read, and none if the first movi is read alone.
+#[test]
+fn small_letters(rt: HostRuntime) {
+    let none = Some(FileFault::NoFfv1);
+    assert!(rt; named(rt.alloc(), *b"FFV1") == (None, None));
+    assert!(rt; named(rt.alloc(), *b"ffv1") == (none, None));
+    assert!(rt; named(rt.alloc(), *b"fFv1") == (none, None));
+    assert!(rt; named(rt.alloc(), *b"ffvh") == (none, none));
+    assert!(rt; named(rt.alloc(), [0x66, 0x66, 0x76, 0x11]) == (none, none));
 }

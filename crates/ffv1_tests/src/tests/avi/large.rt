@@ -2,7 +2,7 @@
 
 use super::files::file_of;
 use ffv1_avi::AviReader;
-use ffv1_reads::{FileFault, FileHead};
+use ffv1_reads::{Colour, FileFault, FileHead};
 use ffv1_wire::FromRead;
 use std::alloc::{AllocError, Global};
 use std::process::Abort;
@@ -32,6 +32,7 @@ pub fn file_of_one(alloc: Global, zeros_before: usize) -> Result<Vec<u8>, Fail> 
         height: 1,
         rate: 25,
         scale: 1,
+        colour: Colour::UNSAID,
         config_record: Vec::new(alloc),
     };
     Ok(file_of(alloc, &head, frames.as_slice())?)

@@ -1,7 +1,7 @@
 //! How long a frame lasts in a file that is written.
 
 use super::files::file_of;
-use ffv1_reads::{FileFault, FileHead};
+use ffv1_reads::{Colour, FileFault, FileHead};
 use std::alloc::Global;
 use std::process::Abort;
 
@@ -12,6 +12,7 @@ fn microseconds(alloc: Global, rate: u32, scale: u32) -> Result<[u8; 4], FileFau
         height: 1,
         rate,
         scale,
+        colour: Colour::UNSAID,
         config_record: Vec::new(alloc),
     };
     let frames = Vec::new(alloc);

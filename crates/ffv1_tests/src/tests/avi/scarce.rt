@@ -5,7 +5,7 @@ ghost use Rattle.std.specs.Prelude.{◌≡◌, IfOk};
 use super::files::{file_of, twice};
 use ffv1_avi::AviReader;
 use ffv1_doubles::Scarce;
-use ffv1_reads::{FileFault, FileHead};
+use ffv1_reads::{Colour, FileFault, FileHead};
 use ffv1_wire::FromRead;
 use std::alloc::{Allocator, Global};
 use std::process::Abort;
@@ -23,6 +23,7 @@ fn head_of(alloc: Global) -> Result<FileHead, FileFault>
         height: 2,
         rate: 25,
         scale: 1,
+        colour: Colour::UNSAID,
         config_record: record,
     })
 }

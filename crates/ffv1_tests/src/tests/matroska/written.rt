@@ -3,7 +3,7 @@
 use super::written_example::{EXAMPLE, FILE, FRAME, RECORD, SECOND};
 use ffv1_doubles::{FailingWriter, Scarce};
 use ffv1_matroska::{CodecId, MatroskaWriter, TrackEntry};
-use ffv1_reads::{FileFault, FileHead};
+use ffv1_reads::{Colour, FileFault, FileHead};
 use ffv1_sum::crc32;
 use ffv1_wire::{ByteOut, PatchOut, ToMemory, ToWrite};
 use std::alloc::{Allocator, Global};
@@ -30,6 +30,7 @@ fn head_of<A: Allocator>(
         height: size.1,
         rate: rate.0,
         scale: rate.1,
+        colour: Colour::UNSAID,
         config_record: Vec::from_slice(alloc, &RECORD)?,
     })
 }

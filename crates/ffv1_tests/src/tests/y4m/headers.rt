@@ -26,6 +26,8 @@ const PLAIN: VideoHead = VideoHead {
     log2_h: 1,
     log2_v: 1,
     extra_plane: false,
+    siting: None,
+    range: None,
 };
 
 /// Texts that are refused, and why.
