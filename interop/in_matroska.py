@@ -203,7 +203,8 @@ def read_said(results):
         status, _, errors = ffv1("unpack", file, "said.out")
         head = load("said.out").split(b"\n")[0].decode()
         results.same(f"Matroska, {field}", (status, errors, head),
-                     (0, "", f"YUV4MPEG2 W64 H64 F25:1 I{letter} A4:3 C420jpeg"))
+                     (0, "", f"YUV4MPEG2 W64 H64 F25:1 I{letter} A4:3 C420jpeg "
+                             "XCOLORRANGE=LIMITED"))
 
 
 # --------------------------------------------------------------------------------- the model's files

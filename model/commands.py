@@ -21,7 +21,7 @@ import files
 import matroska
 from command_line import COMMANDS, Help, Kept, Refused, number, words
 from ffv1 import Fault
-from packing import is_matroska, pack, pack_matroska
+from packing import is_matroska, pack, pack_matroska, said_in
 from record import are_multiples
 from trial import trial
 
@@ -86,7 +86,8 @@ def unpack_y4m(head, config, frames, out):
         if first is None:
             first = decoded.info
             video = files.VideoHead(config.width, config.height, head.rate, head.scale, first[0],
-                                    first[1:], planes, depth=config.depth)
+                                    first[1:], planes, depth=config.depth,
+                                    **said_in(getattr(head, "colour", {}), planes, config))
             out(files.y4m_header(video))
         elif decoded.info != first:
             raise Fault(71)
@@ -361,12 +362,16 @@ def overwriter(descriptor):
     return over
 
 
+# own: said where an AVI does not hold what a text says of colours
+LOST = "AVI holds no range of colours and no siting of chroma, but .mkv does"
+
+
 def made(order, source, out, over):
-    """The count of what `pack` or `unpack` makes."""
+    """The count of what `pack` or `unpack` makes, and whether an AVI loses colours."""
     if order.command == "unpack":
-        return unpack(source, out)
+        return unpack(source, out), False
     if is_matroska(order.choice["container"], order.files[1]):
-        return pack_matroska(source, out, over, order.choice)
+        return pack_matroska(source, out, over, order.choice), False
     return pack(source, out, order.choice)
 
 
@@ -379,11 +384,13 @@ def make(order, source, descriptors, output):
     if path != "-":
         descriptors.append(opened_output(path, order.choice["no-clobber"]))
         out, over = writer(descriptors[1], anew=True), overwriter(descriptors[1])
-    count = made(order, source, out, over)
+    count, is_lost = made(order, source, out, over)
+    named = "standard output" if path == "-" else path
+    told = f"ffv1: {named}: {LOST}\n" if is_lost else ""
     if path == "-":
-        return count
+        return told + count
     output(count)
-    return ""
+    return told
 
 
 def perform(order, path, output, standard_input):

@@ -75,10 +75,11 @@ class VideoHead:
     """What a text of pictures says of them: a YUV4MPEG2 header, or a PPM, which is RCT."""
 
     def __init__(self, width, height, rate=0, scale=0, structure=0, aspect=(0, 0),
-                 planes=(True, 0, 0, False), rct=False, depth=8):
+                 planes=(True, 0, 0, False), rct=False, depth=8, siting=None, range=None):
         self.width, self.height, self.rate, self.scale = width, height, rate, scale
         self.structure, self.aspect, self.rct, self.depth = structure, aspect, rct, depth
         self.chroma, self.log2_h, self.log2_v, self.extra = planes
+        self.siting, self.range = siting, range
 
     def sizes(self):
         """The width and height of each plane: those of chroma are rounded up."""
@@ -121,6 +122,10 @@ PLANES = {
        for depth in [9, 10, 12, 14, 16]},
     **{b"mono%d" % depth: (False, 0, 0, False, depth) for depth in [9, 10, 12, 16]},
 }
+# where chroma lies, by the name of 4:2:0 of 8 bits; own: without a name, as in JPEG
+SITINGS = {b"420jpeg": "centre", b"420mpeg2": "left", b"420paldv": "topleft", b"420": "centre"}
+# the range of values, as FFmpeg names it
+RANGES = {b"COLORRANGE=FULL": "full", b"COLORRANGE=LIMITED": "limited"}
 STRUCTURES = {b"?": 0, b"t": 1, b"b": 2, b"p": 3}
 
 
@@ -148,17 +153,26 @@ def ratio(text, most):
     return None if num is None or den is None or (num == 0) != (den == 0) else (num, den)
 
 
+def chroma_tag(text, most):
+    """The planes of a name, and where chroma lies, which is said where depths above 8 are read; so is
+    the name 420."""
+    planes = PLANES.get(b"420jpeg" if text == b"420" and most > 8 else text, [17])
+    if planes[-1] > most:
+        raise Fault(62)
+    return planes, SITINGS.get(text) if most > 8 else None
+
+
 def tag_value(letter, text, most):
     """What a tag says; 61 where it is not one, 62 where it is left out here, as depths above the
-    most are."""
+    most are. Of X only a range, where depths above 8 are read."""
     if letter == b"X":
-        return text
-    if letter == b"C" and PLANES.get(text, [17])[-1] > most or letter == b"I" and text == b"m":
+        return RANGES.get(text) if most > 8 else None
+    if letter == b"I" and text == b"m":
         raise Fault(62)
     value = {
         b"W": lambda: decimal(text, 1, 8192), b"H": lambda: decimal(text, 1, 8192),
         b"F": lambda: ratio(text, 2 ** 32 - 1), b"A": lambda: ratio(text, 65535),
-        b"I": lambda: STRUCTURES.get(text), b"C": lambda: PLANES[text],
+        b"I": lambda: STRUCTURES.get(text), b"C": lambda: chroma_tag(text, most),
     }.get(letter, lambda: None)()
     if value is None:
         raise Fault(61)
@@ -172,12 +186,16 @@ def open_y4m(source, first, most=16):
         letter, text = tag[:1], tag[1:]
         if letter != b"X" and letter in tags:
             raise Fault(61)
-        tags[letter] = tag_value(letter, text, most)
+        value = tag_value(letter, text, most)
+        if letter == b"X" and value and tags.get(b"X"):
+            raise Fault(61)
+        tags[letter] = value or tags.get(letter) if letter == b"X" else value
     if b"W" not in tags or b"H" not in tags:
         raise Fault(61)
-    *planes, depth = tags.get(b"C", PLANES[b"420jpeg"])
+    (*planes, depth), siting = tags.get(b"C", (PLANES[b"420jpeg"], None))
     return VideoHead(tags[b"W"], tags[b"H"], *tags.get(b"F", (0, 0)), tags.get(b"I", 0),
-                     tags.get(b"A", (0, 0)), planes, depth=depth)
+                     tags.get(b"A", (0, 0)), planes, depth=depth, siting=siting,
+                     range=tags.get(b"X"))
 
 
 def y4m_pictures(source, head):
@@ -192,11 +210,14 @@ def y4m_pictures(source, head):
 
 
 def y4m_header(head):
-    """The header that is written: the tags W H F I A C."""
+    """The header that is written: the tags W H F I A C, and X of the range."""
     letter = next(letter for letter, value in STRUCTURES.items() if value == head.structure)
     name = name_of((head.chroma, head.log2_h, head.log2_v, head.extra), head.depth)
-    return b"YUV4MPEG2 W%d H%d F%d:%d I%s A%d:%d C%s\n" % (
-        head.width, head.height, head.rate, head.scale, letter, *head.aspect, name)
+    if name == b"420jpeg" and head.siting:
+        name = next(name for name, siting in SITINGS.items() if siting == head.siting)
+    tag = b"".join(b" X" + text for text, named in RANGES.items() if named == head.range)
+    return b"YUV4MPEG2 W%d H%d F%d:%d I%s A%d:%d C%s%s\n" % (
+        head.width, head.height, head.rate, head.scale, letter, *head.aspect, name, tag)
 
 
 def y4m_picture(planes, depth):
@@ -321,7 +342,8 @@ def write_avi(head, frames):
 
 def get_stream(source, left, wide):
     """The head that a stream says, if it is FFV1 video: its first header and its first format
-    count. Wide, the record ends where biSize says, if that lies inside the format."""
+    count. Wide, the letters of FFV1 may be small, and the record ends where biSize says, if that
+    lies inside the format."""
     fields = {}
     for name, size in chunks(source, left):
         if name not in (b"strh", b"strf") or name in fields:
@@ -331,7 +353,8 @@ def get_stream(source, left, wide):
             raise Fault(53)
         fields[name] = get_chunk(source, size)
     strh, strf = fields.get(b"strh", b""), fields.get(b"strf", b"")
-    if len(strh) < 56 or strh[:4] != b"vids" or len(strf) < 40 or strf[16:20] != b"FFV1":
+    codec = strf[16:20].upper() if wide else strf[16:20]
+    if len(strh) < 56 or strh[:4] != b"vids" or len(strf) < 40 or codec != b"FFV1":
         return None
     scale, rate = struct.unpack("<2I", strh[20:28])
     if (scale == 0) != (rate == 0):

@@ -28,14 +28,23 @@ OPEN = 2 ** 56 - 1          # the bytes of an open Segment: what the bits of its
 MOST = 2 ** 32 - 1
 
 
+# 5.1.4.1.28.16: what Colour says, and its defaults, which say nothing, in the order that is written:
+# MatrixCoefficients, ChromaSitingHorz and ChromaSitingVert, Range, TransferCharacteristics, Primaries
+COLOUR = 0x55B0
+MATRIX, SITING_HORZ, SITING_VERT, RANGE, TRANSFER, PRIMARIES = (
+    0x55B1, 0x55B7, 0x55B8, 0x55B9, 0x55BA, 0x55BB)
+NO_COLOUR = {MATRIX: 2, SITING_HORZ: 0, SITING_VERT: 0, RANGE: 0, TRANSFER: 2, PRIMARIES: 2}
+
+
 class Head:
     """What Tracks say of the frames: their track, the size of the pictures, rate and scale, of
     which rate / scale is the pictures a second, and the configuration record; and the numbers of
-    all tracks."""
+    all tracks; and what Video says of colours."""
 
-    def __init__(self, number, width, height, rate, scale, record, known=()):
+    def __init__(self, number, width, height, rate, scale, record, known=(), colour=None):
         self.number, self.width, self.height = number, width, height
         self.rate, self.scale, self.record, self.known = rate, scale, record, known
+        self.colour = colour or dict(NO_COLOUR)
 
 
 # -------------------------------------------------------------------------------------------- rates
@@ -75,7 +84,7 @@ def record_in(entry):
     private = ebml.find(entry, CODEC_PRIVATE) or b""
     if codec == b"V_FFV1":
         return private
-    if len(private) < 40 or private[16:20] != b"FFV1":
+    if len(private) < 40 or private[16:20].upper() != b"FFV1":
         return None
     end = int.from_bytes(private[:4], "little")
     return private[40:end] if 40 < end < len(private) else private[40:]
@@ -98,6 +107,24 @@ def numbers_in(content):
     return found
 
 
+def colour_field(content, ident):
+    """A number of Colour. Own: above 255, or where it cannot be read, it says nothing."""
+    try:
+        number = ebml.find_number(content, ident, NO_COLOUR[ident])
+    except Fault:
+        return NO_COLOUR[ident]
+    return number if number < 256 else NO_COLOUR[ident]
+
+
+def colour_in(video):
+    """What Video says of colours. Own: nothing where its Colour cannot be read."""
+    try:
+        content = ebml.find(video, COLOUR) or b""
+    except Fault:
+        content = b""
+    return {ident: colour_field(content, ident) for ident in NO_COLOUR}
+
+
 def head_in(content):
     """What a content of Tracks says: the first TrackEntry of FFV1 video counts."""
     ebml.judge(content)
@@ -112,7 +139,8 @@ def head_in(content):
         video = ebml.find(entry, VIDEO) or b""
         width, height = (min(ebml.find_number(video, field, 0), MOST)
                          for field in [PIXEL_WIDTH, PIXEL_HEIGHT])
-        return Head(number, width, height, rate, scale, record, numbers_in(content))
+        return Head(number, width, height, rate, scale, record, numbers_in(content),
+                    colour_in(video))
     raise Fault(51)
 
 
@@ -182,8 +210,8 @@ class Segment:
         if ident == SIMPLE_BLOCK:
             return self.block(size, number)
         if ident == BLOCK_GROUP:
-            self.group = size
-        elif begins and ident == CRC_32 and size == 4:
+            return self.first_block(size, number)
+        if begins and ident == CRC_32 and size == 4:
             self.source.await_sum()
         elif ident not in OF_CLUSTER and ident not in (VOID, CRC_32):
             raise Fault(81)
@@ -193,8 +221,20 @@ class Segment:
             self.source.skip(size, 52)
         return None
 
+    def first_block(self, size, number):
+        """A BlockGroup of so many bytes, up to its first Block. Own: one without a Block is refused,
+        since it may be a frame whose Block has another ID; the place is that of the group."""
+        self.group = size
+        while self.group:
+            ident, size, left = known(get_header(self.source, self.group))
+            self.group = left - size
+            if ident == BLOCK:
+                return self.block(size, number)
+            self.source.skip(size, 52)
+        raise Fault(81)
+
     def in_group(self, ident, size, number):
-        """An element of a BlockGroup."""
+        """An element of a BlockGroup after its first Block."""
         if ident == BLOCK:
             return self.block(size, number)
         self.source.skip(size, 52)
@@ -348,7 +388,7 @@ def opening(head, finish=None):
 
 
 def video(head, shown):
-    """5.1.4: the size of the pictures, their fields and their aspect."""
+    """5.1.4: the size of the pictures, their fields, their aspect and their colours."""
     (num, den), fields = shown.aspect, {1: 9, 2: 14}.get(shown.structure)
     content = ebml.number(PIXEL_WIDTH, head.width, 4) + ebml.number(PIXEL_HEIGHT, head.height, 4) \
         + ebml.number(FLAG_INTERLACED, [0, 1, 1, 2][shown.structure], 1)
@@ -357,6 +397,9 @@ def video(head, shown):
     if num and den:
         content += ebml.number(DISPLAY_WIDTH, head.width * num, 8) \
             + ebml.number(DISPLAY_HEIGHT, head.height * den, 8) + ebml.number(DISPLAY_UNIT, 3, 1)
+    colours = b"".join(ebml.number(ident, number, 1) for ident, number in head.colour.items()
+                       if number != NO_COLOUR[ident])
+    content += ebml.short(COLOUR, colours) if colours else b""
     return ebml.short(VIDEO, content)
 
 

@@ -89,13 +89,34 @@ def packed(lengths):
 
 
 def pack(source, out, choice):
-    """A text of pictures becomes an AVI, when all its frames are encoded."""
+    """A text of pictures becomes an AVI, when all its frames are encoded. It answers the count, and
+    whether the text says a range, or that chroma does not lie in the centre."""
     head, config, frames = video_of(source, choice)
     frames = list(frames)
     count = packed([len(frame) for frame in frames])
     avi = files.AviHead(head.width, head.height, head.rate, head.scale, ffv1.write_record(config))
     out(files.write_avi(avi, frames))
-    return count
+    return count, head.range is not None or head.siting in ("left", "topleft")
+
+
+# Range, and ChromaSitingHorz and ChromaSitingVert, of what a text says
+RANGES = {"limited": 1, "full": 2}
+SITINGS = {"centre": (2, 2), "left": (1, 2), "topleft": (1, 1)}
+
+
+def colour_of(head):
+    """What a text says of colours, as Matroska says it."""
+    across, down = SITINGS.get(head.siting, (0, 0))
+    return {**matroska.NO_COLOUR, matroska.SITING_HORZ: across, matroska.SITING_VERT: down,
+            matroska.RANGE: RANGES.get(head.range, 0)}
+
+
+def said_in(colour, planes, config):
+    """What a text says of the colours of a file: the siting at 4:2:0 of 8 bits alone."""
+    pair = colour.get(matroska.SITING_HORZ), colour.get(matroska.SITING_VERT)
+    sited = tuple(planes) == (True, 1, 1, False) and config.depth == 8
+    return {"range": {1: "limited", 2: "full"}.get(colour.get(matroska.RANGE)),
+            "siting": next((name for name, pairs in SITINGS.items() if pairs == pair and sited), None)}
 
 
 def is_matroska(container, path):
@@ -110,7 +131,7 @@ def pack_matroska(source, out, over, choice):
     head, config, frames = video_of(source, choice, by_default=True)
     matroska.timed(head.rate, head.scale)
     track = matroska.Head(1, head.width, head.height, head.rate, head.scale,
-                          ffv1.write_record(config))
+                          ffv1.write_record(config), colour=colour_of(head))
     tracks = matroska.tracks(track, matroska.Shown(head.structure, head.aspect))
     lengths, begins, end = [], [], matroska.TRACKS_PLACE + len(tracks)
     for frame in frames:

@@ -161,6 +161,13 @@ def rows():
             (b"RIFF\x1d\0\0\0" + MORE[8:], 1, 52)]:
         yield f"after: {after}", 1, EXAMPLE + after, SAID, one * count, fault, None
     yield "sound first", 1, sound_first(1), PLAIN_SAID, [b"ours"], 0, None
+    for name, is_ours in [(b"ffv1", 1), (b"FfV1", 1), (b"fFv1", 1), (b"FFv1", 1), (b"FFV1", 1),
+                          (b"ffv\x11", 0), (b"\x06\x06\x161", 0), (b"FFVH", 0), (b"ffvh", 0)]:
+        small = changed((188, name))
+        said = SAID if is_ours else None
+        yield f"named {name}", 1, small, said, one * is_ours, 0 if is_ours else 51, None
+        if name != b"FFV1":
+            yield f"named {name}, of the first movi", 0, small, None, [], 51, None
     yield "too few frames", 1, sound_first(2), PLAIN_SAID, [b"ours"], 52, None
     for end, length in [(40, 10), (41, 1), (49, 9), (50, 10), (51, 10), (0, 10)]:
         yield f"a record until {end}", 1, record_until(end), ended(length), [], 0, None

@@ -59,6 +59,8 @@ READ = [
     ("an index after movi", riff(header(), MOVI, INDEX)),
     ("other chunks", riff(JUNK, chunk_list(b"INFO", JUNK), header(), JUNK, MOVI)),
     ("chunks in movi", riff(header(), chunk_list(b"movi", JUNK, GOOD, chunk(b"ix00", b"a")))),
+    ("a codec in small letters", riff(header(STRH, STRF.replace(b"FFV1", b"ffv1", 1)), MOVI)),
+    ("a codec in letters of both kinds", riff(header(STRH, STRF.replace(b"FFV1", b"fFv1", 1)), MOVI)),
     ("a second list hdrl", riff(header(), chunk_list(b"hdrl", JUNK), MOVI)),
     ("a second stream", riff(chunk_list(b"hdrl", JUNK, header()[12:], SOUND), MOVI)),
     ("a second header and format", riff(TWICE, MOVI)),

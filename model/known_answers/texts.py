@@ -42,9 +42,12 @@ def known_frames():
 
 # ---------------------------------------------------------------------------------- canonical texts
 
-def round_trip(name, text, words, canonical, frames=1):
+LOST = "ffv1: out: AVI holds no range of colours and no siting of chroma, but .mkv does\n"
+
+
+def round_trip(name, text, words, canonical, frames=1, errors=None):
     """A text is packed and unpacked."""
-    steps = [Step(["pack", *words.split(), "in", "out"], ANY),
+    steps = [Step(["pack", *words.split(), "in", "out"], ANY, errors=errors or ""),
              Step(["unpack", "out", "back"], f"frames {frames}\n")]
     return Case(name, {"in": text}, steps, {"in": text, "back": canonical})
 
@@ -55,10 +58,36 @@ HEADER = b"YUV4MPEG2 W2 H2 C420jpeg X"
 LONGEST = HEADER + b"x" * (1024 - len(HEADER))
 
 
+# the tags C and X of a text, those that come back from Matroska, and whether an AVI loses any
+COLOURS = [
+    ("C420jpeg", "C420jpeg", False), ("C420mpeg2", "C420mpeg2", True), ("C420paldv", "C420paldv", True),
+    ("C420", "C420jpeg", False), ("", "C420jpeg", False), ("Xa", "C420jpeg", False),
+    ("XCOLORRANGE=FULL", "C420jpeg XCOLORRANGE=FULL", True),
+    ("Xa XCOLORRANGE=LIMITED C420paldv Xb", "C420paldv XCOLORRANGE=LIMITED", True),
+    ("XCOLORRANGE=full XCOLORRANGE= XCOLORRANGE=FULL", "C420jpeg XCOLORRANGE=FULL", True),
+    ("XCOLORRANGE=FULLY C420jpeg", "C420jpeg", False),
+]
+
+
+def coloured_texts():
+    """The range and the siting of chroma: Matroska holds them, and an AVI does not."""
+    for tags, written, lost in COLOURS:
+        text = y4m(f"W2 H2 F25:1 {tags}".rstrip(), SIX)
+        yield round_trip(f"colours {tags} in Matroska", text, "--container mkv",
+                         y4m(f"W2 H2 F25:1 I? A0:0 {written}", SIX))
+        yield round_trip(f"colours {tags} in AVI", text, "", y4m(CANONICAL, SIX),
+                         errors=LOST if lost else "")
+    for name, length in [("422p10", 16), ("mono", 4), ("444", 12), ("411", 8)]:
+        text = y4m(f"W2 H2 F25:1 I? A0:0 C{name} XCOLORRANGE=LIMITED", bytes(length))
+        yield round_trip(f"a range of {name}", text, "--container mkv", text)
+    for tags in ["XCOLORRANGE=FULL XCOLORRANGE=FULL", "XCOLORRANGE=FULL XCOLORRANGE=LIMITED"]:
+        yield refused(f"two ranges {tags}", y4m(f"W2 H2 {tags}", SIX), "61 Tag")
+
+
 def tagged_texts():
     """The tags of a header."""
     yield round_trip("chroma by a name", y4m("W2 H2 F25:1 C420mpeg2 Xa", SIX), "",
-                     y4m(CANONICAL, SIX))
+                     y4m(CANONICAL, SIX), errors=LOST)
     yield round_trip("no tag C", y4m("H2 W2 F25:1", SIX), "", y4m(CANONICAL, SIX))
     yield round_trip("all tags", y4m("Xa A59:54 C422 F30000:1001 Ib Xb H1 W3", bytes(range(7))),
                      "--contexts large", y4m("W3 H1 F30000:1001 Ib A59:54 C422", bytes(range(7))))
@@ -74,7 +103,8 @@ def tagged_texts():
         samples = bytes(range(length))
         written = "420jpeg" if name == "420paldv" else name
         yield round_trip(f"chroma {name}", y4m(f"W3 H2 C{name}", samples), "",
-                         y4m(f"W3 H2 F0:0 I? A0:0 C{written}", samples))
+                         y4m(f"W3 H2 F0:0 I? A0:0 C{written}", samples),
+                         errors=LOST if name == "420paldv" else "")
 
 
 def several_pictures():
@@ -172,5 +202,5 @@ def refused_grids():
                      y4m("W5 H1 F0:0 I? A0:0 C420jpeg", bytes(range(11))))
 
 
-CASES = [known_frames, tagged_texts, several_pictures, spaced_images, refused_headers,
+CASES = [known_frames, tagged_texts, coloured_texts, several_pictures, spaced_images, refused_headers,
          refused_pictures, refused_grids]
