@@ -3,14 +3,13 @@
 //! `ffv1_engine`.
 #![tactic(auto)]
 
-ghost use Rattle.std.specs.Prelude.{◌≡◌, ◌≢◌, ◌⊎◌, ◌≤◌, Err, IfErr, IfOk, IsOk, None, Some, false};
+ghost use Rattle.std.specs.Prelude.{◌≡◌, ◌≢◌, ◌⊎◌, ◌≤◌, Err, IfErr, IfOk, IsOk};
 ghost use Rattle.std.specs.Process.{exit_status};
 ghost use Rattle.clap.specs.Words.{kind_of};
 ghost use Rattle.clap.specs.declared.error.kind.ErrorKind.TheVariants as kind;
 ghost use Rattle.ffv1.specs.declared.refusal.Refusal.TheVariants as refusal;
 ghost use Rattle.ffv1.specs.Statuses.{IsAnyFault, IsFault, IsMakingRefusal, IsStatus, makes_file};
 ghost use Rattle.ffv1.specs.Statuses.{status_of};
-ghost use Rattle.ffv1_engine.specs.Check.{IsCheckFault};
 ghost use Rattle.ffv1_engine.specs.Show.{IsShowFault};
 ghost use Rattle.ffv1_engine.specs.declared.profile.Profile.TheVariants as profile;
 ghost use Rattle.ffv1_engine.specs.declared.fault.Fault.{Fault};
@@ -18,25 +17,32 @@ ghost use Rattle.ffv1_engine.specs.declared.fault.Fault.TheVariants as fault;
 
 mod advice;
 mod arguments;
+mod checking;
 mod input;
+mod making;
 mod met;
+mod notes;
 mod output;
 mod progress;
+mod quiet;
 mod refusal;
 mod several;
 mod told;
 
 use arguments::{looks, other_words};
+use checking::{Checking, run_check};
 use clap::Error;
 use either::{Left, Right};
 use ffv1_engine::{
-    Fault, PackedMatroska, Profile, check, check_all, framemd5, framemd5_text, pack, pack_matroska,
-    show, trial, unpack,
+    Fault, PackedMatroska, Profile, framemd5, framemd5_text, pack, pack_matroska, show, trial,
+    unpack,
 };
 use ffv1_wire::{ByteIn, ToFile, ToWrite, read_byte};
 use ffv1_words::{Choice, ContainerChoice, Order, help_topic, is_hyphen, words};
 use input::{Again, open_input, watched};
+use making::Making;
 use met::{Met, Noted};
+use notes::{Notes, tell_notes};
 use output::{Target, open_output};
 use refusal::Refusal;
 use several::Looks;
@@ -46,7 +52,7 @@ use std::process::ExitCode;
 use std::rt::Files;
 use std::time::Clock;
 use std::{env, io};
-use told::{Paths, advise, help, tell_colour_lost};
+use told::{Paths, advise, help};
 
 /// Prints a count: on standard output, or on standard error if the output itself goes there.
 fn print_count(
@@ -63,40 +69,6 @@ fn print_count(
         println!(rt; "{count}")
     };
     met.printed(printed)
-}
-
-/// What a command that makes a file is given.
-#[derive(Clone, Copy)]
-struct Making<'a> {
-    input: &'a str,
-    output: &'a str,
-    no_clobber: bool,
-    progress: bool,
-}
-
-impl<'a> Making<'a> {
-    /// Its paths.
-    fn paths(&self) -> Paths<'a> {
-        Paths {
-            input: self.input,
-            output: self.output,
-        }
-    }
-
-    /// Puts together what an order says of its files.
-    fn new(input: &'a str, output: &'a str, no_clobber: bool, progress: bool) -> Making<'a>
-        ensures input { result.input ≡ input.entry }
-        ensures output { result.output ≡ output.entry }
-        ensures no_clobber { result.no_clobber ≡ no_clobber }
-        ensures progress { result.progress ≡ progress }
-    {
-        Making {
-            input,
-            output,
-            no_clobber,
-            progress,
-        }
-    }
 }
 
 /// Packs a video into Matroska. A regular file is written over at the end; a pipe, a device and
@@ -128,8 +100,8 @@ fn pack_target<R: ByteIn, H: Files + Print>(
     }
 }
 
-/// Packs a video into a file, and prints how many frames and bytes of them there are, and before it
-/// if an AVI loses colours. The input is opened first, and then the output.
+/// Packs a video into a file, and prints how many frames and bytes of them there are, after notes
+/// of what the file does not hold. The input is opened first, and then the output.
 fn run_pack(
     rt: &(impl Files + Input + Print + Eprint + Clock),
     alloc: Global,
@@ -143,9 +115,9 @@ fn run_pack(
     let (source, metadata) = open_input(rt, files.input, met)?;
     let target = open_output(rt, files.output, &metadata, files.no_clobber, met)?;
     let mut reader = watched(rt, source, &metadata, files.progress);
-    let (frames, bytes) = if container.is_matroska(files.output) {
+    let (frames, bytes, loses_colour) = if container.is_matroska(files.output) {
         let packed = pack_target(alloc, &mut reader, target, choice)?;
-        (packed.frames, packed.bytes)
+        (packed.frames, packed.bytes, false)
     } else {
         let packed = pack(
             alloc,
@@ -154,11 +126,14 @@ fn run_pack(
             &mut ToWrite::new(target),
             choice,
         )?;
-        if packed.loses_colour {
-            met.printed(tell_colour_lost(rt, files.output))?;
-        }
-        (packed.frames, packed.bytes)
+        (packed.frames, packed.bytes, packed.loses_colour)
     };
+    let keeps_rate = choice.rate_given && met.is_text();
+    let notes = Notes {
+        loses_colour,
+        keeps_rate,
+    };
+    met.printed(tell_notes(rt, files.paths(), notes))?;
     let count = format!(in alloc; "frames {frames} bytes {bytes}")?;
     print_count(rt, files.output, &count, met)
 }
@@ -180,51 +155,6 @@ fn run_unpack(
     let frames = answer?;
     let count = format!(in alloc; "frames {frames}")?;
     print_count(rt, files.output, &count, met)
-}
-
-/// What becomes of an order whose frames were all judged: the first fault of one that is refused is
-/// its own.
-fn judged(first: Option<Fault>) -> Result<(), Refusal>
-    ensures sound { first ≡ None → IsOk result }
-    ensures refused { (f : Fault) → first ≡ Some f → result ≡ Err (refusal.Fault f) }
-{
-    match first {
-        Some(fault) => Err(Refusal::Fault(fault)),
-        None => Ok(()),
-    }
-}
-
-/// How a file is checked.
-#[derive(Clone, Copy)]
-struct Checking {
-    all: bool,
-    place: bool,
-    progress: bool,
-}
-
-/// Decodes all frames of a file, and prints what each took, and with `place` where one is refused;
-/// with `all` also those after one that is refused.
-fn run_check(
-    rt: &(impl Files + Input + Print + Eprint + Clock),
-    alloc: Global,
-    input: &str,
-    checking: Checking,
-    met: &Met,
-) -> Result<(), Refusal>
-    ensures fault { IfErr result IsAnyFault }
-    ensures own { checking.all ≡ false →
-        IfErr result (IsFault (IsCheckFault profile.Wide)) }
-{
-    let (source, metadata) = open_input(rt, input, met)?;
-    let mut reader = watched(rt, source, &metadata, checking.progress);
-    let mut writer = ToWrite::new(Noted::new(met, io::writer(rt)));
-    let place = checking.place;
-    if checking.all {
-        let first = check_all(alloc, Profile::Wide, &mut reader, &mut writer, place)?;
-        return judged(first);
-    }
-    check(alloc, Profile::Wide, &mut reader, &mut writer, place)?;
-    Ok(())
 }
 
 /// Prints what a file says, and with `cost` what its frames cost.
@@ -318,6 +248,16 @@ enum Looking {
     Trial,
 }
 
+impl Looking {
+    /// Whether a line of the path of each of several files is printed.
+    fn names_files(self) -> bool {
+        match self {
+            Looking::Check(checking) => !checking.quiet,
+            Looking::Show { .. } | Looking::FrameMd5 | Looking::Trial => true,
+        }
+    }
+}
+
 /// Looks at one file.
 fn look(
     rt: &(impl Files + Input + Print + Eprint + Clock),
@@ -352,7 +292,7 @@ impl<R: Files + Input + Print + Eprint + Clock> Looks for Looker<'_, R> {
     ghost looks = { λ s _ outcome t. (t ≡ s) × IfErr outcome IsAnyFault };
 
     fn name(&mut self, path: &str) -> bool {
-        self.met.printed(println!(self.rt; "file {path}")).is_ok()
+        !self.looking.names_files() || self.met.printed(println!(self.rt; "file {path}")).is_ok()
     }
 
     fn look(&mut self, path: &str) -> Result<(), Refusal> {
@@ -414,13 +354,10 @@ fn run(
             inputs,
             all,
             place,
+            quiet,
             progress,
         } => {
-            let checking = Checking {
-                all,
-                place,
-                progress,
-            };
+            let checking = Checking::new(all, place, quiet, progress);
             look_all(rt, alloc, inputs, Looking::Check(checking))
         }
         Order::Show { inputs, cost } => look_all(rt, alloc, inputs, Looking::Show { cost }),

@@ -104,6 +104,11 @@ impl Met {
         self.head.set(head);
     }
 
+    /// Whether IN begins as YUV4MPEG2 does.
+    pub fn is_text(&self) -> bool {
+        self.head.get().starts_with(b"Y")
+    }
+
     /// What IN is by its first bytes.
     pub fn beginning(&self) -> Beginning {
         if self.read.get() == 0 {

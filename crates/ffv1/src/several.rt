@@ -25,7 +25,7 @@ pub trait Looks {
     /// A look: the looker before, the bytes of the path, what came of it, and the looker after.
     ghost looks: { Self → List ℕ → Outcome → Self → Type 0 };
 
-    /// Prints a line of a path. Answers whether it could be printed.
+    /// Prints a line of a path, unless none is asked for. Answers false if it could not be printed.
     fn name(&mut self, path: &str) -> bool
         ensures { names self.old path.now result self.new };
 

@@ -125,18 +125,6 @@ pub fn advise(rt: &impl Eprint, met: &Met, paths: Paths<'_>, refusal: Refusal) -
     }
 }
 
-/// Says on standard error that an AVI does not hold what its video says of colours.
-pub fn tell_colour_lost(rt: &impl Eprint, output: &str) -> io::Result<()> {
-    let path = if is_hyphen(output) {
-        "standard output"
-    } else {
-        output
-    };
-    eprintln!(rt;
-        "ffv1: {path}: AVI holds no range of colours and no siting of chroma, but .mkv does"
-    )
-}
-
 /// Prints on standard error what is known of a topic. Answers the exit status, 2 if no fault has
 /// the number.
 pub fn help(rt: &impl Eprint, topic: Topic) -> io::Result<u8>

@@ -51,6 +51,7 @@ mod FileTurns
 mod PackedFrames
 mod ColourNumbers
 mod PackedText
+mod CanonicalVideos
 mod PackedIsUnpacked
 mod MatroskaUnpacked
 mod PixelsHashed

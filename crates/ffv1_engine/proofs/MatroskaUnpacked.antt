@@ -28,7 +28,7 @@ use Rattle.ffv1_matroska.proofs.SpelledLengths.{ident_most, long_long, number_lo
 use Rattle.ffv1_matroska.proofs.WrittenLengths.{checked_long}
 use Rattle.ffv1_y4m.specs.VideoHead.{IsRatio}
 use Rattle.ffv1_words.specs.declared.order.Choice.{Choice}
-use Rattle.ffv1_engine.specs.MatroskaRoundTrip.{WasPackedMatroska, matroska_file, matroska_video}
+use Rattle.ffv1_engine.specs.MatroskaRoundTrip.{WasPackedMatroska, matroska_file, matroska_text}
 use Rattle.ffv1_engine.specs.Grids.{choice_for}
 use Rattle.ffv1_engine.specs.PackMatroska.{HasClusters, begun_file, details_for, whole_file}
 use Rattle.ffv1_engine.specs.Packing.{AreReadable, packed_frames, packed_head, said_for}
@@ -41,9 +41,11 @@ use Rattle.ffv1_record.specs.declared.config.Profile.TheVariants as record_profi
 use Rattle.ffv1_engine.proofs.ReadableFrames.{readable_wide}
 use Rattle.ffv1_engine.proofs.PackedFrames.{FrameLaws, frame_bytes, frame_some}
 use Rattle.ffv1_reads.specs.declared.colour.Colour.{Colour}
+use Rattle.ffv1_engine.specs.Colours.{IsByteColour}
 use Rattle.ffv1_engine.proofs.ColourNumbers.{colour_small}
 use Rattle.ffv1_engine.proofs.Depths.{all_within}
-use Rattle.ffv1_engine.proofs.PackedIsUnpacked.{FileLaws, Given, given_by, reads_is, short_in}
+use Rattle.ffv1_engine.proofs.PackedIsUnpacked.{Given, given_by, reads_is, short_in}
+use Rattle.ffv1_engine.proofs.CanonicalVideos.{FileLaws}
 use Rattle.ffv1_engine.proofs.PackedText.{RecordLaws, rated_by, sized}
 use Rattle.ffv1_engine.proofs.RecordShort.{HasLowNumbers, low_numbers, record_are_bytes, record_most}
 
@@ -168,8 +170,8 @@ are_written laws a accepted said (p ∷ ps) readable =
     ((frame_some laws a accepted p said, readable.0, all_bytes (frame_of a p said) (frame_bytes laws a accepted p said)), are_written laws a accepted said ps readable.1)
 
 pub writable : (profile : Profile) (frame_laws : FrameLaws) (records : RecordLaws) (choice : Choice) (v : Video) (a : Accepted) → HasClusters profile choice v a → 0 < length v.pictures →
-    (v.ppm ≡ true → IsRatio 4294967295 choice.rate choice.scale) → IsWritable (packed_head choice v a) (details_for choice v.head) (packed_frames v a)
-writable profile frame_laws records choice v a has some rated =
+    (v.ppm ≡ true → IsRatio 4294967295 choice.rate choice.scale) → IsByteColour choice.colour → IsWritable (packed_head choice v a) (details_for choice v.head) (packed_frames v a)
+writable profile frame_laws records choice v a has some rated coloured =
     let sizes = sized v.ppm v.head.head has.head in
     let ratio = (rated_by choice v.ppm v.head a.configuration has.head rated).is in
     record {
@@ -177,7 +179,7 @@ writable profile frame_laws records choice v a has some rated =
       height = let few = sizes.high in omega (arith, few);
       rate = let few = ratio.first in omega (arith, few);
       scale = let few = ratio.second in omega (arith, few);
-      colour = colour_small v.head.head;
+      colour = colour_small choice.colour v.head.head coloured;
       timed = has.timed;
       record_is = all_bytes (record_of a.configuration) (record_are_bytes a.configuration);
       short = tracks_short (packed_head choice v a) (details_for choice v.head)
@@ -244,31 +246,31 @@ abbrev pub accepted_wide : {packing : Profile} → {choice : Choice} → {text :
 accepted_wide w = record { configuration = w.packs.accepted.configuration; table = w.packs.accepted.table; profile = record_profile Wide }
 
 -- the text that was packed is that video, as it was read
-pub packed_so : (packing : Profile) (choice : Choice) (text : List ℕ) (w : WasPackedMatroska packing choice text) → IsReadVideo (greatest_depth packing) text (matroska_video w)
+pub packed_so : (packing : Profile) (choice : Choice) (text : List ℕ) (w : WasPackedMatroska packing choice text) → IsReadVideo (greatest_depth packing) text (matroska_text w)
 packed_so packing choice text w = reads_is (greatest_depth packing) text w.input.old w.input.new w.packs.video w.known w.packs.reads
 
-pub given : (packing : Profile) → FileLaws Wide → FrameLaws → (choice : Choice) (text : List ℕ) (w : WasPackedMatroska packing choice text) → Given Wide (choice_for packing choice w.packs.video.head) (matroska_video w) (accepted_wide w)
+pub given : (packing : Profile) → FileLaws Wide → FrameLaws → (choice : Choice) (text : List ℕ) (w : WasPackedMatroska packing choice text) → Given Wide (choice_for packing choice w.packs.video.head) (matroska_text w) (accepted_wide w)
 given packing files frame_laws choice text w =
-    given_by files frame_laws Wide (greatest_depth packing) (choice_for packing choice w.packs.video.head) text (matroska_video w) (accepted_wide w) (packed_so packing choice text w) w.bytes
+    given_by files frame_laws Wide (greatest_depth packing) (choice_for packing choice w.packs.video.head) text (matroska_text w) (accepted_wide w) (packed_so packing choice text w) w.bytes
     (record { configuration = w.packs.has.for.configuration; accepted = w.packs.has.for.accepted; passes = w.packs.has.for.accepted.passes; profiled = refl })
     (short_in Wide w.packs.accepted w.packs.video.head w.packs.video.pictures w.packs.has.short) w.packs.some
-    (readable_wide (record_profile packing) (packed_frames (matroska_video w) w.packs.accepted) w.packs.has.readable) w.rated
+    (readable_wide (record_profile packing) (packed_frames (matroska_text w) w.packs.accepted) w.packs.has.readable) w.rated
 
 -- and it is read
-pub read_wide : (packing : Profile) (choice : Choice) (text : List ℕ) (w : WasPackedMatroska packing choice text) → IsReadIn Wide (matroska_video w) w.packs.accepted
+pub read_wide : (packing : Profile) (choice : Choice) (text : List ℕ) (w : WasPackedMatroska packing choice text) → IsReadIn Wide (matroska_text w) w.packs.accepted
 read_wide packing choice text w = record {
   deep = all_within packing w.packs.video.head.depth w.packs.deep;
   passes = w.packs.has.for.accepted.passes;
-  readable = readable_wide (record_profile packing) (packed_frames (matroska_video w) w.packs.accepted) w.packs.has.readable;
+  readable = readable_wide (record_profile packing) (packed_frames (matroska_text w) w.packs.accepted) w.packs.has.readable;
 }
 
 module _ (packing : Profile) (frame_laws : FrameLaws) (records : RecordLaws) (laws : MatroskaLaws) (choice : Choice) (text : List ℕ) (w : WasPackedMatroska packing choice text) where
-  reads : MatroskaFile (matroska_file w) (packed_head choice (matroska_video w) (w.packs.accepted)) (packed_frames (matroska_video w) (w.packs.accepted))
-      × (file_read Whole (matroska_file w) ≡ Ok ((packed_head choice (matroska_video w) (w.packs.accepted), packed_frames (matroska_video w) (w.packs.accepted)), []))
-  reads = whole_read laws w.packed.finished choice w.packs.video w.packs.accepted (writable packing frame_laws records choice w.packs.video w.packs.accepted w.packs.has w.packs.some w.rated)
+  reads : MatroskaFile (matroska_file w) (packed_head choice (matroska_text w) (w.packs.accepted)) (packed_frames (matroska_text w) (w.packs.accepted))
+      × (file_read Whole (matroska_file w) ≡ Ok ((packed_head choice (matroska_text w) (w.packs.accepted), packed_frames (matroska_text w) (w.packs.accepted)), []))
+  reads = whole_read laws w.packed.finished choice w.packs.video w.packs.accepted (writable packing frame_laws records choice w.packs.video w.packs.accepted w.packs.has w.packs.some w.rated w.coloured)
 
-  pub file_is : MatroskaFile (matroska_file w) (packed_head choice (matroska_video w) (accepted_wide w)) (packed_frames (matroska_video w) (accepted_wide w))
+  pub file_is : MatroskaFile (matroska_file w) (packed_head choice (matroska_text w) (accepted_wide w)) (packed_frames (matroska_text w) (accepted_wide w))
   file_is = reads.0
 
-  pub file_reads : file_read Whole (matroska_file w) ≡ Ok ((packed_head choice (matroska_video w) (accepted_wide w), packed_frames (matroska_video w) (accepted_wide w)), [])
+  pub file_reads : file_read Whole (matroska_file w) ≡ Ok ((packed_head choice (matroska_text w) (accepted_wide w), packed_frames (matroska_text w) (accepted_wide w)), [])
   file_reads = reads.1

@@ -1,5 +1,5 @@
 -- A video that was packed is unpacked.
-use Rattle.std.proofs.Common.{◌≡◌, refl, ℕ, suc, ◌<◌, ◌≤◌, Bool, true, false, Option, Some, None, Result, Ok, inl, inr, List, [], ◌∷◌, ◌++◌, length, map, ap, ap₂, sym, subst, ◌∙◌, ◌&&◌, if◌then◌else◌, arith, append-nil}
+use Rattle.std.proofs.Common.{◌≡◌, refl, ℕ, suc, ◌<◌, ◌≤◌, Bool, true, false, Option, Some, None, Result, Ok, inl, inr, List, [], ◌∷◌, ◌++◌, length, map, ap, sym, subst, ◌∙◌, if◌then◌else◌, arith, append-nil}
 use Rattle.std.specs.Io.KnownBytes.{Appends}
 use Rattle.ffv1_range.specs.Codes.{AreBytes}
 use Rattle.ffv1_range.specs.Counts.{saturated}
@@ -12,24 +12,14 @@ use Rattle.ffv1_record.specs.Accepted.{Accepted}
 use Rattle.ffv1_codec.specs.Frame.{frame_of}
 use Rattle.ffv1_codec.specs.Picture.{Planes}
 use Rattle.ffv1_codec.specs.declared.fault.FrameFault.{FrameFault}
-use Rattle.ffv1_files.specs.declared.container.Scope.TheVariants.{FirstMovi, Whole}
-use Rattle.ffv1_files.specs.Whole.{IsWhole}
 use Rattle.ffv1_files.specs.Places.{Place, container_of, extent_in}
-use Rattle.ffv1_avi.specs.Chunks.{AviFile, IsWritable}
-use Rattle.ffv1_files.specs.Files.{file_read, frame_read, frames_read, more_frames, open_read}
-use Rattle.ffv1_reads.specs.Head.{Head, without_colour}
+use Rattle.ffv1_avi.specs.Chunks.{IsWritable}
+use Rattle.ffv1_files.specs.Files.{file_read, frame_read, open_read}
+use Rattle.ffv1_reads.specs.Head.{Head}
 use Rattle.ffv1_reads.specs.Known.{Known}
 use Rattle.ffv1_reads.specs.Reads as avi
-use Rattle.ffv1_avi.specs.Written.{file_of}
-use Rattle.ffv1_y4m.specs.Canonical.{as_said, canonical_text}
-use Rattle.ffv1_y4m.specs.HeaderLine.{IsHeaderLine}
-use Rattle.ffv1_y4m.specs.Images.{IsImages, IsImagesIn}
-use Rattle.ffv1_y4m.specs.Text.{AllFit, IsText}
-use Rattle.ffv1_y4m.specs.Header.{or_else}
-use Rattle.ffv1_y4m.specs.declared.head.Siting.TheVariants.{Centre}
-use Rattle.ffv1_y4m.specs.VideoHead.{IsHead, IsNamed, IsRatio, SaysNeither, has_siting}
+use Rattle.ffv1_y4m.specs.VideoHead.{IsNamed, IsRatio}
 use Rattle.ffv1_engine.specs.Video.{SaidHead}
-use Rattle.ffv1_y4m.specs.declared.head.VideoHead.{VideoHead}
 use Rattle.ffv1_engine.specs.declared.profile.Profile.{Profile}
 use Rattle.ffv1_engine.specs.declared.profile.Profile.TheVariants.{Strict, Wide}
 use Rattle.ffv1_engine.specs.Profiles.{greatest_depth, scope_in, record_profile}
@@ -51,35 +41,23 @@ use Rattle.ffv1_engine.specs.Opens.{LacksOpeningBy}
 use Rattle.ffv1_engine.specs.Play.{End, EndsWith, FaultsRead, IsFaulty, LacksStream, Played}
 use Rattle.ffv1_engine.specs.Plays.{FileThen, GoesBy, NextEnds, NextStays, PlayStopsBy}
 use Rattle.ffv1_engine.specs.Play.End.{File, Payload, Over}
-use Rattle.ffv1_engine.specs.RoundTrip.{accepted_in, HoldsBy, IsFileIn, IsNoContent, IsReadIn, IsUnpacked, WasPacked, canonical_by, canonical_of, said_again, text_video, video_in}
+use Rattle.ffv1_engine.specs.RoundTrip.{accepted_in, HoldsBy, IsFileIn, IsNoContent, IsReadIn, IsUnpacked, WasPacked, canonical_of, text_video, video_in}
 use Rattle.ffv1_engine.specs.Stream.{AreFrames, Frame, IsFrame, IsRead, IsStream, ReadsFile, ReadsFrames, Stream, frame_payload, payloads}
 use Rattle.ffv1_codec.specs.Outcome.{FaultsOf}
 use Rattle.ffv1_engine.specs.Unpack.{LacksTextIn, UnpackDone, UnpackStops}
 use Rattle.ffv1_engine.specs.Unpacking.{UnpackingStopsBy}
 use Rattle.ffv1_engine.specs.Unpacked.{AllSay, AreAlike, HasTextBy, LacksText, LacksTextBy, is_ppm_stream, pictures, text_of}
-use Rattle.ffv1_engine.specs.Video.{IsReadVideo, IsReadVideoBy, IsVideo, IsVideoBy, ReadsVideo, Video}
+use Rattle.ffv1_engine.specs.Video.{IsReadVideo, IsVideo, ReadsVideo, Video}
 use Rattle.ffv1_engine.specs.VideoReads.{IsHeadBy}
-use Rattle.ffv1_engine.specs.Colours.{plain, plain_head}
-use Rattle.ffv1_engine.proofs.ColourNumbers.{plain_head_by, plain_is, plain_named}
+use Rattle.ffv1_engine.specs.Colours.{plain, plain_choice, shown}
+use Rattle.ffv1_engine.proofs.ColourNumbers.{plain_head_by, plain_named}
 use Rattle.ffv1_engine.proofs.Depths.{all_within, eight_within}
 use Rattle.ffv1_engine.proofs.FileTurns.{Opened, Others, no_fault as no_read_fault, no_more, no_stop, one_more, opened, others}
 use Rattle.ffv1_engine.proofs.PackedFrames.{AllCoded, FrameLaws, Same, all_coded, made, no_fault, same}
 use Rattle.ffv1_engine.proofs.PackedPictures.{head_given, name_given, pictures_given, said_given}
 use Rattle.ffv1_engine.proofs.PackedText.{RecordLaws, alike_given, canonical_given, none_refused, one_stream, stream_for, stream_is, text_given, writable}
 use Rattle.ffv1_record.specs.Configuration.{Configuration}
-
--- what is known of files and of texts
-pub record FileLaws (profile : Profile) : Type 0 where
-  pub file : (head : Head) (frames : List (List ℕ)) → IsWritable (extent_in (scope_in profile)) head frames → IsFileIn profile (file_of head frames) (without_colour head) frames
-  pub read : (head : Head) (frames : List (List ℕ)) → IsWritable (extent_in (scope_in profile)) head frames → file_read (scope_in profile) (file_of head frames) ≡ Ok ((without_colour head, frames), [])
-  pub is_read : (file : List ℕ) (head : Head) (frames : List (List ℕ)) (is : AviFile file head frames) → file_read FirstMovi file ≡ Ok ((head, frames), is.rest)
-  pub is_whole : (file : List ℕ) (head : Head) (frames : List (List ℕ)) (rest : List ℕ) → IsWhole file head frames rest → file_read Whole file ≡ Ok ((head, frames), rest)
-  pub next : (place : Place) (text : List ℕ) → frames_read place text ≡ avi.read_on (frame_read place text) (more_frames frames_read)
-  pub said : (most : ℕ) (line : List ℕ) (depth : ℕ) (h : VideoHead) → IsHeaderLine most line depth h → IsHead h
-  pub named : (most : ℕ) (line : List ℕ) (depth : ℕ) (h : VideoHead) → IsHeaderLine most line depth h → IsNamed depth h
-  pub neither : (most : ℕ) (line : List ℕ) (depth : ℕ) (h : VideoHead) → IsHeaderLine most line depth h → most ≤ 8 → SaysNeither h
-  pub canonical : (most depth : ℕ) (h : VideoHead) (ps : List Planes) → IsHead h → IsNamed depth h → AllFit depth h ps → IsText most (canonical_text depth h ps) depth (as_said most depth h) ps
-  pub strict : (most depth : ℕ) (h : VideoHead) (ps : List Planes) → IsHead h → IsNamed depth h → h.siting ≡ None → h.range ≡ None → most ≤ 8 → AllFit depth h ps → IsText most (canonical_text depth h ps) depth h ps
+use Rattle.ffv1_engine.proofs.CanonicalVideos.{FileLaws, ppm_by, same_by}
 
 same_ok : {X : Type 0} (r : Result X avi.Stop) (x y : X) → r ≡ Ok x → r ≡ Ok y → x ≡ y
 same_ok r x y e f = cc
@@ -96,42 +74,6 @@ many f (x ∷ xs) = ap suc (many f xs)
 text_or_none : (ppm : Bool) (c : Configuration) (f : Fault) → HasTextBy ppm c → LacksTextBy ppm c f → ⊥
 text_or_none true c f has lacks = absurd (let wrong : true ≡ false = sym lacks.0 ∙ has in cc)
 text_or_none false c f has lacks = absurd (let wrong : true ≡ false = sym has ∙ lacks.0 in cc)
-
--- pictures that fit a head fit it without range and siting
-fit_plain : (depth : ℕ) (h : VideoHead) (ps : List Planes) → AllFit depth h ps → AllFit depth (record h { siting = None; range = None }) ps
-fit_plain depth h [] fit = tt
-fit_plain depth h (p ∷ ps) fit = (fit.0, fit_plain depth h ps fit.1)
-
--- the canonical text of a video without them is one of the same video
-pub same_by : {profile : Profile} → FileLaws profile → (most : ℕ) (ppm : Bool) (text : List ℕ) (h : SaidHead) (ps : List Planes) → IsReadVideoBy most ppm text h ps → IsVideoBy ppm (canonical_by ppm (plain_head h) ps) (plain_head h) ps
-same_by laws deepest true text h ps v = (ap (λ (k : VideoHead). record k { siting = None; range = None }) v.0, record { sized = v.1.sized; named = v.1.named; whole = refl; fit = v.1.fit })
-same_by laws deepest false text h ps v =
-    laws.strict 8 h.depth (plain_head h).head ps (plain_head_by false h.head (laws.said deepest v.line h.depth h.head v.said)) (plain_named h.depth h.head (laws.named deepest v.line h.depth h.head v.said)) refl refl (omega arith)
-    (fit_plain h.depth h.head ps v.fit)
-
--- and with them, as it is read
-pub again_by : {profile : Profile} → FileLaws profile → ((text : List ℕ) (most depth width height : ℕ) (images : List Planes) → IsImages text depth width height images → IsImagesIn most text depth width height images) →
-    (most : ℕ) (ppm : Bool) (text : List ℕ) (h : SaidHead) (ps : List Planes) → IsReadVideoBy most ppm text h ps → IsReadVideoBy most ppm (canonical_by ppm h ps) (said_again most ppm h) ps
-again_by laws same most true text h ps v = (v.0, same (canonical_by true h ps) most h.depth h.head.width h.head.height ps (record { sized = v.1.sized; named = v.1.named; whole = refl; fit = v.1.fit }))
-again_by laws same most false text h ps v =
-    laws.canonical most h.depth h.head ps (laws.said most v.line h.depth h.head v.said) (laws.named most v.line h.depth h.head v.said) v.fit
-
--- whose canonical text is that of the first one. Up to 8 bits neither says anything
-pub again_text : {profile : Profile} → FileLaws profile → ((most depth : ℕ) (h : VideoHead) (ps : List Planes) → IsNamed depth h → 8 < most → canonical_text depth (as_said most depth h) ps ≡ canonical_text depth h ps) →
-    (packing : Profile) (ppm : Bool) (text : List ℕ) (h : SaidHead) (ps : List Planes) → IsReadVideoBy (greatest_depth packing) ppm text h ps → canonical_by ppm (said_again (greatest_depth packing) ppm h) ps ≡ canonical_by ppm h ps
-again_text laws same packing true text h ps v = refl
-again_text laws same Wide false text h ps v = same 16 h.depth h.head ps (laws.named 16 v.line h.depth h.head v.said) (omega arith)
-again_text laws same Strict false text h ps v =
-    let none = laws.neither 8 v.line h.depth h.head v.said (omega arith) in
-    ap₂ (λ s r. canonical_text h.depth (record h.head { siting = s; range = r }) ps) (siting_none (has_siting h.depth h.head.chroma_planes h.head.log2_h h.head.log2_v) ∙ sym none.0) (sym none.1)
-  where
-    siting_none : (b : Bool) → (if b && false then Some (or_else h.head.siting Centre) else None) ≡ None
-    siting_none true = refl
-    siting_none false = refl
-
-pub ppm_by : (ppm : Bool) (text : List ℕ) (h : SaidHead) (ps : List Planes) → IsVideoBy ppm text h ps → ppm ≡ true → canonical_by ppm h ps ≡ text
-ppm_by true text h ps v is = sym v.1.whole
-ppm_by false text h ps v is = absurd (cc)
 
 -- the causes of faults
 no_content : (f : Fault) → (cause_of f ≡ Content → ⊥) → IsNoContent f
@@ -208,7 +150,7 @@ module _ (profile : Profile) (files : FileLaws profile) (frame_laws : FrameLaws)
     whole = opened (scope_in profile) file (packed_head choice v a) (packed_frames v a) [] reads_whole
 
     -- what the file holds
-    pub holds : (Is : List ℕ → Head → List (List ℕ) → Type 0) → Is file (packed_head choice v a) (packed_frames v a) → HoldsBy Is profile file v
+    pub holds : (Is : List ℕ → Head → List (List ℕ) → Type 0) → Is file (packed_head choice v a) (packed_frames v a) → HoldsBy Is profile file (shown choice v)
     unfolding stream
     holds Is file_is =
         let m = made frame_laws a g.for.accepted (said_for v.head) v.pictures coded in record {
@@ -249,13 +191,13 @@ module _ (profile : Profile) (files : FileLaws profile) (frame_laws : FrameLaws)
         no_others (p ∷ ps) e = absurd (cc)
 
     -- what unpack wrote
-    pub written : (input output : Passage) (count : ℕ) → input.old ≡ Some file → UnpackDone profile input output count → IsUnpacked v input output count
+    pub written : (input output : Passage) (count : ℕ) → input.old ≡ Some file → UnpackDone profile input output count → IsUnpacked (shown choice v) input output count
     unfolding stream
     written input output count known done =
         let reads = subst (λ o. ReadsFile profile o input.new done.stream done.frames) known done.reads in
         let read = whole_of profile files file input.new done.stream done.frames reads in
         let all = all_frames done.stream done.frames read.rest done.played read.is in
-        let bytes : text_of done.stream done.frames ≡ canonical_of v =
+        let bytes : text_of done.stream done.frames ≡ canonical_of (shown choice v) =
         ap (λ s. text_of s done.frames) all.0 ∙ canonical_given choice v.ppm v.head named a for done.frames v.pictures all.1 all.2 g.some in
         let long : length done.frames ≡ length v.pictures = sym (many (λ (f : Frame). f.planes) done.frames) ∙ ap (λ ps. length ps) all.2 in record {
           left = read.left ∙ ap (λ t. Some t) all.3;
@@ -445,7 +387,7 @@ module _ {profile : Profile} (files : FileLaws profile) (frame_laws : FrameLaws)
   }
 
 -- without range and siting it is one, too
-pub given_plain : (profile : Profile) (choice : Choice) (v : Video) (a : Accepted) → Given profile choice v a → Given profile choice (plain v) a
+pub given_plain : (profile : Profile) (choice : Choice) (v : Video) (a : Accepted) → Given profile choice v a → Given profile (plain_choice choice) (plain v) a
 given_plain profile choice v a g = record {
   head = plain_head_by v.ppm v.head.head g.head;
   named = plain_named v.head.depth v.head.head g.named;
@@ -466,7 +408,7 @@ given_text packing profile files frame_laws choice text w read =
     (record { configuration = w.packs.packable.for.configuration; accepted = w.packs.packable.for.accepted; passes = read.passes; profiled = refl })
     (short_in profile w.packs.accepted w.packs.video.head w.packs.video.pictures w.packs.packable.short) w.packs.packable.some read.readable w.rated
 
-pub given : (packing profile : Profile) → FileLaws profile → FrameLaws → (choice : Choice) (text : List ℕ) (w : WasPacked packing choice text) → IsReadIn profile (video_in w) (accepted_in w) → Given profile choice (video_in w) (accepted_as profile w)
+pub given : (packing profile : Profile) → FileLaws profile → FrameLaws → (choice : Choice) (text : List ℕ) (w : WasPacked packing choice text) → IsReadIn profile (video_in w) (accepted_in w) → Given profile (plain_choice choice) (video_in w) (accepted_as profile w)
 given packing profile files frame_laws choice text w read = given_plain profile choice (text_video w) (accepted_as profile w) (given_text packing profile files frame_laws choice text w read)
 
 pub same_video : {profile : Profile} → FileLaws profile → (packing : Profile) (choice : Choice) (text : List ℕ) (w : WasPacked packing choice text) → IsVideo (canonical_of (video_in w)) (video_in w)
@@ -474,17 +416,6 @@ same_video files packing choice text w = same_by files (greatest_depth packing) 
 
 pub same_ppm : (packing : Profile) (choice : Choice) (text : List ℕ) (w : WasPacked packing choice text) → IsVideo text (video_in w) → (video_in w).ppm ≡ true → canonical_of (video_in w) ≡ text
 same_ppm packing choice text w is = ppm_by w.packs.video.ppm text (video_in w).head w.packs.video.pictures is
-
--- headers of PPM are three lines if depths up to 8 are read
-pub lined_by : (lined : (text : List ℕ) (most depth width height : ℕ) (images : List Planes) → most ≤ 8 → IsImagesIn most text depth width height images → IsImages text depth width height images) →
-    (ppm : Bool) (text : List ℕ) (h : SaidHead) (ps : List Planes) → IsReadVideoBy 8 ppm text h ps → IsVideoBy ppm text h ps
-lined_by lined true text h ps v = (v.0, lined text 8 h.depth h.head.width h.head.height ps (omega arith) v.1)
-lined_by lined false text h ps v = v
-
--- at `Strict` a video says neither range nor siting
-pub strict_by : {profile : Profile} → FileLaws profile → (ppm : Bool) (text : List ℕ) (h : SaidHead) (ps : List Planes) → IsVideoBy ppm text h ps → IsVideoBy ppm text (plain_head h) ps
-strict_by laws true text h ps v = (ap (λ (k : VideoHead). record k { siting = None; range = None }) v.0, v.1)
-strict_by laws false text h ps v = subst (λ k. IsVideoBy false text k ps) (sym (plain_is h (laws.neither 8 v.line h.depth h.head v.said (omega arith)))) v
 
 -- what passes the checks of `Wide`, and whose edges pass in a profile, passes the checks of that
 passes_by : (p : RecordProfile) (c : Configuration) → PassesAll of_record.Wide checks c → PassesEdges p c → PassesAll p checks c
@@ -519,8 +450,8 @@ module _ (packing profile : Profile) (files : FileLaws profile) (frame_laws : Fr
   avi_writable : IsWritable (extent_in (scope_in profile)) (packed_head choice (text_video w) (accepted_as profile w)) (packed_frames (text_video w) (accepted_as profile w))
   avi_writable = can_write profile files frame_laws records choice (text_video w) (accepted_as profile w) refl read.deep (given_text packing profile files frame_laws choice text w read) w.packs.packable.small
 
-  pub avi_reads : file_read (scope_in profile) (packed_file choice (text_video w) (accepted_as profile w)) ≡ Ok ((packed_head choice (video_in w) (accepted_as profile w), packed_frames (video_in w) (accepted_as profile w)), [])
+  pub avi_reads : file_read (scope_in profile) (packed_file choice (text_video w) (accepted_as profile w)) ≡ Ok ((packed_head (plain_choice choice) (video_in w) (accepted_as profile w), packed_frames (video_in w) (accepted_as profile w)), [])
   avi_reads = files.read (packed_head choice (text_video w) (accepted_as profile w)) (packed_frames (text_video w) (accepted_as profile w)) avi_writable
 
-  pub avi_is : IsFileIn profile (packed_file choice (text_video w) (accepted_as profile w)) (packed_head choice (video_in w) (accepted_as profile w)) (packed_frames (video_in w) (accepted_as profile w))
+  pub avi_is : IsFileIn profile (packed_file choice (text_video w) (accepted_as profile w)) (packed_head (plain_choice choice) (video_in w) (accepted_as profile w)) (packed_frames (video_in w) (accepted_as profile w))
   avi_is = files.file (packed_head choice (text_video w) (accepted_as profile w)) (packed_frames (text_video w) (accepted_as profile w)) avi_writable

@@ -16,7 +16,7 @@ use Rattle.ffv1_reads.specs.Head.{Head, limit}
 use Rattle.ffv1_avi.specs.Written.{most, riff_size}
 use Rattle.ffv1_codec.specs.Frame.{frame_of}
 use Rattle.ffv1_y4m.specs.Canonical.{canonical_text}
-use Rattle.ffv1_y4m.specs.VideoHead.{IsNamed, IsRatio, IsSized}
+use Rattle.ffv1_y4m.specs.VideoHead.{IsNamed, IsRatio, IsSized, has_siting}
 use Rattle.ffv1_engine.specs.Video.{SaidHead}
 use Rattle.ffv1_y4m.specs.declared.head.VideoHead.{VideoHead}
 use Rattle.ffv1_words.specs.declared.order.Choice.{Choice}
@@ -29,7 +29,8 @@ use Rattle.ffv1_engine.specs.RoundTrip.{canonical_by}
 use Rattle.ffv1_engine.specs.Stream.{Frame, IsStream, Stream}
 use Rattle.ffv1_engine.specs.Unpacked.{AllSay, AreAlike, HasText, pictures, text_of, video_of}
 use Rattle.ffv1_engine.specs.VideoReads.{IsHeadBy}
-use Rattle.ffv1_engine.proofs.ColourNumbers.{range_back, siting_of_head}
+use Rattle.ffv1_engine.specs.Colours.{shown_head}
+use Rattle.ffv1_engine.proofs.ColourNumbers.{range_shown_back, siting_shown_back}
 use Rattle.ffv1_engine.proofs.PackedFrames.{AllCoded}
 use Rattle.ffv1_engine.proofs.RecordShort.{HasLowNumbers, NumberLaws, SymbolLaws, low_numbers, record_are_bytes, record_short}
 
@@ -140,12 +141,14 @@ alike_with choice false h t p (f ∷ fs) say = subst (λ s. AllSay s fs) (sym sa
 pub alike_given : (choice : Choice) (ppm : Bool) (h : SaidHead) (a : Accepted) → a.configuration ≡ configuration_for choice ppm h → (frames : List Frame) → AllSay (said_for h) frames → AreAlike (stream_for choice ppm h a) frames
 alike_given choice ppm h a for frames say = subst (λ c. AreAlike (stream_for choice ppm h (with_table c a.table a.profile)) frames) (sym for) (alike_with choice ppm h a.table a.profile frames say)
 
-video_with : (choice : Choice) (h : SaidHead) (t : Table) (p : RecordProfile) → IsNamed h.depth h.head → video_of (stream_for choice false h (with_table (configuration_for choice false h) t p)) (said_for h) ≡ h.head
+video_with : (choice : Choice) (h : SaidHead) (t : Table) (p : RecordProfile) → IsNamed h.depth h.head → video_of (stream_for choice false h (with_table (configuration_for choice false h) t p)) (said_for h) ≡ (shown_head choice.colour false h).head
 video_with choice h t p named =
-    ap₂ (λ s r. record h.head { siting = s; range = r }) (siting_of_head h.depth h.head named) (range_back h.head.range)
+    ap₂ (λ s r. record h.head { siting = s; range = r })
+    (siting_shown_back choice.colour.siting (has_siting h.depth h.head.chroma_planes h.head.log2_h h.head.log2_v) h.head.siting named.sited)
+    (range_shown_back choice.colour.range h.head.range)
 
 canonical_with : (choice : Choice) (ppm : Bool) (h : SaidHead) → IsNamed h.depth h.head → (t : Table) (p : RecordProfile) (frames : List Frame) → AllSay (said_for h) frames → 0 < length (pictures frames) →
-    text_of (stream_for choice ppm h (with_table (configuration_for choice ppm h) t p)) frames ≡ canonical_by ppm h (pictures frames)
+    text_of (stream_for choice ppm h (with_table (configuration_for choice ppm h) t p)) frames ≡ canonical_by ppm (shown_head choice.colour ppm h) (pictures frames)
 canonical_with choice true h named t p frames say some = refl
 canonical_with choice false h named t p [] say some = absurd (omega (arith, some))
 canonical_with choice false h named t p (f ∷ fs) say some =
@@ -153,7 +156,7 @@ canonical_with choice false h named t p (f ∷ fs) say some =
     ∙ ap (λ v. canonical_text h.depth v (pictures (f ∷ fs))) (video_with choice h t p named)
 
 pub canonical_given : (choice : Choice) (ppm : Bool) (h : SaidHead) → IsNamed h.depth h.head → (a : Accepted) → a.configuration ≡ configuration_for choice ppm h → (frames : List Frame) (ps : List Planes) → AllSay (said_for h) frames → pictures frames ≡ ps →
-    0 < length ps → text_of (stream_for choice ppm h a) frames ≡ canonical_by ppm h ps
+    0 < length ps → text_of (stream_for choice ppm h a) frames ≡ canonical_by ppm (shown_head choice.colour ppm h) ps
 canonical_given choice ppm h named a for frames ps say are some =
-    subst (λ c. text_of (stream_for choice ppm h (with_table c a.table a.profile)) frames ≡ canonical_by ppm h ps) (sym for)
-    (canonical_with choice ppm h named a.table a.profile frames say (subst (λ qs. 0 < length qs) (sym are) some) ∙ ap (canonical_by ppm h) are)
+    subst (λ c. text_of (stream_for choice ppm h (with_table c a.table a.profile)) frames ≡ canonical_by ppm (shown_head choice.colour ppm h) ps) (sym for)
+    (canonical_with choice ppm h named a.table a.profile frames say (subst (λ qs. 0 < length qs) (sym are) some) ∙ ap (canonical_by ppm (shown_head choice.colour ppm h)) are)

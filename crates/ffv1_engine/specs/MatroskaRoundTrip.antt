@@ -9,11 +9,12 @@ use Rattle.ffv1_engine.specs.declared.matroska_packing.PackedMatroska.{PackedMat
 use Rattle.ffv1_engine.specs.declared.profile.Profile.{Profile}
 use Rattle.ffv1_engine.specs.declared.profile.Profile.TheVariants.{Wide}
 use Rattle.ffv1_engine.specs.PackMatroska.{PacksMatroska, whole_file}
+use Rattle.ffv1_engine.specs.Colours.{IsByteColour, shown}
 use Rattle.ffv1_engine.specs.RoundTrip.{HoldsBy}
 use Rattle.ffv1_engine.specs.Video.{Video}
 
 -- a text of bytes that was packed into Matroska in a profile. PPM has the rate and the scale of the
--- choice
+-- choice, whose numbers of colours are of 8 bits
 pub record WasPackedMatroska (packing : Profile) (choice : Choice) (text : List ℕ)
     : Type 0 where
   pub input : Passage
@@ -23,11 +24,18 @@ pub record WasPackedMatroska (packing : Profile) (choice : Choice) (text : List 
   pub known : input.old ≡ Some text
   pub bytes : AreBytes text
   pub rated : packs.video.ppm ≡ true → IsRatio 4294967295 choice.rate choice.scale
+  pub coloured : IsByteColour choice.colour
 
--- the video of the text, and the file that was written of it: finished, or open
+-- the video of the text, and with what the choice says of its colours
+abbrev pub matroska_text : {packing : Profile} → {choice : Choice} → {text : List ℕ} →
+    WasPackedMatroska packing choice text → Video
+matroska_text w = w.packs.video
+
 abbrev pub matroska_video : {packing : Profile} → {choice : Choice} → {text : List ℕ} →
     WasPackedMatroska packing choice text → Video
-matroska_video w = w.packs.video
+matroska_video {choice = choice} w = shown choice (matroska_text w)
+
+-- the file that was written of it: finished, or open
 
 abbrev pub matroska_file : {packing : Profile} → {choice : Choice} → {text : List ℕ} →
     WasPackedMatroska packing choice text → List ℕ

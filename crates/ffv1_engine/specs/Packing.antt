@@ -14,7 +14,7 @@ use Rattle.ffv1_codec.specs.SliceList.{Said}
 use Rattle.ffv1_codec.specs.Frame.{frame_of, HasLongSlice}
 use Rattle.ffv1_reads.specs.Head.{Head, frame_limit, limit}
 use Rattle.ffv1_avi.specs.Written.{file_of}
-use Rattle.ffv1_engine.specs.Colours.{colour_of}
+use Rattle.ffv1_engine.specs.Colours.{file_colour}
 use Rattle.ffv1_engine.specs.Video.{SaidHead}
 use Rattle.ffv1_words.specs.declared.order.Choice.{Choice}
 use Rattle.ffv1_engine.specs.declared.profile.Profile.{Profile}
@@ -73,7 +73,7 @@ head_for choice ppm h c = record {
   rate = if ppm then choice.rate else h.head.rate;
   scale = if ppm then choice.scale else h.head.scale;
   config_record = record_of c;
-  colour = colour_of h.head;
+  colour = file_colour choice.colour h.head;
 }
 
 -- an accepted configuration is the one of this video, and passes the checks of a profile

@@ -1,12 +1,14 @@
 //! The range of colours and the siting of chroma of a text, in the numbers of a file.
 
 ghost use Rattle.std.specs.Prelude.{◌≡◌};
-ghost use Rattle.ffv1_engine.specs.Colours.{across_number, colour_of, down_number, loses_colour};
+ghost use Rattle.ffv1_engine.specs.Colours.{across_number, file_colour, down_number};
+ghost use Rattle.ffv1_engine.specs.Colours.{loses_colour, range_chosen, siting_chosen};
 ghost use Rattle.ffv1_engine.specs.Colours.{range_named, range_number, siting_in};
 ghost use Rattle.ffv1_engine.specs.Colours.{siting_named};
 
 use ffv1_reads::Colour;
 use ffv1_record::Checked;
+use ffv1_words::{ColourChoice, RangeChoice, SitingChoice};
 use ffv1_y4m::{Range, Siting, VideoHead};
 use std::alloc::Allocator;
 
@@ -66,15 +68,41 @@ fn siting_named(across: u8, down: u8) -> Option<Siting>
     }
 }
 
-/// What a head says of colours, as a file says it.
-pub(crate) fn colour_of(head: &VideoHead) -> Colour
-    ensures { result ≡ colour_of head.now }
+/// The range that is written: that of the choice, or else that of the text.
+fn range_chosen(choice: RangeChoice, said: Option<Range>) -> Option<Range>
+    ensures { result ≡ range_chosen choice said }
 {
+    match choice {
+        RangeChoice::Auto => said,
+        RangeChoice::Limited => Some(Range::Limited),
+        RangeChoice::Full => Some(Range::Full),
+    }
+}
+
+/// The siting that is written: that of the choice, or else that of the text.
+fn siting_chosen(choice: SitingChoice, said: Option<Siting>) -> Option<Siting>
+    ensures { result ≡ siting_chosen choice said }
+{
+    match choice {
+        SitingChoice::Auto => said,
+        SitingChoice::Left => Some(Siting::Left),
+        SitingChoice::Centre => Some(Siting::Centre),
+        SitingChoice::TopLeft => Some(Siting::TopLeft),
+    }
+}
+
+/// What a choice and a head say of colours, as a file says it.
+pub(crate) fn file_colour(choice: &ColourChoice, head: &VideoHead) -> Colour
+    ensures { result ≡ file_colour choice.now head.now }
+{
+    let siting = siting_chosen(choice.siting, head.siting);
     Colour {
-        range: range_number(head.range),
-        siting_across: across_number(head.siting),
-        siting_down: down_number(head.siting),
-        ..Colour::UNSAID
+        matrix: choice.matrix,
+        transfer: choice.transfer,
+        primaries: choice.primaries,
+        range: range_number(range_chosen(choice.range, head.range)),
+        siting_across: across_number(siting),
+        siting_down: down_number(siting),
     }
 }
 

@@ -20,7 +20,7 @@ ghost use Rattle.ffv1_record.specs.declared.config.Profile.TheVariants as record
 ghost use Rattle.ffv1_engine.specs.Profiles.{greatest_depth, record_profile};
 ghost use Rattle.ffv1_engine.specs.Internal.VideoReads.{IsHeadOf, reading_of};
 
-use crate::colours::colour_of;
+use crate::colours::file_colour;
 use crate::fault::Fault;
 use crate::profile::Profile;
 use crate::verifying::VerifyingEncoder;
@@ -173,7 +173,7 @@ pub(crate) fn file_head<A: Allocator + Copy>(
         rate: if ppm { choice.rate } else { head.rate },
         scale: if ppm { choice.scale } else { head.scale },
         config_record,
-        colour: colour_of(head),
+        colour: file_colour(&choice.colour, head),
     })
 }
 

@@ -51,7 +51,10 @@ mod video;
 
 pub use checking::{check, check_all};
 pub use fault::Fault;
-pub use ffv1_words::{Choice, CodecIdChoice, CoderChoice, ContainerChoice, Order, words};
+pub use ffv1_words::{
+    Choice, CodecIdChoice, CoderChoice, ColourChoice, ContainerChoice, Order, RangeChoice,
+    SitingChoice, words,
+};
 pub use hashing::framemd5;
 pub use matroska_packing::{PackedMatroska, pack_matroska};
 pub use mono_trial::trial;

@@ -15,7 +15,8 @@ ghost use Rattle.ffv1_files.specs.Files.{file_read};
 ghost use Rattle.ffv1_files.specs.declared.container.Scope.TheVariants.{Whole};
 ghost use Rattle.ffv1_engine.specs.declared.profile.Profile.TheVariants.{Strict, Wide};
 ghost use Rattle.ffv1_engine.specs.MatroskaRoundTrip.{HoldsMatroska, WasPackedMatroska};
-ghost use Rattle.ffv1_engine.specs.MatroskaRoundTrip.{matroska_file, matroska_video};
+ghost use Rattle.ffv1_engine.specs.Colours.{IsByteColour, shown};
+ghost use Rattle.ffv1_engine.specs.MatroskaRoundTrip.{matroska_file, matroska_text, matroska_video};
 ghost use Rattle.ffv1_engine.specs.PackMatroska.{HasClusters, begun_file};
 ghost use Rattle.ffv1_engine.specs.Packing.{AreReadable, packed_frames, packed_head};
 ghost use Rattle.ffv1_engine.specs.RoundTrip.{IsReadIn};
@@ -41,6 +42,12 @@ use ffv1_y4m::laws as y4m_laws;
 pub fn named_rate_fits_a_file()
     ensures { (rows : List Row) (c : Choice) → NamesChoice rows c →
         IsRatio 4294967295 c.rate c.scale }
+{}
+
+/// The numbers of colours that a command line names are of 8 bits: `words` makes no choice for
+/// which `packed_is_unpacked` would not speak of Matroska.
+pub fn named_colour_fits_a_file()
+    ensures { (rows : List Row) (c : Choice) → NamesChoice rows c → IsByteColour c.colour }
 {}
 
 /// A text that `pack` has packed is unpacked again, if it was packed in `Wide`, or has no frame
@@ -97,7 +104,7 @@ pub fn packed_is_unpacked()
         IsVideo (canonical_of (video_in w)) (video_in w) }
     ensures kept { (packing : Profile) (choice : Choice) (text : List ℕ)
         (w : WasPacked packing choice text) → w.packed.loses_colour ≡ false →
-        canonical_of (video_in w) ≡ canonical_of (text_video w) }
+        canonical_of (video_in w) ≡ canonical_of (shown choice (text_video w)) }
     ensures packed { (packing : Profile) (choice : Choice) (text : List ℕ)
         (w : WasPacked packing choice text) →
         IsReadVideo (greatest_depth packing) text (text_video w) }
@@ -128,23 +135,24 @@ pub fn packed_is_unpacked()
         IsNoContent f }
     ensures matroska_same { (packing : Profile) (choice : Choice) (text : List ℕ)
         (w : WasPackedMatroska packing choice text) →
-        IsReadVideo (greatest_depth packing) (canonical_of (matroska_video w))
-        (read_again (greatest_depth packing) (matroska_video w)) }
+        IsReadVideo (greatest_depth Wide) (canonical_of (matroska_video w))
+        (read_again (greatest_depth Wide) (matroska_video w)) }
     ensures matroska_again { (packing : Profile) (choice : Choice) (text : List ℕ)
         (w : WasPackedMatroska packing choice text) →
-        canonical_of (read_again (greatest_depth packing) (matroska_video w))
+        canonical_of (read_again (greatest_depth Wide) (matroska_video w))
         ≡ canonical_of (matroska_video w) }
     ensures matroska_packed { (packing : Profile) (choice : Choice) (text : List ℕ)
         (w : WasPackedMatroska packing choice text) →
-        IsReadVideo (greatest_depth packing) text (matroska_video w) }
+        IsReadVideo (greatest_depth packing) text (matroska_text w) }
     ensures matroska_strict { (choice : Choice) (text : List ℕ)
-        (w : WasPackedMatroska Strict choice text) → IsVideo text (matroska_video w) }
+        (w : WasPackedMatroska Strict choice text) → IsVideo text (matroska_text w) }
     ensures matroska_ppm { (packing : Profile) (choice : Choice) (text : List ℕ)
-        (w : WasPackedMatroska packing choice text) → IsVideo text (matroska_video w) →
-        (matroska_video w).ppm ≡ true → canonical_of (matroska_video w) ≡ text }
+        (w : WasPackedMatroska packing choice text) → IsVideo text (matroska_text w) →
+        (matroska_text w).ppm ≡ true → canonical_of (matroska_video w) ≡ text }
     ensures begun { (profile : Profile) (choice : Choice) (v : Video) (a : Accepted) →
         HasClusters profile choice v a → 0 < length v.pictures →
         (v.ppm ≡ true → IsRatio 4294967295 choice.rate choice.scale) →
+        IsByteColour choice.colour →
         file_read Whole (begun_file choice v a)
         ≡ Ok ((packed_head choice v a, packed_frames v a), []) }
 {

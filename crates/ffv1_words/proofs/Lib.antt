@@ -4,3 +4,4 @@ mod TakenOrder
 mod TakenNames
 mod TakenLine
 mod Hyphens
+mod AddedArgument

@@ -9,15 +9,17 @@ use Rattle.clap.proofs.OnLiterals.{clap_on_literals}
 use Rattle.clap.specs.Walk.{Rule, Text, answers_to, nothing_held, rows_after}
 use Rattle.clap.specs.Simple.{Shape, built, label_of, new_rule, subcommand_of}
 use Rattle.clap.specs.Takes.{level_passes, takes}
-use Rattle.ffv1_words.specs.CommandLine.{AreCodecIds, AreContainers, AreContexts, Words, line_app}
-use Rattle.ffv1_words.specs.Order.{Names, NamesChoice, is_given, names_no_grid}
+use Rattle.ffv1_words.specs.CommandLine.{AreOptionWords, line_app}
+use Rattle.ffv1_words.specs.declared.command_line.OptionWords.{OptionWords}
+use Rattle.ffv1_words.specs.Order.{Names, NamesChoice, NamesColour, is_given, names_no_grid, names_rate}
 use Rattle.ffv1_words.specs.declared.order.Choice.{Choice}
+use Rattle.ffv1_words.specs.declared.order.ColourChoice.{ColourChoice}
 use Rattle.ffv1_words.specs.declared.order.Order.{Order}
 use Rattle.ffv1_words.specs.declared.order.Order.TheVariants as order
-use Rattle.ffv1_words.proofs.TakenNames.{bit_named, codec_id_named, coder_named, container_named, contexts_named, flag_named, number_named}
+use Rattle.ffv1_words.proofs.TakenNames.{bit_named, codec_id_named, coder_named, container_named, contexts_named, flag_named, number_named, range_named, siting_named}
 use Rattle.ffv1_words.proofs.TakenOrder.{taken_level}
-use Rattle.ffv1_words.proofs.TakenRows.{either}
-use Rattle.ffv1_words.proofs.UsualArguments.{value_left}
+use Rattle.ffv1_words.proofs.TakenRows.{HasValue, IsIn, either}
+use Rattle.ffv1_words.proofs.UsualArguments.{is_expected, value_left}
 
 -- one of a list of commands
 abbrev IsOneOf : Shape → List Shape → Type 0
@@ -53,33 +55,57 @@ NamesOrder s = (rest : List Text) → level_passes s [] nothing_held rest false 
 abbrev rule_at : Shape → ℕ → Rule
 rule_at s k = slice_index_or s.rules k (new_rule [])
 
-module _ (contexts containers codec_ids : Words) (are : AreContexts contexts) (are_containers : AreContainers containers) (are_codec_ids : AreCodecIds codec_ids) where
+module _ (lists : OptionWords) (are : AreOptionWords lists) where
   abbrev command : ℕ → Shape
-  command k = slice_index_or (built (line_app contexts containers codec_ids)).subs k (line_app contexts containers codec_ids).top
+  command k = slice_index_or (built (line_app lists)).subs k (line_app lists).top
 
   -- ---- pack
 
   abbrev pack : Shape
   pack = command 0
 
+  -- each argument of `pack` that is expected has a value, as in `value_left`
+  pack_left : (rest : List Text) (a : Rule) → IsIn a pack.rules → is_expected a ≡ true → level_passes pack [] nothing_held rest false ≡ true → HasValue a.id a (rows_after pack.rules [] rest)
+  unfolding clap_on_literals
+  pack_left rest a here wanted e = value_left pack rest a refl refl here wanted e
+
+  pack_colour : (rest : List Text) → level_passes pack [] nothing_held rest false ≡ true → (c : ColourChoice) × NamesColour (rows_after pack.rules [] rest) c
+  unfolding clap_on_literals
+  pack_colour rest e =
+      let rows = rows_after pack.rules [] rest in
+      let range = pack_left rest (rule_at pack 11) (inr (inr (inr (inr (inr (inr (inr (inr (inr (inr (inr (inl refl)))))))))))) refl e in
+      let siting = pack_left rest (rule_at pack 12) (inr (inr (inr (inr (inr (inr (inr (inr (inr (inr (inr (inr (inl refl))))))))))))) refl e in
+      let primaries = pack_left rest (rule_at pack 13) (inr (inr (inr (inr (inr (inr (inr (inr (inr (inr (inr (inr (inr (inl refl)))))))))))))) refl e in
+      let transfer = pack_left rest (rule_at pack 14) (inr (inr (inr (inr (inr (inr (inr (inr (inr (inr (inr (inr (inr (inr (inl refl))))))))))))))) refl e in
+      let matrix = pack_left rest (rule_at pack 15) (inr (inr (inr (inr (inr (inr (inr (inr (inr (inr (inr (inr (inr (inr (inr (inl refl)))))))))))))))) refl e in
+      let range_is = range_named rows (codes "range") lists.ranges range.text are.ranges range.is range.passes in
+      let siting_is = siting_named rows (codes "siting") lists.sitings siting.text are.sitings siting.is siting.passes in
+      let primaries_is = number_named rows (codes "primaries") 0 255 primaries.text primaries.reads primaries.passes in
+      let transfer_is = number_named rows (codes "transfer") 0 255 transfer.text transfer.reads transfer.passes in
+      let matrix_is = number_named rows (codes "matrix") 0 255 matrix.text matrix.reads matrix.passes in (
+        record { range = range_is.0; siting = siting_is.0; primaries = primaries_is.0; transfer = transfer_is.0; matrix = matrix_is.0 },
+        record { range = range_is.1; siting = siting_is.1; primaries = primaries_is.1; transfer = transfer_is.1; matrix = matrix_is.1 },
+      )
+
   pack_choice : (rest : List Text) → level_passes pack [] nothing_held rest false ≡ true → (c : Choice) × NamesChoice (rows_after pack.rules [] rest) c
   unfolding clap_on_literals
   pack_choice rest e =
       let rows = rows_after pack.rules [] rest in
-      let coder = value_left pack rest (rule_at pack 2) refl refl (inr (inr (inl refl))) refl e in
-      let words = value_left pack rest (rule_at pack 3) refl refl (inr (inr (inr (inl refl)))) refl e in
-      let columns = value_left pack rest (rule_at pack 4) refl refl (inr (inr (inr (inr (inl refl))))) refl e in
-      let high = value_left pack rest (rule_at pack 5) refl refl (inr (inr (inr (inr (inr (inl refl)))))) refl e in
-      let ec = value_left pack rest (rule_at pack 6) refl refl (inr (inr (inr (inr (inr (inr (inl refl))))))) refl e in
-      let rate = value_left pack rest (rule_at pack 7) refl refl (inr (inr (inr (inr (inr (inr (inr (inl refl)))))))) refl e in
-      let scale = value_left pack rest (rule_at pack 8) refl refl (inr (inr (inr (inr (inr (inr (inr (inr (inl refl))))))))) refl e in
-      let compared = value_left pack rest (rule_at pack 11) refl refl (inr (inr (inr (inr (inr (inr (inr (inr (inr (inr (inr (inl refl)))))))))))) refl e in
-      let called = value_left pack rest (rule_at pack 10) refl refl (inr (inr (inr (inr (inr (inr (inr (inr (inr (inr (inl refl))))))))))) refl e in
-      let codec_id = codec_id_named rows (codes "codec-id") codec_ids called.text are_codec_ids called.is called.passes in
+      let coder = pack_left rest (rule_at pack 2) (inr (inr (inl refl))) refl e in
+      let words = pack_left rest (rule_at pack 3) (inr (inr (inr (inl refl)))) refl e in
+      let columns = pack_left rest (rule_at pack 4) (inr (inr (inr (inr (inl refl))))) refl e in
+      let high = pack_left rest (rule_at pack 5) (inr (inr (inr (inr (inr (inl refl)))))) refl e in
+      let ec = pack_left rest (rule_at pack 6) (inr (inr (inr (inr (inr (inr (inl refl))))))) refl e in
+      let rate = pack_left rest (rule_at pack 7) (inr (inr (inr (inr (inr (inr (inr (inl refl)))))))) refl e in
+      let scale = pack_left rest (rule_at pack 8) (inr (inr (inr (inr (inr (inr (inr (inr (inl refl))))))))) refl e in
+      let called = pack_left rest (rule_at pack 10) (inr (inr (inr (inr (inr (inr (inr (inr (inr (inr (inl refl))))))))))) refl e in
+      let compared = pack_left rest (rule_at pack 16) (inr (inr (inr (inr (inr (inr (inr (inr (inr (inr (inr (inr (inr (inr (inr (inr (inl refl))))))))))))))))) refl e in
+      let colour = pack_colour rest e in
+      let codec_id = codec_id_named rows (codes "codec-id") lists.codec_ids called.text are.codec_ids called.is called.passes in
       let verify = flag_named rows (codes "verify") compared.text compared.is compared.passes in
       let coder_is = number_named rows (codes "coder") 1 2 coder.text coder.reads coder.passes in
       let coder_of = coder_named rows (codes "coder") coder_is.0 coder_is.1 in
-      let large = contexts_named rows (codes "contexts") contexts words.text are words.is words.passes in
+      let large = contexts_named rows (codes "contexts") lists.contexts words.text are.contexts words.is words.passes in
       let columns_is = number_named rows (codes "columns") 1 32 columns.text columns.reads columns.passes in
       let rows_is = number_named rows (codes "rows") 1 32 high.text high.reads high.passes in
       let ec_is = number_named rows (codes "ec") 0 1 ec.text ec.reads ec.passes in
@@ -98,6 +124,8 @@ module _ (contexts containers codec_ids : Words) (are : AreContexts contexts) (a
           verify = verify.0;
           codec_id = codec_id.0;
           codec_id_given = is_given rows (codes "codec-id");
+          rate_given = names_rate rows;
+          colour = colour.0;
         },
         record {
           coder = coder_of.1;
@@ -111,20 +139,22 @@ module _ (contexts containers codec_ids : Words) (are : AreContexts contexts) (a
           verify = verify.1;
           codec_id = codec_id.1;
           codec_id_given = refl;
+          rate_given = refl;
+          colour = colour.1;
         },
       )
 
   pack_named : NamesOrder pack
   unfolding clap_on_literals
   pack_named rest e =
-      let input = value_left pack rest (rule_at pack 0) refl refl (inl refl) refl e in
-      let output = value_left pack rest (rule_at pack 1) refl refl (inr (inl refl)) refl e in
+      let input = pack_left rest (rule_at pack 0) (inl refl) refl e in
+      let output = pack_left rest (rule_at pack 1) (inr (inl refl)) refl e in
       let choice = pack_choice rest e in
-      let holder = value_left pack rest (rule_at pack 9) refl refl (inr (inr (inr (inr (inr (inr (inr (inr (inr (inl refl)))))))))) refl e in
-      let container = container_named (rows_after pack.rules [] rest) (codes "container") containers holder.text are_containers holder.is holder.passes in
-      let kept = value_left pack rest (rule_at pack 12) refl refl (inr (inr (inr (inr (inr (inr (inr (inr (inr (inr (inr (inr (inl refl))))))))))))) refl e in
+      let holder = pack_left rest (rule_at pack 9) (inr (inr (inr (inr (inr (inr (inr (inr (inr (inl refl)))))))))) refl e in
+      let container = container_named (rows_after pack.rules [] rest) (codes "container") lists.containers holder.text are.containers holder.is holder.passes in
+      let kept = pack_left rest (rule_at pack 17) (inr (inr (inr (inr (inr (inr (inr (inr (inr (inr (inr (inr (inr (inr (inr (inr (inr (inl refl)))))))))))))))))) refl e in
       let no_clobber = flag_named (rows_after pack.rules [] rest) (codes "no-clobber") kept.text kept.is kept.passes in
-      let told = value_left pack rest (rule_at pack 13) refl refl (inr (inr (inr (inr (inr (inr (inr (inr (inr (inr (inr (inr (inr (inl refl)))))))))))))) refl e in
+      let told = pack_left rest (rule_at pack 18) (inr (inr (inr (inr (inr (inr (inr (inr (inr (inr (inr (inr (inr (inr (inr (inr (inr (inr (inl refl))))))))))))))))))) refl e in
       let progress = flag_named (rows_after pack.rules [] rest) (codes "progress") told.text told.is told.passes in (
         order.Pack (path input.text) (path output.text) choice.0 container.0 no_clobber.0 progress.0,
         (refl, input.is, output.is, choice.1, container.1, no_clobber.1, progress.1),
@@ -157,9 +187,11 @@ module _ (contexts containers codec_ids : Words) (are : AreContexts contexts) (a
       let all = flag_named (rows_after check.rules [] rest) (codes "all") on.text on.is on.passes in
       let place = value_left check rest (rule_at check 2) refl refl (inr (inr (inl refl))) refl e in
       let flag = flag_named (rows_after check.rules [] rest) (codes "place") place.text place.is place.passes in
-      let told = value_left check rest (rule_at check 3) refl refl (inr (inr (inr (inl refl)))) refl e in
+      let short = value_left check rest (rule_at check 3) refl refl (inr (inr (inr (inl refl)))) refl e in
+      let quiet = flag_named (rows_after check.rules [] rest) (codes "quiet") short.text short.is short.passes in
+      let told = value_left check rest (rule_at check 4) refl refl (inr (inr (inr (inr (inl refl))))) refl e in
       let progress = flag_named (rows_after check.rules [] rest) (codes "progress") told.text told.is told.passes in
-      (order.Check (paths input.texts) all.0 flag.0 progress.0, (refl, input.all ∙ ap Some (texts_of input.texts), all.1, flag.1, progress.1))
+      (order.Check (paths input.texts) all.0 flag.0 quiet.0 progress.0, (refl, input.all ∙ ap Some (texts_of input.texts), all.1, flag.1, quiet.1, progress.1))
 
   abbrev show : Shape
   show = command 3
@@ -202,7 +234,7 @@ module _ (contexts containers codec_ids : Words) (are : AreContexts contexts) (a
     | inr none ↦ absurd (true≢false (sym none))
   ]
 
-  named : (s : Shape) (word : Text) → IsOneOf s (built (line_app contexts containers codec_ids)).subs → answers_to word (label_of s) ≡ true → bytes_eq word (codes "help") ≡ false → NamesOrder s
+  named : (s : Shape) (word : Text) → IsOneOf s (built (line_app lists)).subs → answers_to word (label_of s) ≡ true → bytes_eq word (codes "help") ≡ false → NamesOrder s
   named s word (inl is) met no_help = subst NamesOrder is pack_named
   named s word (inr (inl is)) met no_help = subst NamesOrder is unpack_named
   named s word (inr (inr (inl is))) met no_help = subst NamesOrder is check_named
@@ -214,10 +246,10 @@ module _ (contexts containers codec_ids : Words) (are : AreContexts contexts) (a
   named s word (inr (inr (inr (inr (inr (inr (inr none))))))) met no_help = absurd none
 
   -- a line that clap takes names an order
-  pub taken_names : (words : List Text) → takes (line_app contexts containers codec_ids) words ≡ true → (o : Order) × Names o (subcommand_of (line_app contexts containers codec_ids) words)
+  pub taken_names : (words : List Text) → takes (line_app lists) words ≡ true → (o : Order) × Names o (subcommand_of (line_app lists) words)
   unfolding clap_on_literals
   taken_names words e =
-      let level = taken_level (line_app contexts containers codec_ids) words refl refl e in
-      let met = found_in (λ s. answers_to level.word (label_of s)) (built (line_app contexts containers codec_ids)).subs level.shape level.found in
+      let level = taken_level (line_app lists) words refl refl e in
+      let met = found_in (λ s. answers_to level.word (label_of s)) (built (line_app lists)).subs level.shape level.found in
       let got = named level.shape level.word met.0 met.1 level.no_help level.rest level.passes in
       (got.0, subst (Names got.0) (sym level.is) got.1)

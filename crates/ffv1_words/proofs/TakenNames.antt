@@ -16,14 +16,18 @@ use Rattle.clap.specs.Walk.{Row, Text, first_of, one_of}
 use Rattle.clap.specs.declared.builder.value_parser.ValueParser.TheVariants as parser
 use Rattle.clap.proofs.ValueTestLemmas.{accepts-Accepts}
 use Rattle.clap.proofs.WalkLemmas.{list_any-map}
-use Rattle.ffv1_words.specs.CommandLine.{AreCodecIds, AreContainers, AreContexts, Words}
-use Rattle.ffv1_words.specs.Order.{NamesFlag, NamesNumber, bit_number, codec_id_word, coder_number, container_word, contexts_word}
+use Rattle.ffv1_words.specs.CommandLine.{AreCodecIds, AreContainers, AreContexts, AreRanges, AreSitings, Words}
+use Rattle.ffv1_words.specs.Order.{NamesFlag, NamesNumber, bit_number, codec_id_word, coder_number, container_word, contexts_word, range_word, siting_word}
 use Rattle.ffv1_words.specs.declared.order.CodecIdChoice.{CodecIdChoice}
 use Rattle.ffv1_words.specs.declared.order.CodecIdChoice.TheVariants as codec_id
 use Rattle.ffv1_words.specs.declared.order.CoderChoice.{CoderChoice}
 use Rattle.ffv1_words.specs.declared.order.CoderChoice.TheVariants as coder
 use Rattle.ffv1_words.specs.declared.order.ContainerChoice.{ContainerChoice}
 use Rattle.ffv1_words.specs.declared.order.ContainerChoice.TheVariants as container
+use Rattle.ffv1_words.specs.declared.order.RangeChoice.{RangeChoice}
+use Rattle.ffv1_words.specs.declared.order.RangeChoice.TheVariants as range
+use Rattle.ffv1_words.specs.declared.order.SitingChoice.{SitingChoice}
+use Rattle.ffv1_words.specs.declared.order.SitingChoice.TheVariants as siting
 use Rattle.ffv1_words.proofs.TakenRows.{either}
 
 -- ---- numbers
@@ -132,3 +136,32 @@ container_named rows id words t are is passes =
         ]
       ]
     ]
+
+pub range_named : (rows : List Row) (id : Text) (words : Words) (t : Text) → AreRanges words → first_of id rows ≡ Some t → accepts false (parser.Names words) t ≡ true
+    → (c : RangeChoice) × (first_of id rows ≡ Some (range_word c))
+range_named rows id words t are is passes = elim (either (bytes_eq (codes "auto") t) (bytes_eq (codes "limited") t || (bytes_eq (codes "full") t || false)) (among words (codes "auto" ∷ codes "limited" ∷ codes "full" ∷ []) t are passes)) [
+  | inl here ↦ (range.Auto, is ∙ ap Some (sym (is_text (codes "auto") t here)))
+  | inr more ↦ elim (either (bytes_eq (codes "limited") t) (bytes_eq (codes "full") t || false) more) [
+    | inl here ↦ (range.Limited, is ∙ ap Some (sym (is_text (codes "limited") t here)))
+    | inr more ↦ elim (either (bytes_eq (codes "full") t) false more) [
+      | inl here ↦ (range.Full, is ∙ ap Some (sym (is_text (codes "full") t here)))
+      | inr none ↦ absurd (true≢false (sym none))
+    ]
+  ]
+]
+
+pub siting_named : (rows : List Row) (id : Text) (words : Words) (t : Text) → AreSitings words → first_of id rows ≡ Some t → accepts false (parser.Names words) t ≡ true
+    → (c : SitingChoice) × (first_of id rows ≡ Some (siting_word c))
+siting_named rows id words t are is passes = elim (either (bytes_eq (codes "auto") t) (bytes_eq (codes "left") t || (bytes_eq (codes "centre") t || (bytes_eq (codes "topleft") t || false))) (among words (codes "auto" ∷ codes "left" ∷ codes "centre" ∷ codes "topleft" ∷ []) t are passes)) [
+  | inl here ↦ (siting.Auto, is ∙ ap Some (sym (is_text (codes "auto") t here)))
+  | inr more ↦ elim (either (bytes_eq (codes "left") t) (bytes_eq (codes "centre") t || (bytes_eq (codes "topleft") t || false)) more) [
+    | inl here ↦ (siting.Left, is ∙ ap Some (sym (is_text (codes "left") t here)))
+    | inr more ↦ elim (either (bytes_eq (codes "centre") t) (bytes_eq (codes "topleft") t || false) more) [
+      | inl here ↦ (siting.Centre, is ∙ ap Some (sym (is_text (codes "centre") t here)))
+      | inr more ↦ elim (either (bytes_eq (codes "topleft") t) false more) [
+        | inl here ↦ (siting.TopLeft, is ∙ ap Some (sym (is_text (codes "topleft") t here)))
+        | inr none ↦ absurd (true≢false (sym none))
+      ]
+    ]
+  ]
+]

@@ -4,6 +4,7 @@ use Rattle.std.specs.Borrow.{Bor}
 use Rattle.clap.specs.Words.{App, Rule, Text, new_app, new_rule, with_rule, with_subcommand}
 use Rattle.clap.specs.declared.builder.action.ArgAction.TheVariants.{Append, SetTrue}
 use Rattle.clap.specs.declared.builder.value_parser.ValueParser.TheVariants as parser
+use Rattle.ffv1_words.specs.declared.command_line.OptionWords.{OptionWords}
 
 -- a required positional
 abbrev pub file_rule : Text → Rule
@@ -86,18 +87,27 @@ with_progress a = with_rule a (flag_rule (codes "progress"))
 abbrev pub with_no_clobber : App → App
 with_no_clobber a = with_rule a (flag_rule (codes "no-clobber"))
 
-abbrev pub pack_app : Words → Words → Words → App
-pack_app contexts containers codec_ids =
-    with_progress (with_no_clobber (with_verify (with_codec_id codec_ids
-    (with_container containers
-    (with_pace (with_slices (with_model contexts (two_files (codes "pack")))))))))
+-- what Matroska says of colours
+abbrev pub with_colour : OptionWords → App → App
+with_colour words a = with_rule (with_rule (with_rule (with_rule (with_rule a
+    (word_rule (codes "range") words.ranges (codes "auto")))
+    (word_rule (codes "siting") words.sitings (codes "auto")))
+    (number_rule (codes "primaries") 0 255 (codes "2")))
+    (number_rule (codes "transfer") 0 255 (codes "2")))
+    (number_rule (codes "matrix") 0 255 (codes "2"))
+
+abbrev pub pack_app : OptionWords → App
+pack_app words =
+    with_progress (with_no_clobber (with_verify (with_colour words
+    (with_codec_id words.codec_ids (with_container words.containers
+    (with_pace (with_slices (with_model words.contexts (two_files (codes "pack"))))))))))
 
 abbrev pub unpack_app : App
 unpack_app = with_progress (with_no_clobber (two_files (codes "unpack")))
 
 abbrev pub check_app : App
-check_app = with_progress (with_rule (with_rule (some_files (codes "check"))
-    (flag_rule (codes "all"))) (flag_rule (codes "place")))
+check_app = with_progress (with_rule (with_rule (with_rule (some_files (codes "check"))
+    (flag_rule (codes "all"))) (flag_rule (codes "place"))) (flag_rule (codes "quiet")))
 
 abbrev pub show_app : App
 show_app = with_rule (some_files (codes "show")) (flag_rule (codes "cost"))
@@ -114,19 +124,19 @@ top_app = record (new_app (codes "ffv1")) {
 }
 
 -- the program with the commands that make a file
-abbrev pub files_app : Words → Words → Words → App
-files_app contexts containers codec_ids = with_subcommand
-    (with_subcommand top_app (pack_app contexts containers codec_ids).top) unpack_app.top
+abbrev pub files_app : OptionWords → App
+files_app words =
+    with_subcommand (with_subcommand top_app (pack_app words).top) unpack_app.top
 
 -- and with those that look at some
-abbrev pub looks_app : Words → Words → Words → App
-looks_app contexts containers codec_ids = with_subcommand
-    (with_subcommand (files_app contexts containers codec_ids) check_app.top) show_app.top
+abbrev pub looks_app : OptionWords → App
+looks_app words =
+    with_subcommand (with_subcommand (files_app words) check_app.top) show_app.top
 
--- the whole line, by the words that `--contexts`, `--container` and `--codec-id` take
-abbrev pub line_app : Words → Words → Words → App
-line_app contexts containers codec_ids =
-    with_subcommand (with_subcommand (looks_app contexts containers codec_ids)
+-- the whole line, by the words that options take
+abbrev pub line_app : OptionWords → App
+line_app words =
+    with_subcommand (with_subcommand (looks_app words)
     (some_files (codes "framemd5")).top) (one_file (codes "trial")).top
 
 -- the words that `--contexts` takes
@@ -142,7 +152,24 @@ AreContainers words =
 abbrev pub AreCodecIds : Words → Type 0
 AreCodecIds words = map (λ w. w.now) words.now ≡ codes "native" ∷ codes "vfw" ∷ []
 
--- a fact of the whole line, wherever the words of `--contexts`, `--container` and `--codec-id` lie
+-- the words that `--range` takes
+abbrev pub AreRanges : Words → Type 0
+AreRanges words =
+    map (λ w. w.now) words.now ≡ codes "auto" ∷ codes "limited" ∷ codes "full" ∷ []
+
+-- the words that `--siting` takes
+abbrev pub AreSitings : Words → Type 0
+AreSitings words = map (λ w. w.now) words.now
+    ≡ codes "auto" ∷ codes "left" ∷ codes "centre" ∷ codes "topleft" ∷ []
+
+-- the words that options take
+pub record AreOptionWords (words : OptionWords) : Type 0 where
+  pub contexts : AreContexts words.contexts
+  pub containers : AreContainers words.containers
+  pub codec_ids : AreCodecIds words.codec_ids
+  pub ranges : AreRanges words.ranges
+  pub sitings : AreSitings words.sitings
+
+-- a fact of the whole line, wherever the words of its options lie
 abbrev pub OnLine : (App → Type 0) → Type 0
-OnLine P = (contexts containers codec_ids : Words) × AreContexts contexts
-    × AreContainers containers × AreCodecIds codec_ids × P (line_app contexts containers codec_ids)
+OnLine P = (words : OptionWords) × AreOptionWords words × P (line_app words)

@@ -1,5 +1,5 @@
 -- What an order names of a command line, and when its files are in conflict.
-use Rattle.std.specs.Prelude.{◌≡◌, ◌≤◌, ◌⊎◌, ◌||◌, ◌&&◌, ℕ, Bool, true, false, not, codes}
+use Rattle.std.specs.Prelude.{◌≡◌, ◌≤◌, ◌⊎◌, ◌||◌, ◌&&◌, ◌==◌, ℕ, Bool, true, false, not, codes}
 use Rattle.std.specs.Prelude.{List, [], ◌∷◌, ◌+◌, ◌-◌, drop, find, length, map, nat_lt, Option}
 use Rattle.std.specs.Prelude.{Some, None}
 use Rattle.std.specs.Option.{option_and_then, option_map}
@@ -18,10 +18,15 @@ use Rattle.ffv1_words.specs.declared.order.CodecIdChoice.{CodecIdChoice}
 use Rattle.ffv1_words.specs.declared.order.CodecIdChoice.TheVariants as codec_id
 use Rattle.ffv1_words.specs.declared.order.CoderChoice.{CoderChoice}
 use Rattle.ffv1_words.specs.declared.order.CoderChoice.TheVariants as coder
+use Rattle.ffv1_words.specs.declared.order.ColourChoice.{ColourChoice}
 use Rattle.ffv1_words.specs.declared.order.ContainerChoice.{ContainerChoice}
 use Rattle.ffv1_words.specs.declared.order.ContainerChoice.TheVariants as container
 use Rattle.ffv1_words.specs.declared.order.Order.{Order}
 use Rattle.ffv1_words.specs.declared.order.Order.TheVariants as order
+use Rattle.ffv1_words.specs.declared.order.RangeChoice.{RangeChoice}
+use Rattle.ffv1_words.specs.declared.order.RangeChoice.TheVariants as range
+use Rattle.ffv1_words.specs.declared.order.SitingChoice.{SitingChoice}
+use Rattle.ffv1_words.specs.declared.order.SitingChoice.TheVariants as siting
 
 -- ---- what the rows of a subcommand name
 
@@ -69,6 +74,25 @@ abbrev pub codec_id_word : CodecIdChoice → Text
 codec_id_word codec_id.Native = codes "native"
 codec_id_word codec_id.Vfw = codes "vfw"
 
+abbrev pub range_word : RangeChoice → Text
+range_word range.Auto = codes "auto"
+range_word range.Limited = codes "limited"
+range_word range.Full = codes "full"
+
+abbrev pub siting_word : SitingChoice → Text
+siting_word siting.Auto = codes "auto"
+siting_word siting.Left = codes "left"
+siting_word siting.Centre = codes "centre"
+siting_word siting.TopLeft = codes "topleft"
+
+-- what is said of colours, in the numbers of ITU-T H.273
+pub record NamesColour (rows : List Row) (c : ColourChoice) : Type 0 where
+  pub range : first_of (codes "range") rows ≡ Some (range_word c.range)
+  pub siting : first_of (codes "siting") rows ≡ Some (siting_word c.siting)
+  pub primaries : NamesNumber rows (codes "primaries") 0 255 c.primaries
+  pub transfer : NamesNumber rows (codes "transfer") 0 255 c.transfer
+  pub matrix : NamesNumber rows (codes "matrix") 0 255 c.matrix
+
 abbrev pub is_of_words : Option ValueSource → Bool
 is_of_words None = false
 is_of_words (Some source.DefaultValue) = false
@@ -83,6 +107,10 @@ is_given rows id =
 abbrev pub names_no_grid : List Row → Bool
 names_no_grid rows = not (is_given rows (codes "columns")) && not (is_given rows (codes "rows"))
 
+-- whether they give the rate of frames or its scale
+abbrev pub names_rate : List Row → Bool
+names_rate rows = is_given rows (codes "rate") || is_given rows (codes "scale")
+
 pub record NamesChoice (rows : List Row) (c : Choice) : Type 0 where
   pub coder : NamesNumber rows (codes "coder") 1 2 (coder_number c.coder)
   pub contexts : first_of (codes "contexts") rows ≡ Some (contexts_word c.large)
@@ -95,6 +123,8 @@ pub record NamesChoice (rows : List Row) (c : Choice) : Type 0 where
   pub verify : NamesFlag rows (codes "verify") c.verify
   pub codec_id : first_of (codes "codec-id") rows ≡ Some (codec_id_word c.codec_id)
   pub codec_id_given : c.codec_id_given ≡ is_given rows (codes "codec-id")
+  pub rate_given : c.rate_given ≡ names_rate rows
+  pub colour : NamesColour rows c.colour
 
 -- ---- what a line names
 
@@ -108,9 +138,10 @@ Names (order.Pack i w c holder no_clobber progress) (Some p) = (p.0 ≡ codes "p
 Names (order.Unpack i w no_clobber progress) (Some p) = (p.0 ≡ codes "unpack")
     × NamesFile p.1 (codes "IN") i.now × NamesFile p.1 (codes "OUT") w.now
     × NamesFlag p.1 (codes "no-clobber") no_clobber × NamesFlag p.1 (codes "progress") progress
-Names (order.Check is all place progress) (Some p) = (p.0 ≡ codes "check")
+Names (order.Check is all place quiet progress) (Some p) = (p.0 ≡ codes "check")
     × NamesFiles p.1 (codes "IN") (map (λ i. i.now) is.now) × NamesFlag p.1 (codes "all") all
-    × NamesFlag p.1 (codes "place") place × NamesFlag p.1 (codes "progress") progress
+    × NamesFlag p.1 (codes "place") place × NamesFlag p.1 (codes "quiet") quiet
+    × NamesFlag p.1 (codes "progress") progress
 Names (order.Show is cost) (Some p) = (p.0 ≡ codes "show")
     × NamesFiles p.1 (codes "IN") (map (λ i. i.now) is.now) × NamesFlag p.1 (codes "cost") cost
 Names (order.FrameMd5 is) (Some p) = (p.0 ≡ codes "framemd5")
@@ -162,6 +193,26 @@ is_matroska container.Matroska path = true
 abbrev pub lacks_codec_id : Choice → ContainerChoice → Text → Bool
 lacks_codec_id c holder path = c.codec_id_given && not (is_matroska holder path)
 
+abbrev pub is_auto_range : RangeChoice → Bool
+is_auto_range range.Auto = true
+is_auto_range range.Limited = false
+is_auto_range range.Full = false
+
+abbrev pub is_auto_siting : SitingChoice → Bool
+is_auto_siting siting.Auto = true
+is_auto_siting siting.Left = false
+is_auto_siting siting.Centre = false
+is_auto_siting siting.TopLeft = false
+
+-- the line says something of colours, by ITU-T H.273 with another number than 2
+abbrev pub says_colour : ColourChoice → Bool
+says_colour c = not (is_auto_range c.range) || (not (is_auto_siting c.siting)
+    || (not (c.primaries == 2) || (not (c.transfer == 2) || not (c.matrix == 2))))
+
+-- the line says something of colours, and what holds the frames of this output has no place for it
+abbrev pub lacks_colour : Choice → ContainerChoice → Text → Bool
+lacks_colour c holder path = says_colour c.colour && not (is_matroska holder path)
+
 -- what is written would be read, or stand among what is printed; with a hyphen for both nothing is
 -- read that is written
 abbrev pub is_conflict : Text → Text → Bool
@@ -179,9 +230,10 @@ are_in_conflict paths = nat_lt 1 (hyphens paths)
 
 abbrev pub is_in_conflict : Order → Bool
 is_in_conflict (order.Pack i w c holder no_clobber progress) =
-    is_conflict i.now w.now || (is_misnamed holder w.now || lacks_codec_id c holder w.now)
+    is_conflict i.now w.now || (is_misnamed holder w.now
+    || (lacks_codec_id c holder w.now || lacks_colour c holder w.now))
 is_in_conflict (order.Unpack i w no_clobber progress) = is_conflict i.now w.now
-is_in_conflict (order.Check is all place progress) = are_in_conflict (map (λ i. i.now) is.now)
+is_in_conflict (order.Check is all place quiet progress) = are_in_conflict (map (λ i. i.now) is.now)
 is_in_conflict (order.Show is cost) = are_in_conflict (map (λ i. i.now) is.now)
 is_in_conflict (order.FrameMd5 is) = are_in_conflict (map (λ i. i.now) is.now)
 is_in_conflict (order.Trial i) = false

@@ -5,16 +5,12 @@ ghost use Rattle.clap.specs.Words.{app_of, rule_of, kind_of, new_app};
 ghost use Rattle.clap.specs.declared.builder.command.Command.TheViews.{out-Command as fields_of};
 ghost use Rattle.clap.specs.declared.error.kind.ErrorKind.TheVariants as kind;
 ghost use Rattle.ffv1_words.specs.CommandLine.{file_rule, files_rule, flag_rule, number_rule};
-ghost use Rattle.ffv1_words.specs.CommandLine.{word_rule};
 ghost use Rattle.ffv1_words.specs.CommandLine.{one_file, some_files, two_files, with_model};
-ghost use Rattle.ffv1_words.specs.CommandLine.{with_no_clobber};
-ghost use Rattle.ffv1_words.specs.CommandLine.{with_codec_id, with_container, with_pace};
-ghost use Rattle.ffv1_words.specs.CommandLine.{with_progress};
-ghost use Rattle.ffv1_words.specs.CommandLine.{with_slices};
-ghost use Rattle.ffv1_words.specs.CommandLine.{with_verify};
+ghost use Rattle.ffv1_words.specs.CommandLine.{with_codec_id, with_colour, with_container};
+ghost use Rattle.ffv1_words.specs.CommandLine.{with_no_clobber, with_pace, with_progress};
+ghost use Rattle.ffv1_words.specs.CommandLine.{with_slices, with_verify, word_rule};
 ghost use Rattle.ffv1_words.specs.CommandLine.{pack_app, unpack_app, check_app, show_app, top_app};
-ghost use Rattle.ffv1_words.specs.CommandLine.{files_app, looks_app, line_app, AreContainers};
-ghost use Rattle.ffv1_words.specs.CommandLine.{AreCodecIds, AreContexts};
+ghost use Rattle.ffv1_words.specs.CommandLine.{files_app, looks_app, line_app, AreOptionWords};
 ghost use Rattle.ffv1_words.specs.CommandLine.{OnLine};
 ghost use Rattle.ffv1_words.specs.Order.{IsOrder, IsRefused, IsRefusedIfTaken, is_in_conflict};
 
@@ -29,6 +25,25 @@ static CONTEXTS: [&str; 2] = ["small", "large"];
 static CONTAINERS: [&str; 3] = ["auto", "avi", "mkv"];
 
 static CODEC_IDS: [&str; 2] = ["native", "vfw"];
+
+static RANGES: [&str; 3] = ["auto", "limited", "full"];
+
+static SITINGS: [&str; 4] = ["auto", "left", "centre", "topleft"];
+
+/// The words that options take.
+#[derive(Clone, Copy)]
+struct OptionWords<'a> {
+    /// Of `--contexts`.
+    contexts: &'a [&'a str],
+    /// Of `--container`.
+    containers: &'a [&'a str],
+    /// Of `--codec-id`.
+    codec_ids: &'a [&'a str],
+    /// Of `--range`.
+    ranges: &'a [&'a str],
+    /// Of `--siting`.
+    sitings: &'a [&'a str],
+}
 
 const NAME: &str = "ffv1";
 
@@ -246,6 +261,29 @@ fn add_codec_id<'a>(
     command.arg(word_arg(alloc, "codec-id", codec_ids, "native", help))
 }
 
+/// The options of what Matroska says of colours.
+fn add_colour<'a>(
+    alloc: Global,
+    words: OptionWords<'a>,
+    command: Command<'a>,
+) -> Result<Command<'a>, AllocError>
+    requires { (fields_of command).has_globals ≡ false }
+    ensures { IfOk result (λ c. (app_of c ≡ with_colour words.entry (app_of command.entry))
+        × ((fields_of c).has_globals ≡ false)) }
+{
+    let range = "In Matroska the range of samples' values; auto: as the video says, if it does";
+    let siting = "In Matroska where chroma lies; auto: as the video says, if it does";
+    let primaries = "In Matroska ColourPrimaries of ITU-T H.273, 0 to 255; 2 says nothing";
+    let transfer = "In Matroska TransferCharacteristics of ITU-T H.273, 0 to 255; 2 says nothing";
+    let matrix = "In Matroska MatrixCoefficients of ITU-T H.273, 0 to 255; 2 says nothing";
+    command
+        .arg(word_arg(alloc, "range", words.ranges, "auto", range))?
+        .arg(word_arg(alloc, "siting", words.sitings, "auto", siting))?
+        .arg(number_arg(alloc, "primaries", 0, 255, "2", primaries))?
+        .arg(number_arg(alloc, "transfer", 0, 255, "2", transfer))?
+        .arg(number_arg(alloc, "matrix", 0, 255, "2", matrix))
+}
+
 fn add_verify<'a>(alloc: Global, command: Command<'a>) -> Result<Command<'a>, AllocError>
     requires { (fields_of command).has_globals ≡ false }
     ensures { IfOk result (λ c.
@@ -255,25 +293,21 @@ fn add_verify<'a>(alloc: Global, command: Command<'a>) -> Result<Command<'a>, Al
     command.arg(flag_arg(alloc, "verify", help))
 }
 
-fn pack_command<'a>(
-    alloc: Global,
-    contexts: &'a [&'a str],
-    containers: &'a [&'a str],
-    codec_ids: &'a [&'a str],
-) -> Result<Command<'a>, AllocError>
+fn pack_command<'a>(alloc: Global, words: OptionWords<'a>) -> Result<Command<'a>, AllocError>
     ensures { IfOk result (λ c.
-        (app_of c ≡ pack_app contexts.entry containers.entry codec_ids.entry)
+        (app_of c ≡ pack_app words.entry)
         × ((fields_of c).has_globals ≡ false)) }
 {
     let about = "Code a video, YUV4MPEG2 or binary PPM, as FFV1 in AVI or Matroska";
     let input = "The video, or - for standard input: PPM if its first byte is P, else YUV4MPEG2";
     let output = "The file, or - for standard output: written anew as soon as it has a byte";
     let command = two_files_command(alloc, "pack", about, input, output)?;
-    let command = add_model(alloc, contexts, command)?;
+    let command = add_model(alloc, words.contexts, command)?;
     let command = add_slices(alloc, command)?;
     let command = add_pace(alloc, command)?;
-    let command = add_container(alloc, containers, command)?;
-    let command = add_codec_id(alloc, codec_ids, command)?;
+    let command = add_container(alloc, words.containers, command)?;
+    let command = add_codec_id(alloc, words.codec_ids, command)?;
+    let command = add_colour(alloc, words, command)?;
     let command = add_verify(alloc, command)?;
     add_making(alloc, command)
 }
@@ -295,9 +329,11 @@ fn check_command<'a>(alloc: Global) -> Result<Command<'a>, AllocError>
     let about = "Decode all frames of files, and tell of each what it takes";
     let all = "Go on after a frame that is refused, and count those";
     let place = "Say where: slice, plane, line and column of a frame, or the byte of the file";
+    let quiet = "Print one line of each file: that it is sound, or its first fault and the place";
     some_files_command(alloc, "check", about, CODED_FILES)?
         .arg(flag_arg(alloc, "all", all))?
         .arg(flag_arg(alloc, "place", place))?
+        .arg(flag_arg(alloc, "quiet", quiet))?
         .arg(progress_arg(alloc))
 }
 
@@ -345,56 +381,53 @@ fn top_command<'a>(alloc: Global) -> Command<'a>
     .arg_required_else_help(true)
 }
 
-fn files_command<'a>(
-    alloc: Global,
-    contexts: &'a [&'a str],
-    containers: &'a [&'a str],
-    codec_ids: &'a [&'a str],
-) -> Result<Command<'a>, AllocError>
+fn files_command<'a>(alloc: Global, words: OptionWords<'a>) -> Result<Command<'a>, AllocError>
     ensures { IfOk result (λ c.
-        (app_of c ≡ files_app contexts.entry containers.entry codec_ids.entry)
+        (app_of c ≡ files_app words.entry)
         × ((fields_of c).has_globals ≡ false)) }
 {
     top_command(alloc)
-        .subcommand(pack_command(alloc, contexts, containers, codec_ids)?)?
+        .subcommand(pack_command(alloc, words)?)?
         .subcommand(unpack_command(alloc)?)
 }
 
-fn looks_command<'a>(
-    alloc: Global,
-    contexts: &'a [&'a str],
-    containers: &'a [&'a str],
-    codec_ids: &'a [&'a str],
-) -> Result<Command<'a>, AllocError>
+fn looks_command<'a>(alloc: Global, words: OptionWords<'a>) -> Result<Command<'a>, AllocError>
     ensures { IfOk result (λ c.
-        (app_of c ≡ looks_app contexts.entry containers.entry codec_ids.entry)
+        (app_of c ≡ looks_app words.entry)
         × ((fields_of c).has_globals ≡ false)) }
 {
-    files_command(alloc, contexts, containers, codec_ids)?
+    files_command(alloc, words)?
         .subcommand(check_command(alloc)?)?
         .subcommand(show_command(alloc)?)
 }
 
-fn line_command<'a>(
-    alloc: Global,
-    contexts: &'a [&'a str],
-    containers: &'a [&'a str],
-    codec_ids: &'a [&'a str],
-) -> Result<Command<'a>, AllocError>
+fn line_command<'a>(alloc: Global, words: OptionWords<'a>) -> Result<Command<'a>, AllocError>
     ensures { IfOk result (λ c.
-        (app_of c ≡ line_app contexts.entry containers.entry codec_ids.entry)
+        (app_of c ≡ line_app words.entry)
         × ((fields_of c).has_globals ≡ false)) }
 {
-    looks_command(alloc, contexts, containers, codec_ids)?
+    looks_command(alloc, words)?
         .subcommand(framemd5_command(alloc)?)?
         .subcommand(trial_command(alloc)?)
+}
+
+/// The words that options take.
+fn option_words() -> OptionWords<'static>
+    ensures { AreOptionWords result }
+{
+    OptionWords {
+        contexts: CONTEXTS.as_slice(),
+        containers: CONTAINERS.as_slice(),
+        codec_ids: CODEC_IDS.as_slice(),
+        ranges: RANGES.as_slice(),
+        sitings: SITINGS.as_slice(),
+    }
 }
 
 fn refusal(alloc: Global, kind: ErrorKind, why: &str) -> Result<Error, AllocError>
     ensures { IfOk result (λ e. kind_of e ≡ kind) }
 {
-    let (contexts, containers) = (CONTEXTS.as_slice(), CONTAINERS.as_slice());
-    line_command(alloc, contexts, containers, CODEC_IDS.as_slice())?.error(kind, why)
+    line_command(alloc, option_words())?.error(kind, why)
 }
 
 fn without_conflict<'a>(alloc: Global, order: Order<'a>) -> Result<Order<'a>, Error>
@@ -408,28 +441,16 @@ fn without_conflict<'a>(alloc: Global, order: Order<'a>) -> Result<Order<'a>, Er
     }
 }
 
-/// `words`, by a line whose `--contexts`, `--container` and `--codec-id` take these words.
-fn read<'a>(
-    alloc: Global,
-    contexts: &'a [&'a str],
-    containers: &'a [&'a str],
-    codec_ids: &'a [&'a str],
-    words: &'a [&'a str],
-) -> Result<Order<'a>, Error>
-    requires contexts { AreContexts contexts }
-    requires containers { AreContainers containers }
-    requires codec_ids { AreCodecIds codec_ids }
-    ensures ok { IfOk result (IsOrder (line_app contexts.entry containers.entry codec_ids.entry)
+/// `words`, by a line whose options take these words.
+fn read<'a>(alloc: Global, lists: OptionWords<'a>, words: &'a [&'a str]) -> Result<Order<'a>, Error>
+    requires { AreOptionWords lists }
+    ensures ok { IfOk result (IsOrder (line_app lists.entry) (map (λ w. w.now) words.entry.now)) }
+    ensures err { IfErr result (IsRefused (line_app lists.entry)
         (map (λ w. w.now) words.entry.now)) }
-    ensures err { IfErr result (IsRefused (line_app contexts.entry containers.entry codec_ids.entry)
-        (map (λ w. w.now) words.entry.now)) }
-    ensures taken { IfErr result (IsRefusedIfTaken
-        (line_app contexts.entry containers.entry codec_ids.entry)
+    ensures taken { IfErr result (IsRefusedIfTaken (line_app lists.entry)
         (map (λ w. w.now) words.entry.now)) }
 {
-    let matches = line_command(alloc, contexts, containers, codec_ids)?.try_get_matches_from(
-        words,
-    )?;
+    let matches = line_command(alloc, lists)?.try_get_matches_from(words)?;
     if let Some((name, rows)) = matches.subcommand() {
         let inputs = paths(alloc, rows, "IN")?;
         if let Some(order) = order_of(name, rows, inputs) {
@@ -448,9 +469,9 @@ fn read<'a>(
 /// order, which none does; or an `ArgumentConflict`, if `pack` or `unpack` has one
 /// text for both its files other than `-`, or writes to `/dev/stdout`, `/dev/fd/1` or
 /// `/proc/self/fd/1`, if `pack` without a container writes to a name that ends in `.mov`,
-/// `.mp4`, `.mxf`, `.y4m` or `.ppm`, in letters of either case, if `pack` is given a codec ID
-/// and does not write Matroska, or `check`, `show` or `framemd5` have `-` more than once; or memory
-/// was refused. A line that clap takes names an order, and fails
+/// `.mp4`, `.mxf`, `.y4m` or `.ppm`, in letters of either case, if `pack` is given a codec ID, or
+/// something to say of colours, and does not write Matroska, or `check`, `show` or `framemd5` have
+/// `-` more than once; or memory was refused. A line that clap takes names an order, and fails
 /// for want of memory and for such a conflict alone.
 ///
 /// The list of the files of `check`, `show` and `framemd5` is kept until the program ends.
@@ -462,6 +483,5 @@ pub fn words<'a>(alloc: Global, words: &'a [&'a str]) -> Result<Order<'a>, Error
     ensures taken { IfErr result (λ e.
         OnLine (λ line. IsRefusedIfTaken line (map (λ w. w.now) words.entry.now) e)) }
 {
-    let (contexts, containers) = (CONTEXTS.as_slice(), CONTAINERS.as_slice());
-    read(alloc, contexts, containers, CODEC_IDS.as_slice(), words)
+    read(alloc, option_words(), words)
 }

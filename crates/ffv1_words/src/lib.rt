@@ -17,5 +17,8 @@ mod order;
 mod topic;
 
 pub use command_line::{VERSION, words};
-pub use order::{Choice, CodecIdChoice, CoderChoice, ContainerChoice, Order, is_hyphen};
+pub use order::{
+    Choice, CodecIdChoice, CoderChoice, ColourChoice, ContainerChoice, Order, RangeChoice,
+    SitingChoice, is_hyphen,
+};
 pub use topic::{Topic, help_topic};

@@ -6,14 +6,20 @@ ghost use Rattle.clap.specs.Words.{all_of, found_of, first_of, rows_of};
 ghost use Rattle.ffv1_words.specs.declared.order.Choice.{Choice};
 ghost use Rattle.ffv1_words.specs.declared.order.CodecIdChoice.{CodecIdChoice};
 ghost use Rattle.ffv1_words.specs.declared.order.CoderChoice.{CoderChoice};
+ghost use Rattle.ffv1_words.specs.declared.order.ColourChoice.{ColourChoice};
 ghost use Rattle.ffv1_words.specs.declared.order.ContainerChoice.{ContainerChoice};
+ghost use Rattle.ffv1_words.specs.declared.order.RangeChoice.{RangeChoice};
+ghost use Rattle.ffv1_words.specs.declared.order.SitingChoice.{SitingChoice};
 ghost use Rattle.ffv1_words.specs.Order.{ArePaths, Names, NamesChoice, NamesFlag, NamesNone};
-ghost use Rattle.ffv1_words.specs.Order.{NamesNumber};
+ghost use Rattle.ffv1_words.specs.Order.{NamesColour, NamesNumber};
 ghost use Rattle.ffv1_words.specs.Order.{bit_number, codec_id_word, coder_number, container_word};
-ghost use Rattle.ffv1_words.specs.Order.{contexts_word};
-ghost use Rattle.ffv1_words.specs.Order.{is_given, is_of_words, names_no_grid};
+ghost use Rattle.ffv1_words.specs.Order.{contexts_word, range_word, siting_word};
+ghost use Rattle.ffv1_words.specs.Order.{is_given, is_of_words, names_no_grid, names_rate};
 
-use crate::order::{Choice, CodecIdChoice, CoderChoice, ContainerChoice, Order};
+use crate::order::{
+    Choice, CodecIdChoice, CoderChoice, ColourChoice, ContainerChoice, Order, RangeChoice,
+    SitingChoice,
+};
 use clap::ArgMatches;
 use clap::parser::ValueSource;
 use std::alloc::{AllocError, Global};
@@ -139,6 +145,75 @@ fn codec_id(rows: &ArgMatches<'_>) -> Option<CodecIdChoice>
     }
 }
 
+fn range(rows: &ArgMatches<'_>) -> Option<RangeChoice>
+    ensures some { IfSome result (λ c.
+        first_of (codes "range") (rows_of (found_of rows.now)) ≡ Some (range_word c)) }
+    ensures none { IsNone result → (c : RangeChoice)
+        → first_of (codes "range") (rows_of (found_of rows.now)) ≡ Some (range_word c) → ⊥ }
+{
+    let word = path(rows, "range")?;
+    if word == "auto" {
+        Some(RangeChoice::Auto)
+    } else if word == "limited" {
+        Some(RangeChoice::Limited)
+    } else if word == "full" {
+        Some(RangeChoice::Full)
+    } else {
+        None
+    }
+}
+
+fn siting(rows: &ArgMatches<'_>) -> Option<SitingChoice>
+    ensures some { IfSome result (λ c.
+        first_of (codes "siting") (rows_of (found_of rows.now)) ≡ Some (siting_word c)) }
+    ensures none { IsNone result → (c : SitingChoice)
+        → first_of (codes "siting") (rows_of (found_of rows.now)) ≡ Some (siting_word c) → ⊥ }
+{
+    let word = path(rows, "siting")?;
+    if word == "auto" {
+        Some(SitingChoice::Auto)
+    } else if word == "left" {
+        Some(SitingChoice::Left)
+    } else if word == "centre" {
+        Some(SitingChoice::Centre)
+    } else if word == "topleft" {
+        Some(SitingChoice::TopLeft)
+    } else {
+        None
+    }
+}
+
+/// A number from 0 to 255.
+fn small_number(rows: &ArgMatches<'_>, id: &str) -> Option<u8>
+    ensures some { IfSome result (λ n.
+        NamesNumber (rows_of (found_of rows.now)) id.now 0 255 n) }
+    ensures none { IsNone result
+        → (n : ℕ) → NamesNumber (rows_of (found_of rows.now)) id.now 0 255 n → ⊥ }
+{
+    let n = number(rows, id, 0, 255)?;
+    Some(n as u8)
+}
+
+/// What Matroska says of colours.
+fn colour(rows: &ArgMatches<'_>) -> Option<ColourChoice>
+    ensures some { IfSome result (λ c. NamesColour (rows_of (found_of rows.now)) c) }
+    ensures none { IsNone result
+        → (c : ColourChoice) → NamesColour (rows_of (found_of rows.now)) c → ⊥ }
+{
+    let range = range(rows)?;
+    let siting = siting(rows)?;
+    let primaries = small_number(rows, "primaries")?;
+    let transfer = small_number(rows, "transfer")?;
+    let matrix = small_number(rows, "matrix")?;
+    Some(ColourChoice {
+        range,
+        siting,
+        primaries,
+        transfer,
+        matrix,
+    })
+}
+
 fn is_of_words(source: ValueSource) -> bool
     ensures { result ≡ is_of_words (Some source) }
 {
@@ -165,6 +240,13 @@ fn names_no_grid(rows: &ArgMatches<'_>) -> bool
     !is_given(rows, "columns") && !is_given(rows, "rows")
 }
 
+/// Whether the words give how many frames there are in a second, by either of its two numbers.
+fn names_rate(rows: &ArgMatches<'_>) -> bool
+    ensures { result ≡ names_rate (rows_of (found_of rows.now)) }
+{
+    is_given(rows, "rate") || is_given(rows, "scale")
+}
+
 fn choice(matches: &ArgMatches<'_>) -> Option<Choice>
     ensures some { IfSome result (λ c. NamesChoice (rows_of (found_of matches.now)) c) }
     ensures none { IsNone result
@@ -179,6 +261,7 @@ fn choice(matches: &ArgMatches<'_>) -> Option<Choice>
     let scale = number(matches, "scale", 1, 4294967295)?;
     let verify = flag(matches, "verify")?;
     let codec_id = codec_id(matches)?;
+    let colour = colour(matches)?;
     Some(Choice {
         coder,
         large,
@@ -191,6 +274,8 @@ fn choice(matches: &ArgMatches<'_>) -> Option<Choice>
         verify,
         codec_id,
         codec_id_given: is_given(matches, "codec-id"),
+        rate_given: names_rate(matches),
+        colour,
     })
 }
 
@@ -241,11 +326,13 @@ fn check_order<'a>(rows: &ArgMatches<'a>, inputs: Option<&'a [&'a str]>) -> Opti
     let inputs = inputs?;
     let all = flag(rows, "all")?;
     let place = flag(rows, "place")?;
+    let quiet = flag(rows, "quiet")?;
     let progress = flag(rows, "progress")?;
     Some(Order::Check {
         inputs,
         all,
         place,
+        quiet,
         progress,
     })
 }

@@ -4,6 +4,7 @@ ghost use Rattle.std.specs.Prelude.{◌≡◌, ◌||◌, is_some, map};
 ghost use Rattle.ffv1_words.specs.Order.{are_in_conflict, has_ending, is_another_name, is_conflict};
 ghost use Rattle.ffv1_words.specs.Order.{is_hyphen, is_in_conflict, is_matroska, is_matroska_name};
 ghost use Rattle.ffv1_words.specs.Order.{is_misnamed, is_standard_output, lacks_codec_id};
+ghost use Rattle.ffv1_words.specs.Order.{lacks_colour, says_colour};
 
 /// Which state transition table `pack` codes with.
 #[derive(Clone, Copy, Debug, PartialEq, Eq)]
@@ -34,6 +35,59 @@ pub enum CodecIdChoice {
     Vfw,
 }
 
+/// The range of the samples' values that `pack` says in Matroska.
+#[derive(Clone, Copy, Debug, PartialEq, Eq)]
+pub enum RangeChoice {
+    /// That of the video, if it says one.
+    Auto,
+    /// Limited range.
+    Limited,
+    /// Full range.
+    Full,
+}
+
+/// Where samples of chroma lie, as `pack` says it in Matroska.
+#[derive(Clone, Copy, Debug, PartialEq, Eq)]
+pub enum SitingChoice {
+    /// As the video says it, if it does.
+    Auto,
+    /// On the left samples, half way between lines.
+    Left,
+    /// Half way between samples and lines.
+    Centre,
+    /// On the upper left sample.
+    TopLeft,
+}
+
+/// What `pack` says of colours in Matroska, above what the video says; the numbers are those of
+/// ITU-T H.273, in which 2 says nothing.
+#[derive(Clone, Copy, Debug, PartialEq, Eq)]
+pub struct ColourChoice {
+    /// The range.
+    pub range: RangeChoice,
+    /// The siting of chroma.
+    pub siting: SitingChoice,
+    /// ColourPrimaries.
+    pub primaries: u8,
+    /// TransferCharacteristics.
+    pub transfer: u8,
+    /// MatrixCoefficients.
+    pub matrix: u8,
+}
+
+impl ColourChoice {
+    /// Whether it says anything: a range, a siting, or a number other than 2.
+    fn says_colour(self) -> bool
+        ensures { result ≡ says_colour self }
+    {
+        self.range != RangeChoice::Auto
+            || self.siting != SitingChoice::Auto
+            || self.primaries != 2
+            || self.transfer != 2
+            || self.matrix != 2
+    }
+}
+
 /// How `pack` codes.
 #[derive(Clone, Copy, Debug, PartialEq, Eq)]
 pub struct Choice {
@@ -60,6 +114,10 @@ pub struct Choice {
     pub codec_id: CodecIdChoice,
     /// Whether the line gives that: such a line is refused if no Matroska is written.
     pub codec_id_given: bool,
+    /// Whether the line gives `rate` or `scale`: a video whose format tells its rate keeps that.
+    pub rate_given: bool,
+    /// What Matroska says of colours: a line that says any is refused if no Matroska is written.
+    pub colour: ColourChoice,
 }
 
 impl Choice {
@@ -69,6 +127,14 @@ impl Choice {
         ensures { result ≡ lacks_codec_id self.now container output.now }
     {
         self.codec_id_given && !container.is_matroska(output)
+    }
+
+    /// Whether the line says something of colours, and what this container writes to an output of
+    /// this name has no place for it.
+    fn lacks_colour(&self, container: ContainerChoice, output: &str) -> bool
+        ensures { result ≡ lacks_colour self.now container output.now }
+    {
+        self.colour.says_colour() && !container.is_matroska(output)
     }
 }
 
@@ -109,6 +175,8 @@ pub enum Order<'a> {
         all: bool,
         /// Whether to print the place of a fault too.
         place: bool,
+        /// Whether to print one line of each file, in place of those of its frames.
+        quiet: bool,
         /// Whether to say how much of the file is read.
         progress: bool,
     },
@@ -219,7 +287,8 @@ fn pack_conflict(
 ) -> Option<&'static str>
     ensures { is_some result
         ≡ (is_conflict input.now output.now || (is_misnamed container output.now
-        || lacks_codec_id choice.now container output.now)) }
+        || (lacks_codec_id choice.now container output.now
+        || lacks_colour choice.now container output.now))) }
 {
     if let Some(why) = conflict_of(input, output) {
         return Some(why);
@@ -231,6 +300,9 @@ fn pack_conflict(
     }
     if choice.lacks_codec_id(container, output) {
         return Some("AVI has no --codec-id: end OUT in .mkv, or give --container mkv");
+    }
+    if choice.lacks_colour(container, output) {
+        return Some("AVI has no place for colours: end OUT in .mkv, or give --container mkv");
     }
     None
 }

@@ -1,5 +1,6 @@
 -- A text that `pack` has packed is unpacked again.
 use Rattle.std.proofs.Common.{◌∙◌, refl, sym}
+use Rattle.ffv1_engine.specs.Colours.{plain_choice}
 use Rattle.ffv1_engine.specs.Grids.{choice_for}
 use Rattle.ffv1_engine.specs.Profiles.{greatest_depth}
 use Rattle.ffv1_engine.specs.declared.profile.Profile.{Profile}
@@ -14,11 +15,12 @@ use Rattle.ffv1_engine.specs.RoundTrip.{IsFileIn, text_video, video_in}
 use Rattle.ffv1_engine.proofs.MatroskaUnpacked.{MatroskaLaws, accepted_wide, begun_read, file_is}
 use Rattle.ffv1_engine.proofs.MatroskaUnpacked.{file_reads, given as of_matroska}
 use Rattle.ffv1_engine.proofs.MatroskaUnpacked.{packed_so as matroska_so, read_wide, writable}
-use Rattle.ffv1_engine.proofs.PackedIsUnpacked.{FileLaws, accepted_as, avi_is, avi_reads}
-use Rattle.ffv1_engine.proofs.PackedIsUnpacked.{check_refused, given, holds, lined_by, packed_so}
-use Rattle.ffv1_engine.proofs.PackedIsUnpacked.{again_by, again_text, ppm_by, read_in, same_ppm, same_video}
-use Rattle.ffv1_engine.proofs.PackedIsUnpacked.{strict_by}
-use Rattle.ffv1_engine.proofs.PackedIsUnpacked.{show_refused, unpack_refused, written}
+use Rattle.ffv1_engine.proofs.CanonicalVideos.{FileLaws, again_by, again_text, lined_by, ppm_shown}
+use Rattle.ffv1_engine.proofs.CanonicalVideos.{strict_by}
+use Rattle.ffv1_engine.proofs.PackedIsUnpacked.{accepted_as, avi_is, avi_reads, check_refused}
+use Rattle.ffv1_engine.proofs.PackedIsUnpacked.{given, holds, packed_so, read_in, same_ppm}
+use Rattle.ffv1_engine.proofs.PackedIsUnpacked.{same_video, show_refused, unpack_refused, written}
+use Rattle.ffv1_engine.proofs.PackedPictures.{name_given}
 use Rattle.ffv1_engine.proofs.PackedText.{RecordLaws}
 use Rattle.ffv1_engine.proofs.round_trip.packed_is_unpacked.Goals as goal
 
@@ -105,7 +107,7 @@ returns-clause-read c = read_in
 
 pub returns-clause-holds : goal.returns-clause-holds
 returns-clause-holds c = λ packing profile choice text w read.
-    holds profile (file_laws profile c) (frame_laws c) (record_laws c) choice (video_in w) (accepted_as profile w) refl read.deep (given packing profile (file_laws profile c) (frame_laws c) choice text w read)
+    holds profile (file_laws profile c) (frame_laws c) (record_laws c) (plain_choice choice) (video_in w) (accepted_as profile w) refl read.deep (given packing profile (file_laws profile c) (frame_laws c) choice text w read)
     (packed_file choice (text_video w) (accepted_as profile w))
     (avi_reads packing profile (file_laws profile c) (frame_laws c) (record_laws c) choice text w
     read) (IsFileIn profile) (avi_is packing profile (file_laws profile c) (frame_laws c)
@@ -113,28 +115,28 @@ returns-clause-holds c = λ packing profile choice text w read.
 
 pub returns-clause-written : goal.returns-clause-written
 returns-clause-written c = λ packing profile choice text w input output count read.
-    written profile (file_laws profile c) (frame_laws c) (record_laws c) choice (video_in w) (accepted_as profile w) refl read.deep (given packing profile (file_laws profile c) (frame_laws c) choice text w read)
+    written profile (file_laws profile c) (frame_laws c) (record_laws c) (plain_choice choice) (video_in w) (accepted_as profile w) refl read.deep (given packing profile (file_laws profile c) (frame_laws c) choice text w read)
     (packed_file choice (text_video w) (accepted_as profile w))
     (avi_reads packing profile (file_laws profile c) (frame_laws c) (record_laws c) choice text w
     read) input output count
 
 pub returns-clause-refused : goal.returns-clause-refused
 returns-clause-refused c = λ packing profile choice text w input output f read known stops.
-    unpack_refused profile (file_laws profile c) (frame_laws c) (record_laws c) choice (video_in w) (accepted_as profile w) refl read.deep (given packing profile (file_laws profile c) (frame_laws c) choice text w read)
+    unpack_refused profile (file_laws profile c) (frame_laws c) (record_laws c) (plain_choice choice) (video_in w) (accepted_as profile w) refl read.deep (given packing profile (file_laws profile c) (frame_laws c) choice text w read)
     (packed_file choice (text_video w) (accepted_as profile w))
     (avi_reads packing profile (file_laws profile c) (frame_laws c) (record_laws c) choice text w
     read) input output known f stops
 
 pub returns-clause-checked : goal.returns-clause-checked
 returns-clause-checked c = λ packing profile choice text w place input output f read known stops.
-    check_refused profile (file_laws profile c) (frame_laws c) (record_laws c) choice (video_in w) (accepted_as profile w) refl read.deep (given packing profile (file_laws profile c) (frame_laws c) choice text w read)
+    check_refused profile (file_laws profile c) (frame_laws c) (record_laws c) (plain_choice choice) (video_in w) (accepted_as profile w) refl read.deep (given packing profile (file_laws profile c) (frame_laws c) choice text w read)
     (packed_file choice (text_video w) (accepted_as profile w))
     (avi_reads packing profile (file_laws profile c) (frame_laws c) (record_laws c) choice text w
     read) input output known place f stops
 
 pub returns-clause-shown : goal.returns-clause-shown
 returns-clause-shown c = λ packing profile choice text w cost input output f read known stops.
-    show_refused profile (file_laws profile c) (frame_laws c) (record_laws c) choice (video_in w) (accepted_as profile w) refl read.deep (given packing profile (file_laws profile c) (frame_laws c) choice text w read)
+    show_refused profile (file_laws profile c) (frame_laws c) (record_laws c) (plain_choice choice) (video_in w) (accepted_as profile w) refl read.deep (given packing profile (file_laws profile c) (frame_laws c) choice text w read)
     (packed_file choice (text_video w) (accepted_as profile w))
     (avi_reads packing profile (file_laws profile c) (frame_laws c) (record_laws c) choice text w
     read) input output known cost f stops
@@ -143,8 +145,10 @@ pub returns-clause-same : goal.returns-clause-same
 returns-clause-same c = same_video (file_laws Strict c)
 
 pub returns-clause-kept : goal.returns-clause-kept
-returns-clause-kept c = λ packing choice text w none. kept_text w.packs.video.ppm w.packs.video.head
-    w.packs.video.pictures (sym w.packs.loses ∙ none)
+returns-clause-kept c = λ packing choice text w none. kept_text choice.colour w.packs.video.ppm
+    w.packs.video.head w.packs.video.pictures (name_given c.said_chroma_has_a_name.ensures
+    (greatest_depth packing) w.packs.video.ppm text w.packs.video.head w.packs.video.pictures
+    (packed_so packing choice text w)) (sym w.packs.loses ∙ none)
 
 pub returns-clause-packed : goal.returns-clause-packed
 returns-clause-packed c = packed_so
@@ -199,13 +203,14 @@ returns-clause-matroska_shown c = λ packing choice text w cost input output f k
 
 pub returns-clause-matroska_same : goal.returns-clause-matroska_same
 returns-clause-matroska_same c = λ packing choice text w. again_by (file_laws Wide c)
-    c.text_is_read_as_its_images.ensures.same (greatest_depth packing) w.packs.video.ppm text
-    w.packs.video.head w.packs.video.pictures (matroska_so packing choice text w)
+    c.text_is_read_as_its_images.ensures.same choice.colour (greatest_depth packing)
+    w.packs.video.ppm text w.packs.video.head w.packs.video.pictures (matroska_so packing choice text w)
 
 pub returns-clause-matroska_again : goal.returns-clause-matroska_again
 returns-clause-matroska_again c = λ packing choice text w. again_text (file_laws Wide c)
-    (c.text_is_read_as_its_pictures.ensures.same) packing w.packs.video.ppm text w.packs.video.head
-    w.packs.video.pictures (matroska_so packing choice text w)
+    c.text_is_read_as_its_pictures.ensures.same choice.colour (greatest_depth packing)
+    w.packs.video.ppm text w.packs.video.head w.packs.video.pictures
+    (matroska_so packing choice text w)
 
 pub returns-clause-matroska_packed : goal.returns-clause-matroska_packed
 returns-clause-matroska_packed c = matroska_so
@@ -216,9 +221,9 @@ returns-clause-matroska_strict c = λ choice text w. lined_by
     w.packs.video.pictures (matroska_so Strict choice text w)
 
 pub returns-clause-matroska_ppm : goal.returns-clause-matroska_ppm
-returns-clause-matroska_ppm c = λ packing choice text w is. ppm_by w.packs.video.ppm text
-    w.packs.video.head w.packs.video.pictures is
+returns-clause-matroska_ppm c = λ packing choice text w is. ppm_shown choice.colour w.packs.video.ppm
+    text w.packs.video.head w.packs.video.pictures is
 
 pub returns-clause-begun : goal.returns-clause-begun
-returns-clause-begun c = λ profile choice v a has some rated. begun_read (matroska_laws c) choice v a some
-    (writable profile (frame_laws c) (record_laws c) choice v a has some rated)
+returns-clause-begun c = λ profile choice v a has some rated coloured. begun_read (matroska_laws c)
+    choice v a some (writable profile (frame_laws c) (record_laws c) choice v a has some rated coloured)

@@ -1,20 +1,7 @@
-use Rattle.std.proofs.Common.{◌≡◌, ◌∙◌, ◌||◌, ap, ap₂, false}
-use Rattle.std.proofs.lemmas.Result.{IfOk-weaker}
-use Rattle.clap.specs.Words.{AddsArg, app_of, with_rule}
-use Rattle.clap.specs.declared.builder.command.Command.{Command}
-use Rattle.clap.specs.declared.builder.command.Command.TheViews.{out-Command as fields_of}
-use Rattle.ffv1_words.specs.CommandLine.{with_container}
+use Rattle.std.proofs.Common.{refl}
+use Rattle.ffv1_words.proofs.AddedArgument.{added_last}
 use Rattle.ffv1_words.proofs.command_line.add_container.Goals as goal
 
 pub returns : goal.returns
 returns c =
-    IfOk-weaker c.arg.result (AddsArg c.args.command c.word_arg.result)
-    (λ (x : Command). (app_of x ≡ with_container c.args.containers (app_of c.args.command)) ×
-    ((fields_of x).has_globals ≡ false))
-    (λ x adds. (
-      adds.shape c.word_arg.ensures.own ∙ ap (with_rule (app_of c.args.command))
-          c.word_arg.ensures.rule,
-      adds.globals ∙ ap₂ (λ a b. a || b) c.requires
-          c.word_arg.ensures.own,
-    ))
-    c.arg.ensures
+    added_last _ _ _ _ _ c.arg.ensures (refl, c.requires) c.word_arg.ensures.rule c.word_arg.ensures.own

@@ -1,7 +1,14 @@
 -- The command `check`: its files, and what it says of them.
-use Rattle.std.proofs.lemmas.Grind.{common_steps}
-use Rattle.std.proofs.Common.{arith}
+use Rattle.ffv1_words.proofs.AddedArgument.{added, added_last}
 use Rattle.ffv1_words.proofs.command_line.check_command.Goals as goal
 
 pub returns : goal.returns
-returns c = grind (arith, common_steps)
+returns c =
+    let all = added _ _ _ _ _ c.in_ok-arg.ensures c.in_ok-some_files_command.ensures
+    c.flag_arg.ensures.rule c.flag_arg.ensures.own in
+    let place = added _ _ _ _ _ c.in_ok-arg-2.ensures all c.flag_arg-2.ensures.rule
+    c.flag_arg-2.ensures.own in
+    let quiet = added _ _ _ _ _ c.in_ok-arg-3.ensures place c.flag_arg-3.ensures.rule
+    c.flag_arg-3.ensures.own in
+    added_last _ _ _ _ _ c.arg-4.ensures quiet c.progress_arg.ensures.rule
+    c.progress_arg.ensures.own

@@ -1,11 +1,12 @@
--- `words`, by a line whose `--contexts` and `--container` take these words.
+-- `words`, by a line whose options take these words.
 use Rattle.std.proofs.Common.{◌≡◌, ◌∙◌, ◌⊎◌, inl, inr, sym, ap, ap₂, subst, map, List, []}
 use Rattle.std.proofs.Common.{option_map, Option, Some, None, refl, true, false}
 use Rattle.std.proofs.lemmas.Result.{IfErr-weaker, IfOk-weaker, err_from_is_err_and}
 use Rattle.clap.specs.Words.{HasKind, Row, Text, is_simple, is_simple_and_free, fault_of, kind_of}
 use Rattle.clap.specs.Words.{takes, subcommand_of, rows_of, found_of}
 use Rattle.clap.proofs.OnLiterals.{clap_on_literals}
-use Rattle.ffv1_words.specs.CommandLine.{Words, line_app}
+use Rattle.ffv1_words.specs.CommandLine.{line_app}
+use Rattle.ffv1_words.specs.declared.command_line.OptionWords.{OptionWords}
 use Rattle.clap.specs.declared.error.Error.{Error}
 use Rattle.clap.specs.declared.error.kind.ErrorKind.TheVariants as kind
 use Rattle.ffv1_words.specs.Order.{IsOrder, IsRefused, IsRefusedIfTaken, Names, NamesNone}
@@ -16,13 +17,13 @@ use Rattle.ffv1_words.proofs.command_line.read.Goals as goal
 use Rattle.ffv1_words.proofs.command_line.read.Goals.{in-Some+in_ok-inputs+in_default-order_of}
 use Rattle.ffv1_words.proofs.command_line.read.Goals.{in_default}
 
-simple : (contexts containers codec_ids : Words) → is_simple (line_app contexts containers codec_ids) ≡ true
+simple : (lists : OptionWords) → is_simple (line_app lists) ≡ true
 unfolding clap_on_literals
-simple contexts containers codec_ids = refl
+simple lists = refl
 
-free : (contexts containers codec_ids : Words) → is_simple_and_free (line_app contexts containers codec_ids) ≡ true
+free : (lists : OptionWords) → is_simple_and_free (line_app lists) ≡ true
 unfolding clap_on_literals
-free contexts containers codec_ids = refl
+free lists = refl
 
 -- a subcommand's name and its rows, which are answered one by one
 both_told : {X : Type 0} (s : Option X) (f : X → Text × List Row) (t : Text) (rs : List Row) → Some
@@ -45,8 +46,7 @@ returns-in_err-matches-clause-err c =
     let texts : List Text = map (λ w. w.now) c.args.words.now in
     let app = c.in_ok-line_command.ensures.0 in
     rw (p.1, p.2) (inl (subst (λ a. HasKind (fault_of a texts) c.in_err-matches.field-0.0) app
-    (c.in_err-matches.ensures.kinds (ap is_simple_and_free app ∙ free c.args.contexts
-    c.args.containers c.args.codec_ids))))
+    (c.in_err-matches.ensures.kinds (ap is_simple_and_free app ∙ free c.args.lists))))
 
 pub returns-in_err-matches-clause-taken : goal.returns-in_err-matches-clause-taken
 returns-in_err-matches-clause-taken c =
@@ -58,16 +58,15 @@ returns-in_err-matches-clause-taken c =
 
 -- the order that was found is what the line names
 named : (c : goal.Joined-matches-2) → Names c.in-Some-order_of.order
-    (subcommand_of (line_app c.args.contexts c.args.containers c.args.codec_ids) (map (λ w. w.now) c.args.words.now))
+    (subcommand_of (line_app c.args.lists) (map (λ w. w.now) c.args.words.now))
 named c =
     let app = c.in_ok-line_command.ensures.0 in
-    let m = c.in_ok-matches.ensures.matches (ap is_simple app ∙ simple c.args.contexts
-    c.args.containers c.args.codec_ids) in
+    let m = c.in_ok-matches.ensures.matches (ap is_simple app ∙ simple c.args.lists) in
     let texts : List Text = map (λ w. w.now) c.args.words.now in
     let told = both_told _ _ _ _ c.in-Some.ensures.name c.in-Some.ensures.rows in
     let line : ◌≡◌ {A = Option (Text × List Row)}
     (Some (c.in-Some.name.now, rows_of (found_of c.in-Some.rows.now)))
-    (subcommand_of (line_app c.args.contexts c.args.containers c.args.codec_ids) texts) =
+    (subcommand_of (line_app c.args.lists) texts) =
     sym told ∙ m.1 ∙ ap (λ a. subcommand_of a texts) app in
     subst (Names c.in-Some-order_of.order) line c.in-Some-order_of.ensures.some
 
@@ -75,22 +74,21 @@ pub returns-in-Some-order_of-clause-ok : goal.returns-in-Some-order_of-clause-ok
 returns-in-Some-order_of-clause-ok c =
     let texts : List Text = map (λ w. w.now) c.args.words.now in
     IfOk-weaker c.without_conflict.result (λ o. (o ≡ c.in-Some-order_of.order) ×
-    (is_in_conflict o ≡ false)) (IsOrder (line_app c.args.contexts c.args.containers c.args.codec_ids) texts)
+    (is_in_conflict o ≡ false)) (IsOrder (line_app c.args.lists) texts)
     (λ o told. (
-      subst (λ x. Names x (subcommand_of (line_app c.args.contexts c.args.containers c.args.codec_ids)
+      subst (λ x. Names x (subcommand_of (line_app c.args.lists)
           texts)) (sym told.0) (named c),
       told.1,
     ))
     c.without_conflict.ensures.ok
 
 -- clap refuses no such line
-no_fault : (c : goal.Joined-matches-2) → fault_of (line_app c.args.contexts c.args.containers c.args.codec_ids)
+no_fault : (c : goal.Joined-matches-2) → fault_of (line_app c.args.lists)
     (map (λ w. w.now) c.args.words.now) ≡ []
 no_fault c =
     let app = c.in_ok-line_command.ensures.0 in
     sym (ap (λ a. fault_of a (map (λ w. w.now) c.args.words.now)) app) ∙
-    c.in_ok-matches.ensures.kinds (ap is_simple_and_free app ∙ free c.args.contexts
-    c.args.containers c.args.codec_ids)
+    c.in_ok-matches.ensures.kinds (ap is_simple_and_free app ∙ free c.args.lists)
 
 -- why it was refused
 abbrev Refusal : Order → Error → Type 0
@@ -101,7 +99,7 @@ pub returns-in-Some-order_of-clause-err : goal.returns-in-Some-order_of-clause-e
 returns-in-Some-order_of-clause-err c =
     let texts : List Text = map (λ w. w.now) c.args.words.now in
     IfErr-weaker c.without_conflict.result (Refusal c.in-Some-order_of.order)
-    (IsRefused (line_app c.args.contexts c.args.containers c.args.codec_ids) texts)
+    (IsRefused (line_app c.args.lists) texts)
     (λ e why. elim why [
       | inl memory ↦ inl (inl memory)
       | inr conflict ↦ inr (
@@ -120,7 +118,7 @@ pub returns-in-Some-order_of-clause-taken : goal.returns-in-Some-order_of-clause
 returns-in-Some-order_of-clause-taken c =
     let texts : List Text = map (λ w. w.now) c.args.words.now in
     IfErr-weaker c.without_conflict.result (Refusal c.in-Some-order_of.order)
-    (IsRefusedIfTaken (line_app c.args.contexts c.args.containers c.args.codec_ids) texts)
+    (IsRefusedIfTaken (line_app c.args.lists) texts)
     (λ e why taken. elim why [
       | inl memory ↦ inl memory
       | inr conflict ↦ inr (conflict.0, c.in-Some-order_of.order, named c, conflict.1)
@@ -129,23 +127,22 @@ returns-in-Some-order_of-clause-taken c =
 
 -- where no order was found, the line names none
 no_order : (c : goal.Joined-matches-4) → NamesNone
-    (subcommand_of (line_app c.args.contexts c.args.containers c.args.codec_ids) (map (λ w. w.now) c.args.words.now))
+    (subcommand_of (line_app c.args.lists) (map (λ w. w.now) c.args.words.now))
 no_order c =
     let app = c.in_ok-line_command.ensures.0 in
-    let m = c.in_ok-matches.ensures.matches (ap is_simple app ∙ simple c.args.contexts
-    c.args.containers c.args.codec_ids) in
+    let m = c.in_ok-matches.ensures.matches (ap is_simple app ∙ simple c.args.lists) in
     let texts : List Text = map (λ w. w.now) c.args.words.now in
     elim c.match-subcommand.branch [
       | in-Some+in_ok-inputs+in_default-order_of w ↦
           let told = both_told _ _ _ _ w.in-Some.ensures.name w.in-Some.ensures.rows in
           let line : ◌≡◌ {A = Option (Text × List Row)}
           (Some (w.in-Some.name.now, rows_of (found_of w.in-Some.rows.now)))
-          (subcommand_of (line_app c.args.contexts c.args.containers c.args.codec_ids) texts) =
+          (subcommand_of (line_app c.args.lists) texts) =
           sym told ∙ m.1 ∙ ap (λ a. subcommand_of a texts) app in
           subst NamesNone line (w.in_default-order_of.ensures.none refl)
       | in_default w ↦
           let line : ◌≡◌ {A = Option (Text × List Row)} None
-          (subcommand_of (line_app c.args.contexts c.args.containers c.args.codec_ids) texts) =
+          (subcommand_of (line_app c.args.lists) texts) =
           sym (none_told _ _ w.in_default.ensures.rows) ∙ m.1 ∙ ap (λ a. subcommand_of a texts)
           app in
           subst NamesNone line (λ o named. named)
@@ -154,16 +151,14 @@ no_order c =
 pub returns-clause-err : goal.returns-clause-err
 returns-clause-err c =
     let app = c.in_ok-line_command.ensures.0 in
-    let none : fault_of (line_app c.args.contexts c.args.containers c.args.codec_ids)
+    let none : fault_of (line_app c.args.lists)
     (map (λ w. w.now) c.args.words.now) ≡ [] =
     sym (ap (λ a. fault_of a (map (λ w. w.now) c.args.words.now)) app) ∙
-    c.in_ok-matches.ensures.kinds (ap is_simple_and_free app ∙ free c.args.contexts
-    c.args.containers c.args.codec_ids) in
+    c.in_ok-matches.ensures.kinds (ap is_simple_and_free app ∙ free c.args.lists) in
     inr (none, inl (c.in_ok-refusal.ensures, no_order c))
 
 pub returns-clause-taken : goal.returns-clause-taken
 returns-clause-taken c = λ taken.
     let texts : List Text = map (λ w. w.now) c.args.words.now in
-    let order = taken_names c.args.contexts c.args.containers c.args.codec_ids c.requires.contexts
-    c.requires.containers c.requires.codec_ids texts taken in
+    let order = taken_names c.args.lists c.requires texts taken in
     absurd (no_order c order.0 order.1)

@@ -30,3 +30,7 @@ returns-in_err-verify-clause-none c = λ _ x named. c.in_err-verify.ensures.none
 pub returns-in_err-codec_id-clause-none : goal.returns-in_err-codec_id-clause-none
 returns-in_err-codec_id-clause-none c = λ _ x named. c.in_err-codec_id.ensures.none refl x.codec_id
     named.codec_id
+
+pub returns-in_err-colour-clause-none : goal.returns-in_err-colour-clause-none
+returns-in_err-colour-clause-none c = λ _ x named. c.in_err-colour.ensures.none refl x.colour
+    named.colour
