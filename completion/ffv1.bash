@@ -15,8 +15,10 @@ _ffv1() {
         --contexts) words="small large" ;;
         --container) words="auto avi mkv" ;;
         --codec-id) words="native vfw" ;;
+        --range) words="auto limited full" ;;
+        --siting) words="auto left centre topleft" ;;
         --ec) words="0 1" ;;
-        --columns | --rows | --rate | --scale) return ;;
+        --columns | --rows | --rate | --scale | --primaries | --transfer | --matrix) return ;;
     esac
     if [ -z "$words" ]; then
         case "$command" in
@@ -24,10 +26,11 @@ _ffv1() {
             help) words="pack unpack check show framemd5 trial faults" ;;
             pack)
                 words="--coder --contexts --columns --rows --ec --rate --scale"
-                words="$words --container --codec-id --verify --no-clobber --progress --help"
+                words="$words --container --codec-id --range --siting --primaries --transfer --matrix"
+                words="$words --verify --no-clobber --progress --help"
                 ;;
             unpack) words="--no-clobber --progress --help" ;;
-            check) words="--all --place --progress --help" ;;
+            check) words="--all --place --quiet --progress --help" ;;
             show) words="--cost --help" ;;
             framemd5 | trial) words="--help" ;;
         esac

@@ -54,16 +54,22 @@ COMMANDS = {
     "pack": Level(2, {
         "coder": (number(1, 2), 1), "contexts": (one_of("small", "large"), "small"),
         "columns": (number(1, 32), None), "rows": (number(1, 32), None), "ec": (number(0, 1), 1),
-        "rate": (number(1, 2 ** 32 - 1), 25), "scale": (number(1, 2 ** 32 - 1), 1),
+        "rate": (number(1, 2 ** 32 - 1), None), "scale": (number(1, 2 ** 32 - 1), None),
         "container": (one_of("auto", "avi", "mkv"), "auto"),
         "codec-id": (one_of("native", "vfw"), None),
+        "range": (one_of("auto", "limited", "full"), "auto"),
+        "siting": (one_of("auto", "left", "centre", "topleft"), "auto"),
+        "primaries": (number(0, 255), 2), "transfer": (number(0, 255), 2),
+        "matrix": (number(0, 255), 2),
     }, flags=["verify", "no-clobber", "progress"]),
     "unpack": Level(2, flags=["no-clobber", "progress"]),
-    "check": Level(1, flags=["all", "place", "progress"], most=math.inf),
+    "check": Level(1, flags=["all", "place", "quiet", "progress"], most=math.inf),
     "show": Level(1, flags=["cost"], most=math.inf),
     "framemd5": Level(1, most=math.inf),
     "trial": Level(1),
 }
+# What says nothing of colours.
+COLOURS = {"range": "auto", "siting": "auto", "primaries": 2, "transfer": 2, "matrix": 2}
 STANDARD_OUTPUT = ["/dev/stdout", "/dev/fd/1", "/proc/self/fd/1"]
 # What the names of files end in that pack does not write.
 OTHERS = (".mov", ".mp4", ".mxf", ".y4m", ".ppm")
@@ -151,6 +157,8 @@ def words(line):
     order = Order(name, paths, {**choice, **dict.fromkeys(level.flags, False), **found})
     if order.choice.get("container") == "auto" and paths[1].lower().endswith(OTHERS):
         raise Refused(paths[1])
-    if order.choice.get("codec-id") and not is_matroska(order.choice["container"], paths[1]):
+    says = any(order.choice.get(name) != default for name, default in COLOURS.items())
+    if name == "pack" and (order.choice["codec-id"] or says) \
+            and not is_matroska(order.choice["container"], paths[1]):
         raise Refused(paths[1])
     return order

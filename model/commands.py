@@ -22,6 +22,7 @@ import matroska
 from command_line import COMMANDS, Help, Kept, Refused, number, words
 from ffv1 import Fault
 from packing import is_matroska, pack, pack_matroska, said_in
+from quiet import quietly
 from record import are_multiples
 from trial import trial
 
@@ -362,17 +363,32 @@ def overwriter(descriptor):
     return over
 
 
-# own: said where an AVI does not hold what a text says of colours
+# own: said where an AVI does not hold what a text says of colours, and where a text has a rate
 LOST = "AVI holds no range of colours and no siting of chroma, but .mkv does"
+KEPT = "--rate and --scale are for PPM: the rate of the text stands"
+
+
+def notes(order, head, is_avi):
+    """What is said of a text that was packed, beside the count."""
+    given, made = ("standard input" if order.files[0] == "-" else order.files[0],
+                   "standard output" if order.files[1] == "-" else order.files[1])
+    lines = []
+    if not head.rct and (order.choice["rate"] or order.choice["scale"]):
+        lines.append(f"ffv1: {given}: {KEPT}\n")
+    if is_avi and (head.range or head.siting in ("left", "topleft")):
+        lines.append(f"ffv1: {made}: {LOST}\n")
+    return "".join(lines)
 
 
 def made(order, source, out, over):
-    """The count of what `pack` or `unpack` makes, and whether an AVI loses colours."""
+    """The count of what `pack` or `unpack` makes, and what is said beside it."""
     if order.command == "unpack":
-        return unpack(source, out), False
+        return unpack(source, out), ""
     if is_matroska(order.choice["container"], order.files[1]):
-        return pack_matroska(source, out, over, order.choice), False
-    return pack(source, out, order.choice)
+        count, head = pack_matroska(source, out, over, order.choice)
+        return count, notes(order, head, False)
+    count, head = pack(source, out, order.choice)
+    return count, notes(order, head, True)
 
 
 def make(order, source, descriptors, output):
@@ -384,18 +400,16 @@ def make(order, source, descriptors, output):
     if path != "-":
         descriptors.append(opened_output(path, order.choice["no-clobber"]))
         out, over = writer(descriptors[1], anew=True), overwriter(descriptors[1])
-    count, is_lost = made(order, source, out, over)
-    named = "standard output" if path == "-" else path
-    told = f"ffv1: {named}: {LOST}\n" if is_lost else ""
+    count, told = made(order, source, out, over)
     if path == "-":
         return told + count
     output(count)
     return told
 
 
+@quietly
 def perform(order, path, output, standard_input):
-    """Does what a command line asks for with this IN, and prints by `output`: IN is opened, then
-    OUT. It answers what is printed on standard error."""
+    """Does what a line asks for with this IN, opened before OUT. It answers what standard error has."""
     told = ""
     descriptors = [os.dup(standard_input) if path == "-" else opened_file(path, os.O_RDONLY, 56)]
     try:
@@ -422,7 +436,7 @@ def perform_each(order, output, standard_input):
     told, path = [], ""
     try:
         for path in order.files:
-            output(f"file {path}\n")
+            output("" if order.choice.get("quiet") else f"file {path}\n")
             try:
                 perform(order, path, output, standard_input)
             except Fault as fault:

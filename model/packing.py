@@ -71,7 +71,7 @@ def video_of(source, choice, by_default=False):
     first = source.some(1)
     if first == b"P":
         head, pictures = files.open_ppm(source, first), files.ppm_pictures
-        head.rate, head.scale = choice["rate"], choice["scale"]
+        head.rate, head.scale = choice["rate"] or 25, choice["scale"] or 1
     else:
         head, pictures = files.open_y4m(source, first), files.y4m_pictures
     config = config_of(head, choice, grid_of(head, choice, by_default))
@@ -90,13 +90,13 @@ def packed(lengths):
 
 def pack(source, out, choice):
     """A text of pictures becomes an AVI, when all its frames are encoded. It answers the count, and
-    whether the text says a range, or that chroma does not lie in the centre."""
+    the head of the text."""
     head, config, frames = video_of(source, choice)
     frames = list(frames)
     count = packed([len(frame) for frame in frames])
     avi = files.AviHead(head.width, head.height, head.rate, head.scale, ffv1.write_record(config))
     out(files.write_avi(avi, frames))
-    return count, head.range is not None or head.siting in ("left", "topleft")
+    return count, head
 
 
 # Range, and ChromaSitingHorz and ChromaSitingVert, of what a text says
@@ -104,11 +104,14 @@ RANGES = {"limited": 1, "full": 2}
 SITINGS = {"centre": (2, 2), "left": (1, 2), "topleft": (1, 1)}
 
 
-def colour_of(head):
-    """What a text says of colours, as Matroska says it."""
-    across, down = SITINGS.get(head.siting, (0, 0))
-    return {**matroska.NO_COLOUR, matroska.SITING_HORZ: across, matroska.SITING_VERT: down,
-            matroska.RANGE: RANGES.get(head.range, 0)}
+def colour_of(head, choice):
+    """What the line says of colours, or else the text, as Matroska says it."""
+    siting = head.siting if choice["siting"] == "auto" else choice["siting"]
+    values = head.range if choice["range"] == "auto" else choice["range"]
+    across, down = SITINGS.get(siting, (0, 0))
+    return {matroska.MATRIX: choice["matrix"], matroska.SITING_HORZ: across,
+            matroska.SITING_VERT: down, matroska.RANGE: RANGES.get(values, 0),
+            matroska.TRANSFER: choice["transfer"], matroska.PRIMARIES: choice["primaries"]}
 
 
 def said_in(colour, planes, config):
@@ -127,11 +130,12 @@ def is_matroska(container, path):
 
 def pack_matroska(source, out, over, choice):
     """A text of pictures becomes Matroska, and each frame is written as soon as it is encoded. At
-    the end the opening is written over, which does nothing where OUT is no regular file."""
+    the end the opening is written over, which does nothing where OUT is no regular file. It answers
+    the count, and the head of the text."""
     head, config, frames = video_of(source, choice, by_default=True)
     matroska.timed(head.rate, head.scale)
     track = matroska.Head(1, head.width, head.height, head.rate, head.scale,
-                          ffv1.write_record(config), colour=colour_of(head))
+                          ffv1.write_record(config), colour=colour_of(head, choice))
     tracks = matroska.tracks(track, matroska.Shown(head.structure, head.aspect))
     lengths, begins, end = [], [], matroska.TRACKS_PLACE + len(tracks)
     for frame in frames:
@@ -145,4 +149,4 @@ def pack_matroska(source, out, over, choice):
     cues = matroska.cues(begins)
     out(cues)
     over(matroska.opening(track, matroska.Finish(end + len(cues), end, len(lengths))))
-    return count
+    return count, head

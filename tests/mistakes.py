@@ -46,6 +46,8 @@ LINES = [
      "end it in .mkv or .avi"),
     ("a codec ID for AVI", ["pack", "--codec-id", "vfw", "in", "out.avi"], "AVI has no --codec-id",
      "end OUT in .mkv"),
+    ("colours for AVI", ["pack", "--range", "full", "in", "out.avi"],
+     "AVI has no place for colours", "end OUT in .mkv"),
     ("a fault's number is asked for", ["help", "37"], "37 SliceParity",
      told.ADVICE["37 SliceParity"][0]),
     ("a number that is no fault's", ["help", "43"], "no fault is 43", "ffv1 help faults"),

@@ -306,7 +306,7 @@ SOME_WORDS = [
     "--help", "help", "--place", "--cost", "--all", "--ec", "--ec=0", "--columns", "2", "--deep",
     "-x", "-1",
     "pack", "check", "--place=1", "---", "\u00e9", "in/x", "--progress", "--version", "-V",
-    "--no-clobber", "--verify", "--container", "--container=mkv", "out.mkv",
+    "--no-clobber", "--verify", "--container", "--container=mkv", "out.mkv", "--quiet",
 ]
 OUTPUTS = ["out"] * 24 + ["out.mkv"] * 16 + ["in", "./in", "no/out", "/dev/full", "-", "out.MKV",
                                              "out.mk3d", "out.Mov", "out.ppm"]
@@ -350,6 +350,8 @@ def file_line(dice):
         words = words + dice.choice([["in"], ["no", "in"], ["out", "in"], ["-"], ["./in", ""]])
     if words[0] == "check" and dice.random() < 0.4:
         words = [words[0], "--all", *words[1:]]
+    if words[0] == "check" and dice.random() < 0.2:
+        words = [words[0], "--quiet", *words[1:]]
     if words[0] in ("unpack", "check") and dice.random() < 0.1:
         words = [words[0], "--progress", *words[1:]]
     if words[0] == "unpack" and dice.random() < 0.1:

@@ -2,6 +2,7 @@
 """Command lines, taken and refused, and paths."""
 from known_answers.case import ANY, FRAME, MONO, RED, Case, Step, avi, helped, kept, one, y4m
 from known_answers.matroska import C, WRONG, whole
+from known_answers.texts import KEPT
 
 WITHOUT, WITH = "frames 1 bytes 5\n", "frames 1 bytes 10\n"     # without parity, and with it
 PACKS = [
@@ -17,6 +18,7 @@ PACKS = [
     ("pack --progress in out --no-clobber --ec 0", WITHOUT),
     ("pack --verify in out", WITH), ("pack in --verify out --ec 0", WITHOUT),
     ("pack in out --progress --verify", WITH),
+    ("pack --range auto --siting auto --primaries 2 --transfer 02 --matrix +2 in out", WITH),
 ]
 CHECKS = [
     "check out", "check --place out", "check out --place", "check -- out", "check --progress out",
@@ -34,7 +36,7 @@ def taken_lines():
     """Command lines that are taken, however they are written."""
     given = {"in": MONO, "--ec": MONO, "-": MONO, "trial": MONO}
     for line, output in PACKS:
-        yield Case(line, given, [Step(line.split(), output)])
+        yield Case(line, given, [Step(line.split(), output, errors=KEPT if "--rate" in line else "")])
     lines = "frame 0: 5 bytes, 1 slices, 11 decisions\nframes 1\n"
     for line in CHECKS:
         yield Case(line, {"out": avi(one(), [FRAME])}, [Step(line.split(), lines)])
@@ -65,6 +67,32 @@ def several_files():
              errors="ffv1: c: 52 Truncated\nffv1: b: 30 NotKey\nffv1: no: 56 Read\n")], given)
 
 
+def quiet_lines():
+    """One line of each file, whatever became of those before it."""
+    given = {"a": avi(one(), [FRAME]), "b": avi(one(), [bytes(3), FRAME]), "c": b"no file",
+             "d": avi(one(), [FRAME] * 11 + [b"\1", FRAME, bytes(3)]), "e": avi(one(), []),
+             "f": avi(one(), [FRAME, bytes(3), FRAME])[:-1]}
+    of_b, second = "b: 30 NotKey in frame 0, slice 0\n", "35 Footer in frame 11, slice 0\n"
+    yield Case("check --quiet", given, [
+        Step(["check", "--quiet", "a"], "a: sound, 1 frames\n"),
+        Step(["check", "a", "--quiet", "--place", "--progress"], "a: sound, 1 frames\n"),
+        Step(["check", "--all", "--quiet", "a"], "a: sound, 1 frames\n"),
+        Step(["check", "--quiet", "d"], f"d: {second}", "35 Footer"),
+        Step(["check", "--quiet", "--all", "d"],
+             f"d: 2 of 14 frames refused, the first {second}", "35 Footer"),
+        Step(["check", "--quiet", "c"], "c: 52 Truncated at byte 0\n", "52 Truncated"),
+        Step(["check", "--quiet", "-"], "standard input: 52 Truncated at byte 0\n", "52 Truncated"),
+        Step(["check", "--quiet", "no"], "no: 56 Read\n", "56 Read"),
+        Step(["check", "--quiet", "--all", "e"], "e: 70 NoFrames\n", "70 NoFrames"),
+        Step(["check", "--quiet", "f"], "f: 30 NotKey in frame 1, slice 0\n", "30 NotKey"),
+        Step(["check", "--quiet", "--all", "f"], "f: 52 Truncated at byte 276\n", "52 Truncated"),
+        Step(["check", "--quiet", "b", "no", "a"], f"{of_b}no: 56 Read\na: sound, 1 frames\n",
+             status=1, errors="ffv1: b: 30 NotKey\nffv1: no: 56 Read\n"),
+        Step(["check", "--quiet", "a", "-", "./a"],
+             "a: sound, 1 frames\nstandard input: 52 Truncated at byte 0\n./a: sound, 1 frames\n",
+             status=1, errors="ffv1: -: 52 Truncated\n")], given)
+
+
 def a_folder():
     """Two hundred files, AVI and Matroska in turn, of which three are damaged."""
     files = [whole(C) if number % 2 else avi(one(), [FRAME]) for number in range(200)]
@@ -74,10 +102,15 @@ def a_folder():
     told = {name: "frame 0: 5 bytes, 1 slices, 11 decisions\nframes 1\n" for name in given}
     told.update({"017": "fault frame 0 byte 146\n", "101": "fault frame 0 byte 152\n",
                  "180": "fault frame 0 slice 0 plane 0 line 0 x 0 decisions 1\n"})
+    short = dict.fromkeys(given, "sound, 1 frames")
+    short.update({"017": "52 Truncated at byte 146", "101": "85 Checksum at byte 152",
+                  "180": "30 NotKey in frame 0, slice 0"})
+    errors = "ffv1: 017: 52 Truncated\nffv1: 101: 85 Checksum\nffv1: 180: 30 NotKey\n"
     yield Case("a folder of 200 files", given, [
         Step(["check", "--place", *given], "".join(f"file {name}\n{told[name]}" for name in given),
-             status=1, errors="ffv1: 017: 52 Truncated\nffv1: 101: 85 Checksum\n"
-             "ffv1: 180: 30 NotKey\n")], given)
+             status=1, errors=errors),
+        Step(["check", "--quiet", *given], "".join(f"{name}: {short[name]}\n" for name in given),
+             status=1, errors=errors)], given)
 
 
 REFUSED = [
@@ -95,6 +128,10 @@ REFUSED = [
     "pack --columns -1 in out", "pack --columns= in out", "pack --columns 1.5 in out",
     "pack --rows 0 in out", "pack --rows 33 in out", "pack --rows 0x2 in out",
     "pack --ec 2 in out", "pack --ec no in out", "pack --rate 0 in out",
+    "pack --range full in out", "pack --siting left in out", "pack --primaries 1 in out",
+    "pack --transfer 1 in out", "pack --matrix 0 in out.avi", "pack --range pc in out.mkv",
+    "pack --siting top in out.mkv", "pack --primaries 256 in out.mkv", "pack --matrix -1 in out.mkv",
+    "pack --container avi --range limited in out.mkv",
     "pack --rate 4294967296 in out", "pack --scale 0 in out", "pack --scale 4294967296 in out",
     "pack --scale 99999999999999999999 in out", "pack in out --ec", "pack in out --columns",
     "pack --ec -- 0 in out", "pack --ec 1 --ec 1 in out", "pack --ec=0 in out --ec=1",
@@ -103,7 +140,8 @@ REFUSED = [
     "check --no-clobber in", "show --no-clobber in", "trial --no-clobber in",
     "pack --verify --verify in out", "pack --verify=1 in out", "unpack --verify in out",
     "check --verify in", "trial --verify in",
-    "check --place=true in", "show --cost=1 in", "pack --columns 99 --help",
+    "check --quiet=1 in", "check --quiet --quiet in", "show --quiet in", "unpack --quiet in out",
+    "framemd5 --quiet in", "check --place=true in", "show --cost=1 in", "pack --columns 99 --help",
     "pack --columns --help", "pack --help=1 in out", "pack in out x --help", "-x --help", "--help=",
 ]
 # one file twice, standard output as OUT, and standard input twice
@@ -214,6 +252,6 @@ def trials():
 
 
 CASES = [
-    taken_lines, several_files, a_folder, refused_lines, unopened_files, kept_files, rewritten_files,
-    standard_streams, faults_in_turn, trials,
+    taken_lines, several_files, quiet_lines, a_folder, refused_lines, unopened_files, kept_files,
+    rewritten_files, standard_streams, faults_in_turn, trials,
 ]

@@ -70,14 +70,18 @@ OF_MATROSKA = [
 
 
 def offsets():
-    """Each file, of which so many frames are decoded, by `check` and `check --all`."""
+    """Each file, of which so many frames are decoded, by `check` and `check --all`, and by `check
+    --quiet`."""
     for name, file, frames, byte, fault in OF_AVI + OF_MATROSKA:
         where = f"fault frame {frames} byte {byte}\n"
         yield Case(f"byte of the file: {name}", {"in": file}, [
             Step(["check", "in"], lines(frames), fault),
             Step(["check", "--place", "in"], lines(frames) + where, fault),
             Step(["check", "--all", "in"], lines(frames), fault),
-            Step(["check", "--all", "--place", "in"], lines(frames) + where, fault)], {"in": file})
+            Step(["check", "--all", "--place", "in"], lines(frames) + where, fault),
+            Step(["check", "--quiet", "in"], f"in: {fault} at byte {byte}\n", fault),
+            Step(["check", "--all", "--quiet", "in"], f"in: {fault} at byte {byte}\n", fault)],
+            {"in": file})
 
 
 CASES = [offsets]

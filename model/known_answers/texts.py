@@ -42,6 +42,7 @@ def known_frames():
 
 # ---------------------------------------------------------------------------------- canonical texts
 
+KEPT = "ffv1: in: --rate and --scale are for PPM: the rate of the text stands\n"
 LOST = "ffv1: out: AVI holds no range of colours and no siting of chroma, but .mkv does\n"
 
 
@@ -69,6 +70,16 @@ COLOURS = [
 ]
 
 
+# what the line says stands above what the text says
+CHOSEN = [
+    ("--range full", "420jpeg", "420jpeg XCOLORRANGE=FULL"),
+    ("--range limited", "420jpeg XCOLORRANGE=FULL", "420jpeg XCOLORRANGE=LIMITED"),
+    ("--range auto", "420jpeg XCOLORRANGE=FULL", "420jpeg XCOLORRANGE=FULL"),
+    ("--siting topleft", "420mpeg2", "420paldv"), ("--siting centre", "420mpeg2", "420jpeg"),
+    ("--siting left --primaries 5 --transfer 1 --matrix 255", "420jpeg", "420mpeg2"),
+]
+
+
 def coloured_texts():
     """The range and the siting of chroma: Matroska holds them, and an AVI does not."""
     for tags, written, lost in COLOURS:
@@ -80,6 +91,13 @@ def coloured_texts():
     for name, length in [("422p10", 16), ("mono", 4), ("444", 12), ("411", 8)]:
         text = y4m(f"W2 H2 F25:1 I? A0:0 C{name} XCOLORRANGE=LIMITED", bytes(length))
         yield round_trip(f"a range of {name}", text, "--container mkv", text)
+    for words, tags, written in CHOSEN:
+        yield round_trip(f"colours {words} of {tags}", y4m(f"W2 H2 F25:1 C{tags}", SIX),
+                         f"--container mkv {words}", y4m(f"W2 H2 F25:1 I? A0:0 C{written}", SIX))
+    deep = y4m("W2 H2 F25:1 I? A0:0 C422p10", bytes(16))
+    yield round_trip("a siting that a text cannot say", deep, "--container mkv --siting left", deep)
+    yield round_trip("a range of RGB", ppm(1, 1, b"abc"), "--container mkv --range full",
+                     ppm(1, 1, b"abc"))
     for tags in ["XCOLORRANGE=FULL XCOLORRANGE=FULL", "XCOLORRANGE=FULL XCOLORRANGE=LIMITED"]:
         yield refused(f"two ranges {tags}", y4m(f"W2 H2 {tags}", SIX), "61 Tag")
 
@@ -94,7 +112,7 @@ def tagged_texts():
     yield round_trip("a header of 1024 bytes", LONGEST + b"\nFRAME\n" + SIX, "",
                      y4m("W2 H2 F0:0 I? A0:0 C420jpeg", SIX))
     yield round_trip("rates of a text stay", mono(1, 1, [7]), "--rate 5 --scale 6",
-                     mono(1, 1, [7]))
+                     mono(1, 1, [7]), errors=KEPT)
     for letter in "ptb?":
         text = y4m(f"W1 H1 F1:4294967295 I{letter} A65535:1 Cmono", b"\x07")
         yield round_trip(f"interlacing {letter}", text, "", text)

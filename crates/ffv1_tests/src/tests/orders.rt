@@ -1,11 +1,26 @@
 //! Command lines: the orders that they name.
 
 mod codec_ids;
+mod colours;
+mod files;
+mod flags;
 mod refused;
 
-use ffv1_engine::{Choice, CodecIdChoice, CoderChoice, ContainerChoice, Order, words};
+use ffv1_engine::{
+    Choice, CodecIdChoice, CoderChoice, ColourChoice, ContainerChoice, Order, RangeChoice,
+    SitingChoice, words,
+};
 use std::alloc::Global;
 use std::process::Abort;
+
+/// What `pack` says of colours without an option: nothing.
+pub(super) const NO_COLOUR: ColourChoice = ColourChoice {
+    range: RangeChoice::Auto,
+    siting: SitingChoice::Auto,
+    primaries: 2,
+    transfer: 2,
+    matrix: 2,
+};
 
 /// What `pack` does without an option.
 const DEFAULTS: Choice = Choice {
@@ -20,6 +35,8 @@ const DEFAULTS: Choice = Choice {
     verify: false,
     codec_id: CodecIdChoice::Native,
     codec_id_given: false,
+    rate_given: false,
+    colour: NO_COLOUR,
 };
 
 fn names<'a>(rt: &impl Abort, alloc: Global, line: &'a [&'a str], order: Order<'a>) {
@@ -61,6 +78,7 @@ static COMMANDS: [(&[&str], Order<'static>); 6] = [
             inputs: &["a"],
             all: false,
             place: false,
+            quiet: false,
             progress: false,
         },
     ),
@@ -83,116 +101,6 @@ fn each_command(rt: HostRuntime) {
     names_each(&rt, rt.alloc(), &COMMANDS);
 }
 
-/// Flags, and words that are files after two hyphens.
-static FLAGS: [(&[&str], Order<'static>); 10] = [
-    (
-        &["ffv1", "pack", "a", "--no-clobber", "b"],
-        Order::Pack {
-            input: "a",
-            output: "b",
-            choice: DEFAULTS,
-            container: ContainerChoice::Auto,
-            no_clobber: true,
-            progress: false,
-        },
-    ),
-    (
-        &["ffv1", "unpack", "--no-clobber", "--progress", "a", "-"],
-        Order::Unpack {
-            input: "a",
-            output: "-",
-            no_clobber: true,
-            progress: true,
-        },
-    ),
-    (
-        &["ffv1", "pack", "--progress", "a", "b"],
-        Order::Pack {
-            input: "a",
-            output: "b",
-            choice: DEFAULTS,
-            container: ContainerChoice::Auto,
-            no_clobber: false,
-            progress: true,
-        },
-    ),
-    (
-        &["ffv1", "unpack", "a", "--progress", "b"],
-        Order::Unpack {
-            input: "a",
-            output: "b",
-            no_clobber: false,
-            progress: true,
-        },
-    ),
-    (
-        &["ffv1", "check", "a", "--place"],
-        Order::Check {
-            inputs: &["a"],
-            all: false,
-            place: true,
-            progress: false,
-        },
-    ),
-    (
-        &["ffv1", "check", "--progress", "a"],
-        Order::Check {
-            inputs: &["a"],
-            all: false,
-            place: false,
-            progress: true,
-        },
-    ),
-    (
-        &[
-            "ffv1",
-            "check",
-            "--progress",
-            "b",
-            "--all",
-            "--place",
-            "a",
-            "-",
-        ],
-        Order::Check {
-            inputs: &["b", "a", "-"],
-            all: true,
-            place: true,
-            progress: true,
-        },
-    ),
-    (
-        &["ffv1", "show", "--cost", "a"],
-        Order::Show {
-            inputs: &["a"],
-            cost: true,
-        },
-    ),
-    (
-        &["ffv1", "check", "--", "--place"],
-        Order::Check {
-            inputs: &["--place"],
-            all: false,
-            place: false,
-            progress: false,
-        },
-    ),
-    (
-        &["ffv1", "unpack", "--", "-a", "--"],
-        Order::Unpack {
-            input: "-a",
-            output: "--",
-            no_clobber: false,
-            progress: false,
-        },
-    ),
-];
-
-#[test]
-fn flags(rt: HostRuntime) {
-    names_each(&rt, rt.alloc(), &FLAGS);
-}
-
 /// `pack` of `a` to `b` with these options, before and after the files.
 fn packs(rt: &impl Abort, alloc: Global, option: &str, value: &str, choice: Choice) {
     let order = Order::Pack {
@@ -208,7 +116,7 @@ fn packs(rt: &impl Abort, alloc: Global, option: &str, value: &str, choice: Choi
 }
 
 /// Options of `pack`, their values and what they choose.
-static OPTIONS: [(&str, &str, Choice); 11] = [
+static OPTIONS: [(&str, &str, Choice); 13] = [
     ("--coder", "1", DEFAULTS),
     (
         "--coder",
@@ -268,6 +176,15 @@ static OPTIONS: [(&str, &str, Choice); 11] = [
         "4294967295",
         Choice {
             rate: 4294967295,
+            rate_given: true,
+            ..DEFAULTS
+        },
+    ),
+    (
+        "--rate",
+        "25",
+        Choice {
+            rate_given: true,
             ..DEFAULTS
         },
     ),
@@ -276,6 +193,15 @@ static OPTIONS: [(&str, &str, Choice); 11] = [
         "1001",
         Choice {
             scale: 1001,
+            rate_given: true,
+            ..DEFAULTS
+        },
+    ),
+    (
+        "--scale",
+        "1",
+        Choice {
+            rate_given: true,
             ..DEFAULTS
         },
     ),
@@ -320,6 +246,8 @@ static MORE: [(&[&str], Order<'static>); 4] = [
                 verify: true,
                 codec_id: CodecIdChoice::Native,
                 codec_id_given: false,
+                rate_given: true,
+                colour: NO_COLOUR,
             },
             container: ContainerChoice::Auto,
             no_clobber: false,
@@ -364,126 +292,4 @@ static MORE: [(&[&str], Order<'static>); 4] = [
 #[test]
 fn more_options(rt: HostRuntime) {
     names_each(&rt, rt.alloc(), &MORE);
-}
-
-/// Which names of OUT are Matroska: if a container is named, and if none is.
-#[test]
-fn names_of_matroska(rt: HostRuntime) {
-    for (container, by_name) in [
-        (ContainerChoice::Auto, true),
-        (ContainerChoice::Avi, false),
-        (ContainerChoice::Matroska, true),
-    ] {
-        for output in ["b.mkv", "b.MKV", "b.mKa", "b.mks", "b.mk3d"] {
-            assert!(rt; container.is_matroska(output) == by_name);
-        }
-        for output in ["-", "mkv", "b.mkv.avi", "b.mk", ""] {
-            let named = container == ContainerChoice::Matroska;
-            assert!(rt; container.is_matroska(output) == named);
-        }
-    }
-    assert!(rt; ContainerChoice::Auto.is_matroska(".mkv"));
-}
-
-/// Paths are compared as texts: another text is another file, and an input may be standard
-/// output.
-static FILES: [(&[&str], Order<'static>); 11] = [
-    (
-        &["ffv1", "pack", "--container", "avi", "a", "b.mov"],
-        Order::Pack {
-            input: "a",
-            output: "b.mov",
-            choice: DEFAULTS,
-            container: ContainerChoice::Avi,
-            no_clobber: false,
-            progress: false,
-        },
-    ),
-    (
-        &["ffv1", "unpack", "a", "./a"],
-        Order::Unpack {
-            input: "a",
-            output: "./a",
-            no_clobber: false,
-            progress: false,
-        },
-    ),
-    (
-        &["ffv1", "unpack", "/dev/stdout", "b"],
-        Order::Unpack {
-            input: "/dev/stdout",
-            output: "b",
-            no_clobber: false,
-            progress: false,
-        },
-    ),
-    (
-        &["ffv1", "unpack", "a", "/dev/fd/3"],
-        Order::Unpack {
-            input: "a",
-            output: "/dev/fd/3",
-            no_clobber: false,
-            progress: false,
-        },
-    ),
-    (
-        &["ffv1", "unpack", "a", "/dev/fd/10"],
-        Order::Unpack {
-            input: "a",
-            output: "/dev/fd/10",
-            no_clobber: false,
-            progress: false,
-        },
-    ),
-    (
-        &["ffv1", "unpack", "a", "/dev/stdou"],
-        Order::Unpack {
-            input: "a",
-            output: "/dev/stdou",
-            no_clobber: false,
-            progress: false,
-        },
-    ),
-    (
-        &["ffv1", "unpack", "-", "-"],
-        Order::Unpack {
-            input: "-",
-            output: "-",
-            no_clobber: false,
-            progress: false,
-        },
-    ),
-    (
-        &["ffv1", "unpack", "a", "-"],
-        Order::Unpack {
-            input: "a",
-            output: "-",
-            no_clobber: false,
-            progress: false,
-        },
-    ),
-    (
-        &["ffv1", "unpack", "-", "./-"],
-        Order::Unpack {
-            input: "-",
-            output: "./-",
-            no_clobber: false,
-            progress: false,
-        },
-    ),
-    (
-        &["ffv1", "trial", "/dev/stdout"],
-        Order::Trial {
-            input: "/dev/stdout",
-        },
-    ),
-    (
-        &["ffv1", "trial", "/dev/fd/1"],
-        Order::Trial { input: "/dev/fd/1" },
-    ),
-];
-
-#[test]
-fn files_not_in_conflict(rt: HostRuntime) {
-    names_each(&rt, rt.alloc(), &FILES);
 }

@@ -1,5 +1,6 @@
 //! Videos that are packed, with files and frames computed outside the program, and their faults.
 
+use super::orders::NO_COLOUR;
 use ffv1_engine::{Choice, CodecIdChoice, CoderChoice, Fault, Packed, Profile, pack};
 use ffv1_wire::{FromRead, ToWrite};
 use std::alloc::Global;
@@ -18,6 +19,8 @@ const PLAIN: Choice = Choice {
     verify: false,
     codec_id: CodecIdChoice::Native,
     codec_id_given: false,
+    rate_given: false,
+    colour: NO_COLOUR,
 };
 
 /// A text of 4:2:0 with one picture of 2 by 2.

@@ -1,5 +1,6 @@
 //! Records that no encoder wrote: damaged bit by bit.
 
+use super::orders::NO_COLOUR;
 use ffv1_engine::{Choice, CodecIdChoice, CoderChoice, Fault, Profile, check, pack};
 use ffv1_wire::{FromRead, ToWrite};
 use std::alloc::Global;
@@ -19,6 +20,8 @@ fn file(alloc: Global) -> Result<Vec<u8>, Fault> {
         verify: false,
         codec_id: CodecIdChoice::Native,
         codec_id_given: false,
+        rate_given: false,
+        colour: NO_COLOUR,
     };
     let mut input = FromRead::new(b"YUV4MPEG2 W1 H1 Cmono\nFRAME\n\0".as_slice());
     let mut output = ToWrite::new(Vec::new(alloc));

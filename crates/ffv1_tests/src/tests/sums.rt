@@ -2,6 +2,7 @@
 //! FFmpeg 5.1.9 prints of them, and their faults.
 
 use super::made;
+use super::orders::NO_COLOUR;
 use ffv1_avi::write_avi;
 use ffv1_doubles::{FailingWriter, Scarce};
 use ffv1_engine::{
@@ -28,6 +29,8 @@ const PLAIN: Choice = Choice {
     verify: false,
     codec_id: CodecIdChoice::Native,
     codec_id_given: false,
+    rate_given: false,
+    colour: NO_COLOUR,
 };
 
 /// The file of a text.

@@ -2,6 +2,7 @@
 //! fault that is answered, and the beginning of what is owed that is then written. What is owed is
 //! what `model/commands.py` writes of the same input.
 
+use super::orders::NO_COLOUR;
 use ffv1_doubles::{FailingReader, Scarce, ShortWriter};
 use ffv1_engine::{
     Choice, CodecIdChoice, CoderChoice, Fault, Profile, check, pack, pack_matroska, show, trial,
@@ -102,6 +103,8 @@ const PLAIN: Choice = Choice {
     verify: false,
     codec_id: CodecIdChoice::Native,
     codec_id_given: false,
+    rate_given: false,
+    colour: NO_COLOUR,
 };
 
 /// Packs without parity into Matroska.

@@ -1,6 +1,7 @@
 //! Files that are unpacked, with texts computed outside the program, and their faults.
 
 use super::made;
+use super::orders::NO_COLOUR;
 use ffv1_avi::write_avi;
 use ffv1_engine::{Choice, CodecIdChoice, CoderChoice, Fault, Profile, pack, unpack};
 use ffv1_reads::FileHead;
@@ -23,6 +24,8 @@ const PLAIN: Choice = Choice {
     verify: false,
     codec_id: CodecIdChoice::Native,
     codec_id_given: false,
+    rate_given: false,
+    colour: NO_COLOUR,
 };
 
 /// A text of 4:2:0 with one picture of 2 by 2, and what comes back of it.

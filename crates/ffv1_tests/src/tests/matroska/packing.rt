@@ -1,6 +1,7 @@
 //! Videos that are packed into Matroska: what is written of a whole one, and before a fault.
 
 use super::written_example::EXAMPLE;
+use crate::tests::orders::NO_COLOUR;
 use ffv1_engine::{
     Choice, CodecIdChoice, CoderChoice, Fault, PackedMatroska, Profile, pack_matroska,
 };
@@ -21,6 +22,8 @@ const PLAIN: Choice = Choice {
     verify: false,
     codec_id: CodecIdChoice::Native,
     codec_id_given: false,
+    rate_given: false,
+    colour: NO_COLOUR,
 };
 
 /// The video of the example.

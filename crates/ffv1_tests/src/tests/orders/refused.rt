@@ -17,7 +17,7 @@ fn refuses_each(rt: &impl Abort, alloc: Global, lines: &[&[&str]], kind: ErrorKi
 }
 
 /// Options of `pack` whose values are out of range.
-static OUT_OF_RANGE: [&[&str]; 16] = [
+static OUT_OF_RANGE: [&[&str]; 22] = [
     &["ffv1", "pack", "--coder=0", "a", "b"],
     &["ffv1", "pack", "--coder=3", "a", "b"],
     &["ffv1", "pack", "--columns=0", "a", "b"],
@@ -34,12 +34,22 @@ static OUT_OF_RANGE: [&[&str]; 16] = [
     &["ffv1", "pack", "--scale=0", "a", "b"],
     &["ffv1", "pack", "--scale=4294967296", "a", "b"],
     &["ffv1", "pack", "--scale=1.5", "a", "b"],
+    &["ffv1", "pack", "--primaries=256", "a", "b.mkv"],
+    &["ffv1", "pack", "--primaries=-1", "a", "b.mkv"],
+    &["ffv1", "pack", "--primaries=bt709", "a", "b.mkv"],
+    &["ffv1", "pack", "--transfer=256", "a", "b.mkv"],
+    &["ffv1", "pack", "--matrix=256", "a", "b.mkv"],
+    &["ffv1", "pack", "--matrix=", "a", "b.mkv"],
 ];
 
 /// Other values than those that there are, and none.
-static INVALID: [&[&str]; 6] = [
+static INVALID: [&[&str]; 10] = [
     &["ffv1", "pack", "--codec-id=V_FFV1", "a", "b.mkv"],
     &["ffv1", "pack", "--codec-id=", "a", "b.mkv"],
+    &["ffv1", "pack", "--range=tv", "a", "b.mkv"],
+    &["ffv1", "pack", "--range=", "a", "b.mkv"],
+    &["ffv1", "pack", "--siting=center", "a", "b.mkv"],
+    &["ffv1", "pack", "--siting=TopLeft", "a", "b.mkv"],
     &["ffv1", "pack", "--contexts=medium", "a", "b"],
     &["ffv1", "pack", "--contexts=", "a", "b"],
     &["ffv1", "pack", "--contexts=Large", "a", "b"],
@@ -74,7 +84,7 @@ fn words_missing(rt: HostRuntime) {
 }
 
 /// Files too many, options that a command does not have, and no options.
-static UNKNOWN: [&[&str]; 11] = [
+static UNKNOWN: [&[&str]; 12] = [
     &["ffv1", "trial", "a", "b"],
     &["ffv1", "pack", "a", "b", "c"],
     &["ffv1", "unpack", "a", "b", "c"],
@@ -85,6 +95,7 @@ static UNKNOWN: [&[&str]; 11] = [
     &["ffv1", "trial", "a", "--ec=1"],
     &["ffv1", "check", "a", "--cost"],
     &["ffv1", "show", "a", "--place"],
+    &["ffv1", "show", "a", "--quiet"],
     &["ffv1", "pack", "-c", "a", "b"],
 ];
 
@@ -117,7 +128,7 @@ fn calls_for_help(rt: HostRuntime) {
 
 /// Options that are given twice, or that the file has not, and files that are one, or are standard
 /// output.
-static CONFLICTS: [&[&str]; 18] = [
+static CONFLICTS: [&[&str]; 25] = [
     &["ffv1", "pack", "a", "b", "--ec=1", "--ec=1"],
     &["ffv1", "pack", "--codec-id=vfw", "a", "b"],
     &[
@@ -128,7 +139,21 @@ static CONFLICTS: [&[&str]; 18] = [
         "a",
         "b.mkv",
     ],
+    &["ffv1", "pack", "--range=limited", "a", "b"],
+    &["ffv1", "pack", "--range=full", "a", "b.avi"],
+    &["ffv1", "pack", "--siting=left", "a", "-"],
+    &["ffv1", "pack", "--primaries=1", "a", "b"],
+    &["ffv1", "pack", "--transfer=3", "a", "b"],
+    &[
+        "ffv1",
+        "pack",
+        "--matrix=0",
+        "--container=avi",
+        "a",
+        "b.mkv",
+    ],
     &["ffv1", "check", "a", "--place", "--place"],
+    &["ffv1", "check", "a", "--quiet", "--quiet"],
     &["ffv1", "pack", "a", "a"],
     &["ffv1", "pack", "", ""],
     &["ffv1", "pack", "/dev/stdout", "/dev/stdout"],
