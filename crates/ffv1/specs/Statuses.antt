@@ -1,6 +1,6 @@
 -- The exit status of an order, by what became of it.
 use Rattle.std.specs.Prelude.{◌≡◌, ◌⊎◌, ◌≤◌, ℕ, Bool, true, false, Result, Ok, Err}
-use Rattle.ffv1_engine.specs.declared.fault.Fault.{Fault}
+use Rattle.ffv1_video.specs.declared.fault.Fault.{Fault}
 use Rattle.ffv1_words.specs.declared.order.Order.{Order}
 use Rattle.ffv1_words.specs.declared.order.Order.TheVariants as order
 use Rattle.ffv1.specs.declared.refusal.Refusal.{Refusal}

@@ -3,9 +3,9 @@
 ghost use Rattle.std.specs.Prelude.{◌≡◌, Err, IfErr, IfOk, IsOk, None, Some, false};
 ghost use Rattle.ffv1.specs.Statuses.{IsAnyFault, IsFault};
 ghost use Rattle.ffv1.specs.declared.refusal.Refusal.TheVariants as refusal;
-ghost use Rattle.ffv1_engine.specs.Check.{IsCheckFault};
-ghost use Rattle.ffv1_engine.specs.declared.fault.Fault.{Fault};
-ghost use Rattle.ffv1_engine.specs.declared.profile.Profile.TheVariants as profile;
+ghost use Rattle.ffv1_unpack.specs.Check.{IsCheckFault};
+ghost use Rattle.ffv1_video.specs.declared.fault.Fault.{Fault};
+ghost use Rattle.ffv1_video.specs.declared.profile.Profile.TheVariants as profile;
 
 use crate::input::{open_input, watched};
 use crate::met::{Met, Noted};

@@ -2,7 +2,7 @@
 
 ghost use Rattle.std.specs.Prelude.{◌≡◌, IfErr, option_to_list};
 ghost use Rattle.std.specs.Io.KnownBytes.{prepend_known};
-ghost use Rattle.ffv1_engine.specs.declared.fault.Fault.TheVariants as fault;
+ghost use Rattle.ffv1_video.specs.declared.fault.Fault.TheVariants as fault;
 
 use crate::met::{Met, Noted};
 use crate::progress::Watched;

@@ -10,10 +10,10 @@ ghost use Rattle.clap.specs.declared.error.kind.ErrorKind.TheVariants as kind;
 ghost use Rattle.ffv1.specs.declared.refusal.Refusal.TheVariants as refusal;
 ghost use Rattle.ffv1.specs.Statuses.{IsAnyFault, IsFault, IsMakingRefusal, IsStatus, makes_file};
 ghost use Rattle.ffv1.specs.Statuses.{status_of};
-ghost use Rattle.ffv1_engine.specs.Show.{IsShowFault};
-ghost use Rattle.ffv1_engine.specs.declared.profile.Profile.TheVariants as profile;
-ghost use Rattle.ffv1_engine.specs.declared.fault.Fault.{Fault};
-ghost use Rattle.ffv1_engine.specs.declared.fault.Fault.TheVariants as fault;
+ghost use Rattle.ffv1_unpack.specs.Show.{IsShowFault};
+ghost use Rattle.ffv1_video.specs.declared.profile.Profile.TheVariants as profile;
+ghost use Rattle.ffv1_video.specs.declared.fault.Fault.{Fault};
+ghost use Rattle.ffv1_video.specs.declared.fault.Fault.TheVariants as fault;
 
 mod advice;
 mod arguments;

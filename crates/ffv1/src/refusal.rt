@@ -2,7 +2,7 @@
 
 ghost use Rattle.std.specs.Prelude.{◌≡◌};
 ghost use Rattle.ffv1.specs.declared.refusal.Refusal.TheVariants as refusal;
-ghost use Rattle.ffv1_engine.specs.declared.fault.Fault.TheVariants as fault;
+ghost use Rattle.ffv1_video.specs.declared.fault.Fault.TheVariants as fault;
 
 use ffv1_engine::Fault;
 use std::alloc::AllocError;

@@ -7,7 +7,7 @@ ghost use Rattle.ffv1.specs.Looked.{status_of_each};
 ghost use Rattle.ffv1.specs.Statuses.{IsAnyFault, status_of};
 ghost use Rattle.ffv1.specs.declared.refusal.Refusal.{Refusal};
 ghost use Rattle.ffv1.specs.declared.refusal.Refusal.TheVariants as refusal;
-ghost use Rattle.ffv1_engine.specs.declared.fault.Fault.TheVariants as fault;
+ghost use Rattle.ffv1_video.specs.declared.fault.Fault.TheVariants as fault;
 
 use crate::met::Met;
 use crate::refusal::Refusal;

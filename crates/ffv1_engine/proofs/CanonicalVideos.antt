@@ -14,15 +14,15 @@ use Rattle.ffv1_y4m.specs.HeaderLine.{IsHeaderLine}
 use Rattle.ffv1_y4m.specs.Images.{IsImages, IsImagesIn}
 use Rattle.ffv1_y4m.specs.Text.{AllFit, IsText}
 use Rattle.ffv1_y4m.specs.VideoHead.{IsHead, IsNamed, SaysNeither}
-use Rattle.ffv1_engine.specs.Video.{SaidHead}
+use Rattle.ffv1_video.specs.Video.{SaidHead}
 use Rattle.ffv1_y4m.specs.declared.head.VideoHead.{VideoHead}
-use Rattle.ffv1_engine.specs.declared.profile.Profile.{Profile}
-use Rattle.ffv1_engine.specs.declared.profile.Profile.TheVariants.{Strict}
-use Rattle.ffv1_engine.specs.Profiles.{scope_in}
+use Rattle.ffv1_video.specs.declared.profile.Profile.{Profile}
+use Rattle.ffv1_video.specs.declared.profile.Profile.TheVariants.{Strict}
+use Rattle.ffv1_video.specs.Profiles.{scope_in}
 use Rattle.ffv1_engine.specs.RoundTrip.{IsFileIn, canonical_by, said_again}
-use Rattle.ffv1_engine.specs.Video.{IsReadVideoBy, IsVideoBy}
+use Rattle.ffv1_video.specs.Video.{IsReadVideoBy, IsVideoBy}
 use Rattle.ffv1_words.specs.declared.order.ColourChoice.{ColourChoice}
-use Rattle.ffv1_engine.specs.Colours.{plain_head, shown_head}
+use Rattle.ffv1_video.specs.Colours.{plain_head, shown_head}
 use Rattle.ffv1_engine.proofs.ColourNumbers.{plain_head_by, plain_is, plain_named, shown_head_by, shown_named, shown_ppm}
 
 -- what is known of files and of texts

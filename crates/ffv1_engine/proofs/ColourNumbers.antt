@@ -6,7 +6,7 @@ use Rattle.ffv1_y4m.specs.declared.head.Range.TheVariants.{Full, Limited}
 use Rattle.ffv1_y4m.specs.declared.head.Siting.{Siting}
 use Rattle.ffv1_y4m.specs.declared.head.Siting.TheVariants.{Centre, Left, TopLeft}
 use Rattle.ffv1_y4m.specs.declared.head.VideoHead.{VideoHead}
-use Rattle.ffv1_engine.specs.Colours.{IsByteColour, across_number, file_colour, down_number, loses_colour, plain_head, range_chosen, range_named, range_number, range_shown, shown_head, siting_chosen, siting_named, siting_shown}
+use Rattle.ffv1_video.specs.Colours.{IsByteColour, across_number, file_colour, down_number, loses_colour, plain_head, range_chosen, range_named, range_number, range_shown, shown_head, siting_chosen, siting_named, siting_shown}
 use Rattle.ffv1_engine.specs.RoundTrip.{canonical_by}
 use Rattle.ffv1_reads.specs.Colour.{IsColour}
 use Rattle.ffv1_y4m.specs.Canonical.{canonical_text, header_text, sizes_text, times_text}
@@ -15,8 +15,8 @@ use Rattle.ffv1_words.specs.declared.order.RangeChoice.{RangeChoice}
 use Rattle.ffv1_words.specs.declared.order.RangeChoice.TheVariants as range_choice
 use Rattle.ffv1_words.specs.declared.order.SitingChoice.{SitingChoice}
 use Rattle.ffv1_words.specs.declared.order.SitingChoice.TheVariants as siting_choice
-use Rattle.ffv1_engine.specs.Video.{SaidHead}
-use Rattle.ffv1_engine.specs.VideoReads.{IsHeadBy}
+use Rattle.ffv1_video.specs.Video.{SaidHead}
+use Rattle.ffv1_pack.specs.VideoReads.{IsHeadBy}
 
 pub range_back : (r : Option Range) → range_named (range_number r) ≡ r
 range_back None = refl

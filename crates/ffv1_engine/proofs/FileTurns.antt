@@ -5,9 +5,9 @@ use Rattle.ffv1_files.specs.Places.{Place}
 use Rattle.ffv1_files.specs.Files.{file_read, frame_read, frames_read, more_frames, open_read}
 use Rattle.ffv1_reads.specs.Head.{Head}
 use Rattle.ffv1_reads.specs.Reads as avi
-use Rattle.ffv1_engine.specs.declared.fault.Fault.{Fault}
-use Rattle.ffv1_engine.specs.Play.{FaultsRead}
-use Rattle.ffv1_engine.specs.Stream.{ReadsFrames}
+use Rattle.ffv1_video.specs.declared.fault.Fault.{Fault}
+use Rattle.ffv1_unpack.specs.Play.{FaultsRead}
+use Rattle.ffv1_unpack.specs.Stream.{ReadsFrames}
 
 -- what was read, apart from what is left
 is_read : {X : Type 0} → Result X avi.Stop → Option X

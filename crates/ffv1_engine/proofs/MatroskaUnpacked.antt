@@ -29,21 +29,21 @@ use Rattle.ffv1_matroska.proofs.WrittenLengths.{checked_long}
 use Rattle.ffv1_y4m.specs.VideoHead.{IsRatio}
 use Rattle.ffv1_words.specs.declared.order.Choice.{Choice}
 use Rattle.ffv1_engine.specs.MatroskaRoundTrip.{WasPackedMatroska, matroska_file, matroska_text}
-use Rattle.ffv1_engine.specs.Grids.{choice_for}
-use Rattle.ffv1_engine.specs.PackMatroska.{HasClusters, begun_file, details_for, whole_file}
-use Rattle.ffv1_engine.specs.Packing.{AreReadable, packed_frames, packed_head, said_for}
+use Rattle.ffv1_pack.specs.Grids.{choice_for}
+use Rattle.ffv1_pack.specs.PackMatroska.{HasClusters, begun_file, details_for, whole_file}
+use Rattle.ffv1_pack.specs.Packing.{AreReadable, packed_frames, packed_head, said_for}
 use Rattle.ffv1_engine.specs.RoundTrip.{IsReadIn}
-use Rattle.ffv1_engine.specs.Video.{IsReadVideo, Video}
-use Rattle.ffv1_engine.specs.declared.profile.Profile.{Profile}
-use Rattle.ffv1_engine.specs.declared.profile.Profile.TheVariants.{Wide}
-use Rattle.ffv1_engine.specs.Profiles.{greatest_depth, record_profile}
+use Rattle.ffv1_video.specs.Video.{IsReadVideo, Video}
+use Rattle.ffv1_video.specs.declared.profile.Profile.{Profile}
+use Rattle.ffv1_video.specs.declared.profile.Profile.TheVariants.{Wide}
+use Rattle.ffv1_video.specs.Profiles.{greatest_depth, record_profile}
 use Rattle.ffv1_record.specs.declared.config.Profile.TheVariants as record_profiles
-use Rattle.ffv1_engine.proofs.ReadableFrames.{readable_wide}
+use Rattle.ffv1_pack.proofs.ReadableFrames.{readable_wide}
 use Rattle.ffv1_engine.proofs.PackedFrames.{FrameLaws, frame_bytes, frame_some}
 use Rattle.ffv1_reads.specs.declared.colour.Colour.{Colour}
-use Rattle.ffv1_engine.specs.Colours.{IsByteColour}
+use Rattle.ffv1_video.specs.Colours.{IsByteColour}
 use Rattle.ffv1_engine.proofs.ColourNumbers.{colour_small}
-use Rattle.ffv1_engine.proofs.Depths.{all_within}
+use Rattle.ffv1_video.proofs.Depths.{all_within}
 use Rattle.ffv1_engine.proofs.PackedIsUnpacked.{Given, given_by, reads_is, short_in}
 use Rattle.ffv1_engine.proofs.CanonicalVideos.{FileLaws}
 use Rattle.ffv1_engine.proofs.PackedText.{RecordLaws, rated_by, sized}

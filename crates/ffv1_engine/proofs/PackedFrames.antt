@@ -24,13 +24,13 @@ use Rattle.ffv1_codec.specs.Picture.{IsPicture, Planes}
 use Rattle.ffv1_codec.specs.SliceList.{Said, chosen_slice}
 use Rattle.ffv1_codec.specs.declared.fault.FrameFault.{FrameFault}
 use Rattle.ffv1_codec.proofs.FromCoded.{coded_bytes}
-use Rattle.ffv1_engine.specs.Video.{SaidHead}
+use Rattle.ffv1_video.specs.Video.{SaidHead}
 use Rattle.ffv1_words.specs.declared.order.Choice.{Choice}
-use Rattle.ffv1_engine.specs.Packing.{AllShort, configuration_for, said_for}
+use Rattle.ffv1_pack.specs.Packing.{AllShort, configuration_for, said_for}
 use Rattle.ffv1_codec.specs.Outcome.{CountOf, FaultsOf}
-use Rattle.ffv1_engine.specs.Stream.{AreFrames, Frame, payloads}
-use Rattle.ffv1_engine.specs.Unpacked.{AllSay, pictures}
-use Rattle.ffv1_engine.specs.VideoReads.{IsHeadBy}
+use Rattle.ffv1_unpack.specs.Stream.{AreFrames, Frame, payloads}
+use Rattle.ffv1_unpack.specs.Unpacked.{AllSay, pictures}
+use Rattle.ffv1_pack.specs.VideoReads.{IsHeadBy}
 use Rattle.ffv1_engine.proofs.ByteLists.{bytes_joined, bytes_pushed, no_bytes}
 use Rattle.ffv1_engine.proofs.PackedPictures.{AllFitting, picture_given}
 

@@ -19,39 +19,40 @@ use Rattle.ffv1_reads.specs.Head.{Head}
 use Rattle.ffv1_reads.specs.Known.{Known}
 use Rattle.ffv1_reads.specs.Reads as avi
 use Rattle.ffv1_y4m.specs.VideoHead.{IsNamed, IsRatio}
-use Rattle.ffv1_engine.specs.Video.{SaidHead}
-use Rattle.ffv1_engine.specs.declared.profile.Profile.{Profile}
-use Rattle.ffv1_engine.specs.declared.profile.Profile.TheVariants.{Strict, Wide}
-use Rattle.ffv1_engine.specs.Profiles.{greatest_depth, scope_in, record_profile}
-use Rattle.ffv1_engine.proofs.ReadableFrames.{readable_wide}
-use Rattle.ffv1_engine.specs.declared.fault.Fault.{Fault}
-use Rattle.ffv1_engine.specs.declared.fault.Fault.TheVariants as fault
-use Rattle.ffv1_engine.specs.declared.frame_line.FrameLine.TheVariants as line
+use Rattle.ffv1_video.specs.Video.{SaidHead}
+use Rattle.ffv1_video.specs.declared.profile.Profile.{Profile}
+use Rattle.ffv1_video.specs.declared.profile.Profile.TheVariants.{Strict, Wide}
+use Rattle.ffv1_video.specs.Profiles.{greatest_depth, scope_in, record_profile}
+use Rattle.ffv1_pack.proofs.ReadableFrames.{readable_wide}
+use Rattle.ffv1_video.specs.declared.fault.Fault.{Fault}
+use Rattle.ffv1_video.specs.declared.fault.Fault.TheVariants as fault
+use Rattle.ffv1_unpack.specs.declared.frame_line.FrameLine.TheVariants as line
 use Rattle.ffv1_words.specs.declared.order.Choice.{Choice}
-use Rattle.ffv1_engine.specs.Check.{CheckStops, frame_count}
-use Rattle.ffv1_engine.specs.Checked.{LastStopsBy}
-use Rattle.ffv1_engine.specs.Show.{ShowStops, StreamStopsBy, cost_text}
-use Rattle.ffv1_engine.specs.Faults.{cause_of}
-use Rattle.ffv1_engine.specs.Faults.Cause.{Content}
+use Rattle.ffv1_unpack.specs.Check.{CheckStops, frame_count}
+use Rattle.ffv1_unpack.specs.Checked.{LastStopsBy}
+use Rattle.ffv1_unpack.specs.Show.{ShowStops, StreamStopsBy, cost_text}
+use Rattle.ffv1_video.specs.Faults.{cause_of}
+use Rattle.ffv1_video.specs.Faults.Cause.{Content}
 use Rattle.ffv1_avi.specs.Written.{most, riff_size}
-use Rattle.ffv1_engine.specs.Packing.{AllShort, AreReadable, IsFor, configuration_for, packed_file, packed_frames, packed_head, said_for}
-use Rattle.ffv1_engine.specs.FrameLines.{frame_lines}
-use Rattle.ffv1_engine.specs.Located.{LocatedFault, byte_told}
-use Rattle.ffv1_engine.specs.Opens.{LacksOpeningBy}
-use Rattle.ffv1_engine.specs.Play.{End, EndsWith, FaultsRead, IsFaulty, LacksStream, Played}
-use Rattle.ffv1_engine.specs.Plays.{FileThen, GoesBy, NextEnds, NextStays, PlayStopsBy}
-use Rattle.ffv1_engine.specs.Play.End.{File, Payload, Over}
+use Rattle.ffv1_pack.specs.Packing.{AllShort, AreReadable, IsFor, configuration_for, packed_file, packed_frames, packed_head, said_for}
+use Rattle.ffv1_unpack.specs.FrameLines.{frame_lines}
+use Rattle.ffv1_unpack.specs.Located.{LocatedFault}
+use Rattle.ffv1_video.specs.Profiles.{byte_told}
+use Rattle.ffv1_unpack.specs.Opens.{LacksOpeningBy}
+use Rattle.ffv1_unpack.specs.Play.{End, EndsWith, FaultsRead, IsFaulty, LacksStream, Played}
+use Rattle.ffv1_unpack.specs.Plays.{FileThen, GoesBy, NextEnds, NextStays, PlayStopsBy}
+use Rattle.ffv1_unpack.specs.Play.End.{File, Payload, Over}
 use Rattle.ffv1_engine.specs.RoundTrip.{accepted_in, HoldsBy, IsFileIn, IsNoContent, IsReadIn, IsUnpacked, WasPacked, canonical_of, text_video, video_in}
-use Rattle.ffv1_engine.specs.Stream.{AreFrames, Frame, IsFrame, IsRead, IsStream, ReadsFile, ReadsFrames, Stream, frame_payload, payloads}
+use Rattle.ffv1_unpack.specs.Stream.{AreFrames, Frame, IsFrame, IsRead, IsStream, ReadsFile, ReadsFrames, Stream, frame_payload, payloads}
 use Rattle.ffv1_codec.specs.Outcome.{FaultsOf}
-use Rattle.ffv1_engine.specs.Unpack.{LacksTextIn, UnpackDone, UnpackStops}
-use Rattle.ffv1_engine.specs.Unpacking.{UnpackingStopsBy}
-use Rattle.ffv1_engine.specs.Unpacked.{AllSay, AreAlike, HasTextBy, LacksText, LacksTextBy, is_ppm_stream, pictures, text_of}
-use Rattle.ffv1_engine.specs.Video.{IsReadVideo, IsVideo, ReadsVideo, Video}
-use Rattle.ffv1_engine.specs.VideoReads.{IsHeadBy}
-use Rattle.ffv1_engine.specs.Colours.{plain, plain_choice, shown}
+use Rattle.ffv1_unpack.specs.Unpack.{LacksTextIn, UnpackDone, UnpackStops}
+use Rattle.ffv1_unpack.specs.Unpacking.{UnpackingStopsBy}
+use Rattle.ffv1_unpack.specs.Unpacked.{AllSay, AreAlike, HasTextBy, LacksText, LacksTextBy, is_ppm_stream, pictures, text_of}
+use Rattle.ffv1_video.specs.Video.{IsReadVideo, IsVideo, ReadsVideo, Video}
+use Rattle.ffv1_pack.specs.VideoReads.{IsHeadBy}
+use Rattle.ffv1_video.specs.Colours.{plain, plain_choice, shown}
 use Rattle.ffv1_engine.proofs.ColourNumbers.{plain_head_by, plain_named}
-use Rattle.ffv1_engine.proofs.Depths.{all_within, eight_within}
+use Rattle.ffv1_video.proofs.Depths.{all_within, eight_within}
 use Rattle.ffv1_engine.proofs.FileTurns.{Opened, Others, no_fault as no_read_fault, no_more, no_stop, one_more, opened, others}
 use Rattle.ffv1_engine.proofs.PackedFrames.{AllCoded, FrameLaws, Same, all_coded, made, no_fault, same}
 use Rattle.ffv1_engine.proofs.PackedPictures.{head_given, name_given, pictures_given, said_given}

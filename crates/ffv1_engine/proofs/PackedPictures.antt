@@ -11,14 +11,14 @@ use Rattle.ffv1_y4m.specs.Pictures.{frame_line, picture_text}
 use Rattle.ffv1_y4m.specs.Ppm.{bytes_for, bytes_of_pairs, in_turn, interleaved, pairs_of, turned}
 use Rattle.ffv1_y4m.specs.Text.{AllFit}
 use Rattle.ffv1_y4m.specs.VideoHead.{AreInDepth, Fits as VideoFits, IsHead, IsNamed, IsRatio, colour_head, plane_bytes, reduced}
-use Rattle.ffv1_engine.specs.Video.{SaidHead}
+use Rattle.ffv1_video.specs.Video.{SaidHead}
 use Rattle.ffv1_y4m.specs.declared.head.VideoHead.{VideoHead}
 use Rattle.ffv1_words.specs.declared.order.Choice.{Choice}
-use Rattle.ffv1_engine.specs.Packing.{configuration_for, said_for}
-use Rattle.ffv1_engine.specs.Video.{IsReadVideoBy}
-use Rattle.ffv1_engine.specs.VideoReads.{IsHeadBy}
+use Rattle.ffv1_pack.specs.Packing.{configuration_for, said_for}
+use Rattle.ffv1_video.specs.Video.{IsReadVideoBy}
+use Rattle.ffv1_pack.specs.VideoReads.{IsHeadBy}
 use Rattle.ffv1_engine.proofs.ByteLists.{bytes_behind, bytes_front, bytes_pushed, no_bytes}
-use Rattle.ffv1_engine.proofs.VideoFits.{fits}
+use Rattle.ffv1_pack.proofs.VideoFits.{fits}
 
 -- its head is one that readers give
 pub head_given : ((most : ℕ) (line : List ℕ) (depth : ℕ) (h : VideoHead) → IsHeaderLine most line depth h → IsHead h) → (most : ℕ) (ppm : Bool) (text : List ℕ) (h : SaidHead) (ps : List Planes) → IsReadVideoBy most ppm text h ps → IsHeadBy ppm h.head

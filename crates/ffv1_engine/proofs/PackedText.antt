@@ -17,19 +17,19 @@ use Rattle.ffv1_avi.specs.Written.{most, riff_size}
 use Rattle.ffv1_codec.specs.Frame.{frame_of}
 use Rattle.ffv1_y4m.specs.Canonical.{canonical_text}
 use Rattle.ffv1_y4m.specs.VideoHead.{IsNamed, IsRatio, IsSized, has_siting}
-use Rattle.ffv1_engine.specs.Video.{SaidHead}
+use Rattle.ffv1_video.specs.Video.{SaidHead}
 use Rattle.ffv1_y4m.specs.declared.head.VideoHead.{VideoHead}
 use Rattle.ffv1_words.specs.declared.order.Choice.{Choice}
 use Rattle.ffv1_record.specs.declared.config.Profile.{Profile as RecordProfile}
-use Rattle.ffv1_engine.specs.declared.profile.Profile.{Profile}
-use Rattle.ffv1_engine.specs.Profiles.{greatest_depth, record_profile, scope_in}
-use Rattle.ffv1_engine.specs.declared.profile.Profile.TheVariants.{Strict, Wide}
-use Rattle.ffv1_engine.specs.Packing.{AreReadable, configuration_for, head_for, most_frame, said_for}
+use Rattle.ffv1_video.specs.declared.profile.Profile.{Profile}
+use Rattle.ffv1_video.specs.Profiles.{greatest_depth, record_profile, scope_in}
+use Rattle.ffv1_video.specs.declared.profile.Profile.TheVariants.{Strict, Wide}
+use Rattle.ffv1_pack.specs.Packing.{AreReadable, configuration_for, head_for, most_frame, said_for}
 use Rattle.ffv1_engine.specs.RoundTrip.{canonical_by}
-use Rattle.ffv1_engine.specs.Stream.{Frame, IsStream, Stream}
-use Rattle.ffv1_engine.specs.Unpacked.{AllSay, AreAlike, HasText, pictures, text_of, video_of}
-use Rattle.ffv1_engine.specs.VideoReads.{IsHeadBy}
-use Rattle.ffv1_engine.specs.Colours.{shown_head}
+use Rattle.ffv1_unpack.specs.Stream.{Frame, IsStream, Stream}
+use Rattle.ffv1_unpack.specs.Unpacked.{AllSay, AreAlike, HasText, pictures, text_of, video_of}
+use Rattle.ffv1_pack.specs.VideoReads.{IsHeadBy}
+use Rattle.ffv1_video.specs.Colours.{shown_head}
 use Rattle.ffv1_engine.proofs.ColourNumbers.{range_shown_back, siting_shown_back}
 use Rattle.ffv1_engine.proofs.PackedFrames.{AllCoded}
 use Rattle.ffv1_engine.proofs.RecordShort.{HasLowNumbers, NumberLaws, SymbolLaws, low_numbers, record_are_bytes, record_short}

@@ -17,13 +17,13 @@ use Rattle.ffv1_record.specs.Configuration.{Configuration, is_rct}
 use Rattle.ffv1_record.specs.Parity.{parity_of}
 use Rattle.ffv1_record.specs.Record.{number_steps, truth_steps, deltas_steps, coder_steps, runs_steps, set_steps, sets_steps, opening_steps, planes_steps, grid_steps, tables_steps, closing_steps, record_steps, record_decisions, coded_of, record_of}
 use Rattle.ffv1_reads.specs.Head.{limit}
-use Rattle.ffv1_engine.specs.Video.{SaidHead}
+use Rattle.ffv1_video.specs.Video.{SaidHead}
 use Rattle.ffv1_words.specs.declared.order.Choice.{Choice}
 use Rattle.ffv1_words.specs.declared.order.CoderChoice.{CoderChoice}
 use Rattle.ffv1_words.specs.declared.order.CoderChoice.TheVariants as coder_choice
-use Rattle.ffv1_engine.specs.Packing.{coder_for, configuration_for, set_for}
+use Rattle.ffv1_pack.specs.Packing.{coder_for, configuration_for, set_for}
 use Rattle.ffv1_engine.proofs.ByteLists.{bytes_joined}
-use Rattle.ffv1_engine.proofs.VideoFits.{both}
+use Rattle.ffv1_pack.proofs.VideoFits.{both}
 
 -- how many decisions symbols take
 pub record SymbolLaws : Type 0 where

@@ -5,13 +5,13 @@ use Rattle.ffv1_range.specs.Codes.{AreBytes}
 use Rattle.ffv1_matroska.specs.MatroskaFiles.{MatroskaFile}
 use Rattle.ffv1_y4m.specs.VideoHead.{IsRatio}
 use Rattle.ffv1_words.specs.declared.order.Choice.{Choice}
-use Rattle.ffv1_engine.specs.declared.matroska_packing.PackedMatroska.{PackedMatroska}
-use Rattle.ffv1_engine.specs.declared.profile.Profile.{Profile}
-use Rattle.ffv1_engine.specs.declared.profile.Profile.TheVariants.{Wide}
-use Rattle.ffv1_engine.specs.PackMatroska.{PacksMatroska, whole_file}
-use Rattle.ffv1_engine.specs.Colours.{IsByteColour, shown}
+use Rattle.ffv1_pack.specs.declared.matroska_packing.PackedMatroska.{PackedMatroska}
+use Rattle.ffv1_video.specs.declared.profile.Profile.{Profile}
+use Rattle.ffv1_video.specs.declared.profile.Profile.TheVariants.{Wide}
+use Rattle.ffv1_pack.specs.PackMatroska.{PacksMatroska, whole_file}
+use Rattle.ffv1_video.specs.Colours.{IsByteColour, shown}
 use Rattle.ffv1_engine.specs.RoundTrip.{HoldsBy}
-use Rattle.ffv1_engine.specs.Video.{Video}
+use Rattle.ffv1_video.specs.Video.{Video}
 
 -- a text of bytes that was packed into Matroska in a profile. PPM has the rate and the scale of the
 -- choice, whose numbers of colours are of 8 bits

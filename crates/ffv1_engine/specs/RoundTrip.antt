@@ -14,21 +14,21 @@ use Rattle.ffv1_avi.specs.Riffs.{RiffFile}
 use Rattle.ffv1_y4m.specs.Canonical.{as_said, canonical_text}
 use Rattle.ffv1_y4m.specs.Images.{image_text}
 use Rattle.ffv1_y4m.specs.VideoHead.{IsRatio}
-use Rattle.ffv1_engine.specs.Colours.{plain}
-use Rattle.ffv1_engine.specs.Video.{SaidHead}
-use Rattle.ffv1_engine.specs.declared.profile.Profile.{Profile}
-use Rattle.ffv1_engine.specs.declared.profile.Profile.TheVariants.{Strict, Wide}
-use Rattle.ffv1_engine.specs.declared.fault.Fault.{Fault}
-use Rattle.ffv1_engine.specs.declared.fault.Fault.TheVariants as fault
+use Rattle.ffv1_video.specs.Colours.{plain}
+use Rattle.ffv1_video.specs.Video.{SaidHead}
+use Rattle.ffv1_video.specs.declared.profile.Profile.{Profile}
+use Rattle.ffv1_video.specs.declared.profile.Profile.TheVariants.{Strict, Wide}
+use Rattle.ffv1_video.specs.declared.fault.Fault.{Fault}
+use Rattle.ffv1_video.specs.declared.fault.Fault.TheVariants as fault
 use Rattle.ffv1_words.specs.declared.order.Choice.{Choice}
-use Rattle.ffv1_engine.specs.declared.packing.Packed.{Packed}
-use Rattle.ffv1_engine.specs.Pack.{Packs}
-use Rattle.ffv1_engine.specs.Packing.{AreReadable, packed_file, packed_frames, said_for}
-use Rattle.ffv1_engine.specs.Play.{Played}
-use Rattle.ffv1_engine.specs.Profiles.{greatest_depth, record_profile}
-use Rattle.ffv1_engine.specs.Stream.{Frame, Stream, payloads}
-use Rattle.ffv1_engine.specs.Unpacked.{AllSay, AreAlike, HasText, pictures, text_of}
-use Rattle.ffv1_engine.specs.Video.{Video}
+use Rattle.ffv1_pack.specs.declared.packing.Packed.{Packed}
+use Rattle.ffv1_pack.specs.Pack.{Packs}
+use Rattle.ffv1_pack.specs.Packing.{AreReadable, packed_file, packed_frames, said_for}
+use Rattle.ffv1_unpack.specs.Play.{Played}
+use Rattle.ffv1_video.specs.Profiles.{greatest_depth, record_profile}
+use Rattle.ffv1_unpack.specs.Stream.{Frame, Stream, payloads}
+use Rattle.ffv1_unpack.specs.Unpacked.{AllSay, AreAlike, HasText, pictures, text_of}
+use Rattle.ffv1_video.specs.Video.{Video}
 
 -- a text of bytes that was packed in a profile, in `Strict` with no frame that is too long to be
 -- read there: `Wide` packs none that it does not read. PPM has the rate and the scale of the

@@ -18,49 +18,14 @@
 //! ```
 #![tactic(auto)]
 
-mod checking;
-mod colours;
-mod comparison;
-mod default_grid;
-mod encoding;
-mod fault;
-pub mod frame_line;
-mod hashing;
-mod images_out;
-mod judging;
-pub mod laws;
-mod matroska_packing;
-mod md5_lines;
-mod mono_trial;
-mod packing;
-mod picture;
-mod picture_md5;
-mod pictures_out;
-mod plane;
-pub mod player;
-mod profile;
-mod report;
 pub mod round_trip;
-mod showing;
-mod stream_lines;
-mod telling;
-mod text_md5;
-mod unpacking;
-mod verifying;
-mod video;
 
-pub use checking::{check, check_all};
-pub use fault::Fault;
+pub use ffv1_pack::{
+    Coded, Packed, PackedMatroska, code_plane, framemd5_text, laws, pack, pack_matroska, trial,
+};
+pub use ffv1_unpack::{check, check_all, frame_line, framemd5, player, show, unpack};
+pub use ffv1_video::{Fault, Profile};
 pub use ffv1_words::{
     Choice, CodecIdChoice, CoderChoice, ColourChoice, ContainerChoice, Order, RangeChoice,
     SitingChoice, words,
 };
-pub use hashing::framemd5;
-pub use matroska_packing::{PackedMatroska, pack_matroska};
-pub use mono_trial::trial;
-pub use packing::{Packed, pack};
-pub use plane::{Coded, code_plane};
-pub use profile::Profile;
-pub use showing::show;
-pub use text_md5::framemd5_text;
-pub use unpacking::unpack;

@@ -1,16 +1,16 @@
 -- A text that `pack` has packed is unpacked again.
 use Rattle.std.proofs.Common.{◌∙◌, refl, sym}
-use Rattle.ffv1_engine.specs.Colours.{plain_choice}
-use Rattle.ffv1_engine.specs.Grids.{choice_for}
-use Rattle.ffv1_engine.specs.Profiles.{greatest_depth}
-use Rattle.ffv1_engine.specs.declared.profile.Profile.{Profile}
-use Rattle.ffv1_engine.specs.declared.profile.Profile.TheVariants.{Strict, Wide}
+use Rattle.ffv1_video.specs.Colours.{plain_choice}
+use Rattle.ffv1_pack.specs.Grids.{choice_for}
+use Rattle.ffv1_video.specs.Profiles.{greatest_depth}
+use Rattle.ffv1_video.specs.declared.profile.Profile.{Profile}
+use Rattle.ffv1_video.specs.declared.profile.Profile.TheVariants.{Strict, Wide}
 use Rattle.ffv1_files.specs.declared.container.Scope.TheVariants.{FirstMovi, Whole}
 use Rattle.ffv1_engine.proofs.ColourNumbers.{kept_text}
 use Rattle.ffv1_engine.proofs.PackedFrames.{FrameLaws}
 use Rattle.ffv1_matroska.specs.MatroskaFiles.{MatroskaFile}
 use Rattle.ffv1_engine.specs.MatroskaRoundTrip.{matroska_file}
-use Rattle.ffv1_engine.specs.Packing.{packed_file}
+use Rattle.ffv1_pack.specs.Packing.{packed_file}
 use Rattle.ffv1_engine.specs.RoundTrip.{IsFileIn, text_video, video_in}
 use Rattle.ffv1_engine.proofs.MatroskaUnpacked.{MatroskaLaws, accepted_wide, begun_read, file_is}
 use Rattle.ffv1_engine.proofs.MatroskaUnpacked.{file_reads, given as of_matroska}

@@ -1,6 +1,0 @@
-use Rattle.std.proofs.Common.{◌≡◌, ◌*◌, take}
-use Rattle.ffv1_engine.specs.Report.{hexadecimal}
-use Rattle.ffv1_engine.proofs.report.write_hexadecimal.Given as goal
-
-abbrev pub invariant-loop-x : goal.invariant-loop-x
-invariant-loop-x l = take (l.x * 2) l.digits ≡ hexadecimal (take l.x l.bytes)

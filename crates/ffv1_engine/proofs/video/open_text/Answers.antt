@@ -1,8 +1,0 @@
--- Reads the header of a YUV4MPEG2, of a depth that the profile reads.
-use Rattle.ffv1_engine.proofs.video.open_text.Goals as goal
-
-pub returns-in-Strict-clause-answer : goal.returns-in-Strict-clause-answer
-returns-in-Strict-clause-answer g c = rw c.in-Strict.is c.open.ensures.answer
-
-pub returns-in-Wide-clause-answer : goal.returns-in-Wide-clause-answer
-returns-in-Wide-clause-answer g c = rw c.in-Wide.is c.open_deep.ensures.answer

@@ -1,0 +1,12 @@
+pub mod Picture
+pub mod Plane
+pub mod Report
+pub mod Trial
+pub mod Grids
+pub mod Packing
+pub mod GridChecks
+pub mod Pack
+pub mod VideoReads
+pub mod PackMatroska
+pub mod TextMd5
+pub mod Internal

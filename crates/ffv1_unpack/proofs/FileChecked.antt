@@ -1,0 +1,166 @@
+-- A file is checked.
+use Rattle.std.proofs.Common.{◌≡◌, refl, ℕ, ◌+◌, ◌<◌, Bool, Option, Err, List, [], ◌++◌, length, take, inl, inr, ap, sym, subst, ◌∙◌, arith, length-append}
+use Rattle.std.specs.Io.KnownBytes.{Appends}
+use Rattle.std.proofs.KnownBytes.{Appends-trans, Appends-kept}
+use Rattle.ffv1_range.specs.Counts.{saturated}
+use Rattle.ffv1_wire.specs.Failures.{one_more}
+use Rattle.ffv1_wire.specs.Passage.{between}
+use Rattle.ffv1_record.specs.Accepted.{Accepted}
+use Rattle.ffv1_record.specs.Configuration.{Configuration}
+use Rattle.ffv1_files.specs.Offsets.{Reached}
+use Rattle.ffv1_files.specs.Readers.{Standing}
+use Rattle.ffv1_video.specs.declared.profile.Profile.{Profile}
+use Rattle.ffv1_video.specs.Profiles.{scope_in}
+use Rattle.ffv1_video.specs.declared.fault.Fault.{Fault}
+use Rattle.ffv1_video.specs.declared.fault.Fault.TheVariants as fault
+use Rattle.ffv1_unpack.specs.declared.frame_line.FrameLine.TheVariants as line
+use Rattle.ffv1_unpack.specs.Check.{CheckDone, CheckStops, count_line, frame_count}
+use Rattle.ffv1_unpack.specs.Checked.{AllOver, CheckedStops, LastStopsBy}
+use Rattle.ffv1_video.specs.Faults.{Cause, cause_of}
+use Rattle.ffv1_video.specs.Faults.Cause.{Writing, Memory}
+use Rattle.ffv1_unpack.specs.FrameLines.{frame_lines}
+use Rattle.ffv1_unpack.specs.Located.{LocatedFault, WritesLine, located_text}
+use Rattle.ffv1_video.specs.Profiles.{byte_told}
+use Rattle.ffv1_unpack.specs.Internal.Located.{LocatedAfter}
+use Rattle.ffv1_unpack.specs.Opens.{LacksOpening}
+use Rattle.ffv1_unpack.specs.Internal.Opens.{OpensStream, stream_of}
+use Rattle.ffv1_unpack.specs.Plays.{GoesBy, HasThen, NextIsPayload, NextOver}
+use Rattle.ffv1_unpack.specs.Internal.Plays.{PlaysAll}
+use Rattle.ffv1_unpack.specs.Stream.{Frame, IsFrame, ReadsFile, frame_payload}
+use Rattle.ffv1_unpack.specs.Internal.Told.{TellingStops, WritesFrame}
+use Rattle.ffv1_unpack.proofs.FaultsLocated.{none_appended}
+use Rattle.ffv1_unpack.proofs.FilePlayed.{goes_file, refused_file}
+use Rattle.ffv1_unpack.proofs.FileRead.{no_items, positive}
+use Rattle.ffv1_video.proofs.Output.{take_past}
+
+module _ {X : Type 0} (Is : Accepted → X → Type 0) (payload : X → List ℕ) (text : Configuration → List X → List ℕ) (last : List X → List ℕ) (profile : Profile) (place : Bool)
+    (i0 i1 i2 o0 o1 o2 : Option (List ℕ)) (ib im ia ob om oa : ℕ) where
+  -- a file that is not opened
+  pub lacks_opening : (f : Fault) (offset : ℕ) → LacksOpening profile (between i0 i1 ib im) f → LocatedFault (scope_in profile) (between i0 i1 ib im) f offset →
+      WritesLine [] (located_text (byte_told profile place) 0 f offset) (between o0 o1 ob om) → CheckedStops Is payload text last profile place (between i0 i1 ib im) (between o0 o1 ob om) f
+  lacks_opening f offset h stops writes = inl (record { offset = offset; stops = stops; writes = writes }, h)
+
+  module _ (r : Standing) (a : Accepted) (opens : OpensStream profile r a (between i0 i1 ib im)) where
+    abbrev lines : List X → List ℕ
+    lines xs = text a.configuration xs
+
+    pub goes_stops : Reached (scope_in profile) i0 i1 r → (f : Fault) →
+        GoesBy (Is a) payload (HasThen r.place) (text a.configuration) (between i1 i2 im ia) (between o0 o1 ob om) (LocatedAfter r (between i1 i2 im ia)) (byte_told profile place) f (cause_of f) →
+        CheckedStops Is payload text last profile place (between i0 i2 ib ia) (between o0 o1 ob om) f
+    goes_stops reached f h =
+        inr (inl (record {
+          stream = stream_of r a;
+          is = opens.stream;
+          goes = refused_file (Is a) payload (text a.configuration) profile i0 i1 i2 o0 o1 ib im ia ob om r a opens reached (byte_told profile place) f (cause_of f) h;
+        }))
+
+    -- all was played
+    module _ (xs : List X) (all : PlaysAll (Is a) payload (HasThen r.place) (text a.configuration) (between i1 i2 im ia) (between o0 o1 ob om) xs) where
+      over : (o : Option (List ℕ)) (n : ℕ) → AllOver Is payload text last profile place (between i0 i2 ib ia) (between o0 o ob n) (stream_of r a) xs
+      over o n = record {
+        is = opens.stream;
+        goes = record {
+          are = all.plays.goes.are;
+          has = (goes_file (Is a) payload (text a.configuration) profile i0 i1 i2 o0 o1 ib im ia ob om r a opens xs NextOver all.plays.goes).has;
+        };
+        kept = all.kept ∙ opens.kept;
+      }
+
+      pub no_frames : text a.configuration [] ≡ [] → length xs ≡ 0 → CheckedStops Is payload text last profile place (between i0 i2 ib ia) (between o0 o1 ob om) fault.NoFrames
+      no_frames none few =
+          let empty : xs ≡ [] = no_items xs few in
+          inr (inr (
+            refl,
+            record {
+              stream = stream_of r a;
+              over = subst (AllOver Is payload text last profile place (between i0 i2 ib ia) (between o0 o1 ob om) (stream_of r a)) empty (over o1 om);
+              nothing = record {
+                same = all.plays.wrote.written;
+                kept = none_appended o0 o1 (subst (Appends o0 o1) none (subst (λ z. Appends o0 o1 (text a.configuration z)) empty all.plays.wrote.writes));
+              };
+            },
+          ))
+
+      ends_by : (f : Fault) (why : Cause) → LastStopsBy Is payload text last profile place (between i0 i2 ib ia) (between o0 o2 ob oa) f why → cause_of f ≡ why →
+          CheckedStops Is payload text last profile place (between i0 i2 ib ia) (between o0 o2 ob oa) f
+      ends_by f why h is = inr (inr (subst (LastStopsBy Is payload text last profile place (between i0 i2 ib ia) (between o0 o2 ob oa) f) (sym is) h))
+
+      pub last_stops : (f : Fault) → WritesFrame (last xs) (between o1 o2 om oa) (Err f) → CheckedStops Is payload text last profile place (between i0 i2 ib ia) (between o0 o2 ob oa) f
+      last_stops f h = elim h [
+        | inl write ↦
+            let k = write.2.0 in
+            let long : length (lines xs ++ last xs) ≡ length (lines xs) + length (last xs) = length-append (lines xs) (last xs) in
+            let few : k < length (last xs) = write.2.1 in
+            ends_by f Writing (record {
+              stream = stream_of r a;
+              xs = xs;
+              over = over o2 oa;
+              written = write.1 ∙ ap one_more all.plays.wrote.written;
+              writes = record {
+                count = length (lines xs) + k;
+                enough = omega arith;
+                short = omega (arith, few, long);
+                writes = subst (Appends o0 o2) (sym (take_past (lines xs) (last xs) k)) (Appends-trans o0 o1 o2 (lines xs) (take k (last xs)) all.plays.wrote.writes write.2.2);
+              };
+            }) (ap cause_of write.0)
+        | inr none ↦
+            ends_by f Memory (record {
+              stream = stream_of r a;
+              xs = xs;
+              over = over o2 oa;
+              wrote = record { written = none.1 ∙ all.plays.wrote.written; writes = Appends-kept o0 o1 o2 (lines xs) all.plays.wrote.writes none.2 };
+            }) (ap cause_of none.0)
+      ]
+
+-- ---- by its frames
+
+module _ (profile : Profile) (place : Bool) (i0 i1 i2 o0 o1 o2 : Option (List ℕ)) (ib im ia ob om oa : ℕ) (r : Standing) (a : Accepted) (opens : OpensStream profile r a (between i0 i1 ib im)) where
+  pub telling_stops : Reached (scope_in profile) i0 i1 r → (f : Fault) →
+      TellingStops (HasThen r.place) line.Sizes place a (between i1 i2 im ia) (between o0 o1 ob om) (LocatedAfter r (between i1 i2 im ia)) (byte_told profile place) f →
+      CheckStops profile place (between i0 i2 ib ia) (between o0 o1 ob om) f
+  telling_stops reached f h = elim h [
+    | inl p ↦
+        inl (record {
+          stream = stream_of r a;
+          is = opens.stream;
+          stops = record {
+            frames = p.frames;
+            payload = p.payload;
+            fault = p.fault;
+            tally = p.tally;
+            goes = goes_file (IsFrame a) frame_payload (frame_lines line.Sizes a.configuration) profile i0 i1 i2 o0 o1 ib im ia ob om r a opens p.frames (NextIsPayload p.payload) p.goes;
+            faulty = p.faulty;
+            is = p.is;
+            content = p.content;
+            kept = p.kept ∙ opens.kept;
+            writes = p.writes;
+          };
+        })
+    | inr other ↦ inr (goes_stops IsFrame frame_payload (frame_lines line.Sizes) frame_count profile place i0 i1 i2 o0 o1 o2 ib im ia ob om oa r a opens reached f other)
+  ]
+
+  module _ (frames : List Frame) (count : ℕ) (is : count ≡ saturated (length frames))
+      (all : PlaysAll (IsFrame a) frame_payload (HasThen r.place) (frame_lines line.Sizes a.configuration) (between i1 i2 im ia) (between o0 o1 ob om) frames) where
+    pub none_told : count ≡ 0 → CheckStops profile place (between i0 i2 ib ia) (between o0 o1 ob om) fault.NoFrames
+    none_told none =
+        let few : length frames ≡ 0 = omega (arith, is, none) in
+        inr (no_frames IsFrame frame_payload (frame_lines line.Sizes) frame_count profile place i0 i1 i2 o0 o1 o2 ib im ia ob om oa r a opens frames all refl few)
+
+    pub count_stops : (f : Fault) → WritesFrame (count_line count) (between o1 o2 om oa) (Err f) → CheckStops profile place (between i0 i2 ib ia) (between o0 o2 ob oa) f
+    count_stops f h =
+        inr (last_stops IsFrame frame_payload (frame_lines line.Sizes) frame_count profile place i0 i1 i2 o0 o1 o2 ib im ia ob om oa r a opens frames all f
+        (subst (λ n. WritesFrame (count_line n) (between o1 o2 om oa) (Err f)) is h))
+
+    pub done : (count ≡ 0 → ⊥) → ReadsFile profile i0 i2 (stream_of r a) frames → oa ≡ om → Appends o1 o2 (count_line count) → CheckDone profile place (between i0 i2 ib ia) (between o0 o2 ob oa)
+    done some_frames reads kept writes = record {
+      stream = stream_of r a;
+      frames = frames;
+      some = positive frames (λ none. some_frames (let zero_is : count ≡ 0 = omega (arith, is, none) in zero_is));
+      played = record { stream = opens.stream; decoded = all.plays.goes.are };
+      reads = reads;
+      kept = all.kept ∙ opens.kept;
+      written = kept ∙ all.plays.wrote.written;
+      writes =
+          subst (λ n. Appends o0 o2 (frame_lines line.Sizes a.configuration frames ++ count_line n)) is
+          (Appends-trans o0 o1 o2 (frame_lines line.Sizes a.configuration frames) (count_line count) all.plays.wrote.writes writes);
+    }

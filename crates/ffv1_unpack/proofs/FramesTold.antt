@@ -1,0 +1,75 @@
+-- Frames are looked at one after the other.
+use Rattle.std.proofs.Common.{◌≡◌, ℕ, suc, ◌+◌, ◌⊎◌, Bool, Option, Some, Ok, List, [], ◌∷◌, ◌++◌, length, inl, inr, ap, sym, subst, ◌∙◌, arith, append-nil, append_assoc}
+use Rattle.ffv1_range.specs.Counts.{saturated}
+use Rattle.ffv1_wire.specs.Passage.{between}
+use Rattle.ffv1_record.specs.Configuration.{Configuration}
+use Rattle.ffv1_record.specs.Accepted.{Accepted}
+use Rattle.ffv1_files.specs.Places.{Place}
+use Rattle.ffv1_files.specs.Files.{frame_read}
+use Rattle.ffv1_files.specs.Readers.{Standing}
+use Rattle.ffv1_video.specs.declared.fault.Fault.{Fault}
+use Rattle.ffv1_unpack.specs.declared.frame_line.FrameLine.{FrameLine}
+use Rattle.ffv1_video.specs.Faults.{cause_of}
+use Rattle.ffv1_unpack.specs.FrameLines.{frame_line, frame_lines, lines_from, place_text}
+use Rattle.ffv1_unpack.specs.Located.{WritesLine}
+use Rattle.ffv1_unpack.specs.Internal.Located.{LocatedAfter, StaysReached}
+use Rattle.ffv1_unpack.specs.Plays.{HasThen, NextIsPayload}
+use Rattle.ffv1_unpack.specs.Stream.{Frame, IsFrame, frame_payload}
+use Rattle.ffv1_unpack.specs.Told.{PayloadStops}
+use Rattle.ffv1_unpack.specs.Internal.Told.{FrameStops, FrameStopsBy, TellingStops, told_line}
+use Rattle.ffv1_unpack.proofs.FramesPlayed.{PlayedSo, goes_by, goes_on, line_behind}
+use Rattle.ffv1_video.proofs.KnownTexts.{known_map}
+
+lines_more : (kind : FrameLine) (c : Configuration) (i : ℕ) (frames : List Frame) (f : Frame) →
+    lines_from kind c i (frames ++ (f ∷ [])) ≡ lines_from kind c i frames ++ frame_line kind c (saturated (i + length frames)) f.payload f.tally
+lines_more kind c i [] f =
+    let same : i ≡ i + 0 = omega arith in
+    append-nil (frame_line kind c (saturated i) f.payload f.tally) ∙ ap (λ n. frame_line kind c (saturated n) f.payload f.tally) same
+lines_more kind c i (g ∷ gs) f =
+    let here = frame_line kind c (saturated i) g.payload g.tally in
+    let same : suc i + length gs ≡ i + suc (length gs) = omega arith in
+    ap (λ z. here ++ z) (lines_more kind c (suc i) gs f)
+    ∙ sym (append_assoc here (lines_from kind c (suc i) gs) (frame_line kind c (saturated (suc i + length gs)) f.payload f.tally))
+    ∙ ap (λ n. (here ++ lines_from kind c (suc i) gs) ++ frame_line kind c (saturated n) f.payload f.tally) same
+
+pub all_lines : (kind : FrameLine) (c : Configuration) (number : ℕ) (frames : List Frame) (f : Frame) → number ≡ saturated (length frames) →
+    frame_lines kind c (frames ++ (f ∷ [])) ≡ frame_lines kind c frames ++ told_line kind c number f
+all_lines kind c number frames f is =
+    let same : 0 + length frames ≡ length frames = omega arith in
+    lines_more kind c 0 frames f
+    ∙ ap (λ n. frame_lines kind c frames ++ frame_line kind c (saturated n) f.payload f.tally) same
+    ∙ ap (λ n. frame_lines kind c frames ++ frame_line kind c n f.payload f.tally) (sym is)
+
+module _ (kind : FrameLine) (place byte : Bool) (a : Accepted) (from to : Standing) (last : Place) (number : ℕ) (i0 i1 i2 o0 o1 o2 : Option (List ℕ)) (ib im ia ob om oa : ℕ)
+    (so : PlayedSo a (frame_lines kind a.configuration) from.place (between i0 i1 ib im) (between o0 o1 ob om) number to.place) (reached : StaysReached from to (between i0 i1 ib im)) where
+  payload_stops : (f : Fault) → FrameStops kind place byte a number to last (between i1 i2 im ia) (between o1 o2 om oa) f →
+      PayloadStops (HasThen from.place) kind place a (between i0 i2 ib ia) (between o0 o2 ob oa) f
+  payload_stops f h =
+      let p = h.payload in
+      let lines = frame_lines kind a.configuration in
+      record {
+        frames = so.frames;
+        payload = p.payload;
+        fault = p.fault;
+        tally = p.tally;
+        goes =
+            goes_on (IsFrame a) frame_payload lines from.place to.place last i0 i1 i2 o0 o1 o2 ib im ia ob om oa so.frames so.so (NextIsPayload p.payload)
+            (known_map i1 i2 (λ bytes rest. frame_read to.place bytes ≡ Ok (Some (p.payload, last), rest)) (NextIsPayload p.payload to.place) (λ bytes rest is. (last, is)) p.reads.next);
+        faulty = p.faulty;
+        is = p.is;
+        content = p.content;
+        kept = p.reads.kept ∙ so.so.kept;
+        writes =
+            subst (λ n. WritesLine (lines so.frames) (place_text place n p.fault p.tally) (between o0 o2 ob oa)) so.is
+            (line_behind o0 o1 o2 ob om oa (lines so.frames) (place_text place number p.fault p.tally) so.so.written so.so.writes h.writes);
+      }
+
+  pub telling_stops : (f : Fault) → FrameStops kind place byte a number to last (between i1 i2 im ia) (between o1 o2 om oa) f ⊎
+      FrameStopsBy kind place byte a number to last (between i1 i2 im ia) (between o1 o2 om oa) f (cause_of f) →
+      TellingStops (HasThen from.place) kind place a (between i0 i2 ib ia) (between o0 o2 ob oa) (LocatedAfter from (between i0 i2 ib ia)) byte f
+  telling_stops f h = elim h [
+    | inl payload ↦ inl (payload_stops f payload)
+    | inr other ↦
+        inr (goes_by (IsFrame a) frame_payload (frame_lines kind a.configuration) byte from to last i0 i1 i2 o0 o1 o2 ib im ia ob om oa so.frames so.so reached (told_line kind a.configuration number)
+        (λ x. all_lines kind a.configuration number so.frames x so.is) number so.is f (cause_of f) other)
+  ]

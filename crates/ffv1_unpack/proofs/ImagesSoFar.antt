@@ -1,0 +1,144 @@
+-- Images are written one after the other.
+use Rattle.std.proofs.Common.{◌≡◌, refl, ℕ, ◌+◌, ◌<◌, ◌≤◌, true, Option, List, [], ◌∷◌, ◌++◌, length, take, inl, inr, ap, sym, subst, ◌∙◌, arith, append-nil, append_assoc, length-append}
+use Rattle.std.specs.Io.KnownBytes.{Appends}
+use Rattle.std.proofs.KnownBytes.{Appends-nil, Appends-trans}
+use Rattle.ffv1_range.specs.Counts.{saturated}
+use Rattle.ffv1_wire.specs.Failures.{one_more}
+use Rattle.ffv1_wire.specs.Passage.{Passage, between}
+use Rattle.ffv1_wire.specs.Runs.{Line}
+use Rattle.ffv1_files.specs.Places.{Place}
+use Rattle.ffv1_reads.specs.Known.{Known}
+use Rattle.ffv1_y4m.specs.Images.{image_text}
+use Rattle.ffv1_video.specs.declared.fault.Fault.{Fault}
+use Rattle.ffv1_video.specs.declared.fault.Fault.TheVariants as fault
+use Rattle.ffv1_video.specs.Faults.{Cause}
+use Rattle.ffv1_video.specs.Faults.Cause.{Reading, Writing, Memory, Content}
+use Rattle.ffv1_unpack.specs.Internal.ImagesOut.{ImageFaults, ImageStopsBy, RowCut, rows_so_far}
+use Rattle.ffv1_unpack.specs.Stream.{Frame, IsFrame, Stream, frame_payload}
+use Rattle.ffv1_video.specs.Output.{Silent}
+use Rattle.ffv1_codec.specs.Outcome.{lines_before}
+use Rattle.ffv1_unpack.specs.Unpacked.{AlikeBy, is_ppm_stream, ppm_text, rows_by, text_by, text_of}
+use Rattle.ffv1_unpack.specs.Unpacking.{GoesTo, PayloadStops, RowFails, UnpackingStops, UnpackingStopsBy, UnpacksAll, UnpacksThen}
+use Rattle.ffv1_unpack.specs.Plays.{HasThen, NextHasFault, NextPayloadLacks, NextReadFails}
+use Rattle.ffv1_unpack.specs.Internal.Plays.{PlaysFrame}
+use Rattle.ffv1_unpack.specs.Internal.Play.{ReadsEnd, ReadsPayload}
+use Rattle.ffv1_video.proofs.Output.{take_past}
+use Rattle.ffv1_unpack.proofs.FramesPlayed.{none_yet}
+use Rattle.ffv1_unpack.proofs.FramesUnpacked.{Unpacked, goes_to, none_unpacked, unpacks_all, unpacks_more, unpacks_on}
+
+-- the text grows by the next image
+text_more : (s : Stream) (frames : List Frame) (f : Frame) →
+    ppm_text s (frames ++ (f ∷ [])) ≡ ppm_text s frames ++ image_text s.accepted.configuration.depth s.accepted.configuration.width s.accepted.configuration.height f.planes
+text_more s [] f = append-nil (image_text s.accepted.configuration.depth s.accepted.configuration.width s.accepted.configuration.height f.planes)
+text_more s (g ∷ gs) f =
+    let image = image_text s.accepted.configuration.depth s.accepted.configuration.width s.accepted.configuration.height in
+    ap (λ z. image g.planes ++ z) (text_more s gs f) ∙ sym (append_assoc (image g.planes) (ppm_text s gs) (image f.planes))
+
+module _ (s : Stream) (ppm : is_ppm_stream s ≡ true) (from : Place) where
+  all_alike : (frames : List Frame) → AlikeBy (is_ppm_stream s) frames
+  all_alike frames = subst (λ b. AlikeBy b frames) (sym ppm) tt
+
+  images_text : (frames : List Frame) → text_by (is_ppm_stream s) s frames ≡ ppm_text s frames
+  images_text frames = ap (λ b. text_by b s frames) ppm
+
+  rows_text : (lines : List Line) → rows_so_far s.accepted.configuration lines ≡ rows_by (is_ppm_stream s) s lines
+  rows_text lines = sym (ap (λ b. rows_by b s lines) ppm)
+
+  whole_text : (frames : List Frame) (f : Frame) →
+      text_by (is_ppm_stream s) s (frames ++ (f ∷ [])) ≡ text_by (is_ppm_stream s) s frames ++ image_text s.accepted.configuration.depth s.accepted.configuration.width s.accepted.configuration.height f.planes
+  whole_text frames f =
+      images_text (frames ++ (f ∷ [])) ∙ text_more s frames f
+      ∙ ap (λ z. z ++ image_text s.accepted.configuration.depth s.accepted.configuration.width s.accepted.configuration.height f.planes) (sym (images_text frames))
+
+  pub images_none : (i o : Option (List ℕ)) (ib ob : ℕ) → Unpacked s from (between i i ib ib) (between o o ob ob) [] from
+  images_none i o ib ob = record { so = none_yet (IsFrame s.accepted) frame_payload (text_of s) (images_text []) from i o ib ob; alike = all_alike [] }
+
+  -- memory for the lines that an image is written from was refused
+  pub images_lack : (i o : Option (List ℕ)) (ib ob : ℕ) (f : Fault) → f ≡ fault.OutOfMemory → UnpackingStops (HasThen from) s (between i i ib ib) (between o o ob ob) f
+  images_lack i o ib ob f is =
+      subst (UnpackingStops (HasThen from) s (between i i ib ib) (between o o ob ob)) (sym is)
+      (refl, inr (none_unpacked s from i o ib ob (all_alike []) (subst (Appends o o) (sym (images_text [])) (Appends-nil o))))
+
+  abbrev image : Frame → List ℕ
+  image f = image_text s.accepted.configuration.depth s.accepted.configuration.width s.accepted.configuration.height f.planes
+
+  module _ (to last : Place) (i0 i1 i2 o0 o1 o2 : Option (List ℕ)) (ib im ia ob om oa : ℕ) (frames : List Frame)
+      (un : Unpacked s from (between i0 i1 ib im) (between o0 o1 ob om) frames to) where
+    pub images_more : (f : Frame) → PlaysFrame s.accepted to last (between i1 i2 im ia) f → oa ≡ om → Appends o1 o2 (image f) →
+        Unpacked s from (between i0 i2 ib ia) (between o0 o2 ob oa) (frames ++ (f ∷ [])) last
+    images_more f plays same writes = unpacks_more s from to last i0 i1 i2 o0 o1 o2 ib im ia ob om oa frames un image (whole_text frames) f plays (all_alike (frames ++ (f ∷ []))) same writes
+
+    pub images_over : ReadsEnd to (between i1 i2 im ia) → Silent (between o1 o2 om oa) → UnpacksAll (HasThen from) s (between i0 i2 ib ia) (between o0 o2 ob oa) frames
+    images_over = unpacks_all s from to last i0 i1 i2 o0 o1 o2 ib im ia ob om oa frames un
+
+    then : (Next : Place → List ℕ → List ℕ → Type 0) → Silent (between o1 o2 om oa) → Known i1 i2 (Next to) → UnpacksThen (HasThen from) s (between i0 i2 ib ia) (between o0 o2 ob oa) frames Next
+    then = unpacks_on s from to last i0 i1 i2 o0 o1 o2 ib im ia ob om oa frames un
+
+    comes : (payload : List ℕ) → ReadsPayload to last payload (between i1 i2 im ia) → GoesTo (HasThen from) s (between i0 i2 ib ia) (between o0 o2 ob oa) frames payload
+    comes = goes_to s from to last i0 i1 i2 o0 o1 o2 ib im ia ob om oa frames un
+
+    row_fails : RowCut s.accepted to last (between i1 i2 im ia) (between o1 o2 om oa) → RowFails (HasThen from) s (between i0 i2 ib ia) (between o0 o2 ob oa)
+    row_fails p =
+        let text = text_by (is_ppm_stream s) s frames in
+        let before = rows_so_far s.accepted.configuration p.lines in
+        let all = rows_so_far s.accepted.configuration (p.lines ++ (p.next ∷ [])) in
+        let count = length text + p.writes.count in
+        let least_long : length (text ++ before) ≡ length text + length before = length-append text before in
+        let all_long : length (text ++ all) ≡ length text + length all = length-append text all in
+        let enough : length (text ++ before) ≤ count = omega (arith, least_long, p.writes.enough) in
+        let short : count < length (text ++ all) = omega (arith, all_long, p.writes.short) in
+        let writes = subst (Appends o0 o2) (sym (take_past text all p.writes.count)) (Appends-trans o0 o1 o2 text (take p.writes.count all) un.so.writes p.writes.writes) in
+        record {
+          frames = frames;
+          payload = p.payload;
+          lines = p.lines;
+          next = p.next;
+          ppm = ppm;
+          goes = comes p.payload p.reads;
+          hands = p.hands;
+          kept = p.reads.kept ∙ un.so.kept;
+          written = p.written ∙ ap one_more un.so.written;
+          writes = record {
+            count = count;
+            enough = subst (λ t. length (text ++ t) ≤ count) (rows_text p.lines) enough;
+            short = subst (λ t. count < length (text ++ t)) (rows_text (p.lines ++ (p.next ∷ []))) short;
+            writes = subst (λ t. Appends o0 o2 (take count (text ++ t))) (rows_text (p.lines ++ (p.next ∷ []))) writes;
+          };
+        }
+
+    payload_faults : (f : Fault) → ImageFaults s.accepted to last (between i1 i2 im ia) (between o1 o2 om oa) f → PayloadStops (HasThen from) s (between i0 i2 ib ia) (between o0 o2 ob oa) f
+    payload_faults f h =
+        let p = h.payload in
+        let text = text_by (is_ppm_stream s) s frames in
+        let rows = rows_so_far s.accepted.configuration (lines_before p.faulty) in
+        record {
+          frames = frames;
+          payload = p.payload;
+          fault = p.fault;
+          tally = p.tally;
+          goes = comes p.payload p.reads;
+          alike = un.alike;
+          faulty = p.faulty;
+          is = p.is;
+          written = h.written ∙ un.so.written;
+          writes = subst (λ t. Appends o0 o2 (text ++ t)) (rows_text (lines_before p.faulty)) (Appends-trans o0 o1 o2 text rows un.so.writes h.writes);
+        }
+
+    pub images_stop : (f : Fault) (why : Cause) → ImageStopsBy s.accepted to last (between i1 i2 im ia) (between o1 o2 om oa) f why →
+        UnpackingStopsBy (HasThen from) s (between i0 i2 ib ia) (between o0 o2 ob oa) f why
+    images_stop f Writing p = inr (row_fails p)
+    images_stop f Reading p = (p.1 ∙ ap one_more un.so.kept, frames, then NextReadFails p.0 p.2)
+    images_stop f Memory p = (p.1 ∙ un.so.kept, inl (frames, then NextPayloadLacks p.0 p.2))
+    images_stop f Content p = (
+      p.0 ∙ un.so.kept,
+      elim p.1 [
+        | inl file ↦ inl (frames, then (NextHasFault f) file.0 file.1)
+        | inr faults ↦ inr (inl (payload_faults f faults))
+      ],
+    )
+
+-- so many images were written
+pub record ImagesSo (s : Stream) (from : Place) (input output : Passage) (count : ℕ) (to : Place) : Type 0 where
+  pub frames : List Frame
+  pub is : count ≡ saturated (length frames)
+  pub un : Unpacked s from input output frames to

@@ -1,0 +1,241 @@
+-- Pictures are written one after the other.
+use Rattle.std.proofs.Common.{rules, ◌≡◌, ◌≢◌, refl, ℕ, ◌+◌, true, false, Option, Some, None, Err, List, [], ◌∷◌, ◌++◌, length, inl, inr, ap, sym, subst, ◌∙◌, append-nil, append_assoc}
+use Rattle.std.specs.List.{flat_map}
+use Rattle.std.specs.Io.KnownBytes.{Appends}
+use Rattle.std.proofs.KnownBytes.{Appends-nil, Appends-kept}
+use Rattle.ffv1_range.specs.Counts.{saturated}
+use Rattle.ffv1_wire.specs.Failures.{one_more}
+use Rattle.ffv1_wire.specs.Passage.{Passage, between}
+use Rattle.ffv1_record.specs.Accepted.{Accepted}
+use Rattle.ffv1_codec.specs.DecodeFaults.{is_decode_fault}
+use Rattle.ffv1_codec.specs.SliceList.{Said}
+use Rattle.ffv1_codec.specs.declared.fault.CodecFault.{CodecFault}
+use Rattle.ffv1_codec.specs.declared.fault.CodecFault.TheVariants as codec_fault
+use Rattle.ffv1_y4m.specs.Canonical.{header_text}
+use Rattle.ffv1_y4m.specs.Pictures.{picture_text}
+use Rattle.ffv1_y4m.specs.declared.head.VideoHead.{VideoHead}
+use Rattle.ffv1_files.specs.Places.{Place}
+use Rattle.ffv1_files.specs.Files.{frame_read}
+use Rattle.ffv1_files.specs.Places.{may_end}
+use Rattle.ffv1_reads.specs.Head.{Head}
+use Rattle.ffv1_reads.specs.Known.{Known}
+use Rattle.ffv1_video.specs.declared.fault.Fault.{Fault}
+use Rattle.ffv1_video.specs.Faults.{Cause, cause_of, of_codec}
+use Rattle.ffv1_video.specs.Faults.Cause.{Reading, Writing, Memory, Content}
+use Rattle.ffv1_unpack.specs.Internal.PicturesOut.{Begun, FrameChanges, IsBegun, NextStopsBy, SaysAgain, WritesPicture, head_saying, said_in, text_behind, writer_behind}
+use Rattle.ffv1_unpack.specs.Stream.{Frame, IsFrame, Stream, frame_payload, payloads}
+use Rattle.ffv1_unpack.specs.Internal.Told.{FileStopsBy}
+use Rattle.ffv1_video.specs.Output.{Silent}
+use Rattle.ffv1_codec.specs.Outcome.{lines_before}
+use Rattle.ffv1_unpack.specs.Unpacked.{AlikeBy, AllSay, is_ppm_stream, pictures, rows_by, text_by, text_of, video_of, y4m_text}
+use Rattle.ffv1_unpack.specs.Unpacking.{FormatChanges, PayloadStops, UnpackingStops, UnpackingStopsBy, UnpacksAll, UnpacksThen}
+use Rattle.ffv1_unpack.specs.Plays.{HasThen, NextHasFault, NextPayloadLacks, NextReadFails}
+use Rattle.ffv1_unpack.specs.Internal.Plays.{PayloadFaults, PlaysFrame}
+use Rattle.ffv1_unpack.specs.Internal.Play.{ReadsEnd}
+use Rattle.ffv1_unpack.proofs.FramesInTurn.{all_more, reads_more}
+use Rattle.ffv1_video.proofs.Output.{silent}
+use Rattle.ffv1_unpack.proofs.FramesPlayed.{has_stays, none_yet}
+use Rattle.ffv1_unpack.proofs.FramesUnpacked.{Unpacked, goes_to, none_unpacked, picture_fails, unpacks_all, unpacks_more, unpacks_on}
+
+-- the writer after the pictures of frames
+abbrev pub begun_behind : ℕ → VideoHead → List Frame → Begun
+begun_behind depth h [] = None
+begun_behind depth h (f ∷ fs) = Some (f.said, writer_behind depth h f.said)
+
+pub is_begun : (depth : ℕ) (h : VideoHead) (frames : List Frame) → IsBegun depth h (begun_behind depth h frames)
+is_begun depth h [] = tt
+is_begun depth h (f ∷ fs) = refl
+
+pub begun_more : (depth : ℕ) (h : VideoHead) (frames : List Frame) (f : Frame) → SaysAgain (said_in (begun_behind depth h frames)) f.said →
+    Some (f.said, writer_behind depth h f.said) ≡ begun_behind depth h (frames ++ (f ∷ []))
+begun_more depth h [] f again = refl
+begun_more depth h (g ∷ gs) f again = ap (λ said. Some (said, writer_behind depth h said)) again
+
+all_say_more : (said : Said) (frames : List Frame) (f : Frame) → AllSay said frames → f.said ≡ said → AllSay said (frames ++ (f ∷ []))
+all_say_more said [] f all same = (same, tt)
+all_say_more said (g ∷ gs) f all same = (all.0, all_say_more said gs f all.1 same)
+
+alike_more : (depth : ℕ) (h : VideoHead) (frames : List Frame) (f : Frame) → AlikeBy false frames → SaysAgain (said_in (begun_behind depth h frames)) f.said → AlikeBy false (frames ++ (f ∷ []))
+alike_more depth h [] f alike again = tt
+alike_more depth h (g ∷ gs) f alike again = all_say_more g.said gs f alike again
+
+last_says : (said : Said) (frames : List Frame) (f : Frame) → AllSay said (frames ++ (f ∷ [])) → f.said ≡ said
+last_says said [] f all = all.0
+last_says said (g ∷ gs) f all = last_says said gs f all.1
+
+last_alike : (depth : ℕ) (h : VideoHead) (frames : List Frame) (f : Frame) → AlikeBy false (frames ++ (f ∷ [])) → SaysAgain (said_in (begun_behind depth h frames)) f.said
+last_alike depth h [] f alike = tt
+last_alike depth h (g ∷ gs) f alike = last_says g.said gs f alike
+
+texts_more : (frames : List Frame) (f : Frame) → flat_map picture_text (pictures (frames ++ (f ∷ []))) ≡ flat_map picture_text (pictures frames) ++ picture_text f.planes
+texts_more [] f = append-nil (picture_text f.planes)
+texts_more (g ∷ gs) f =
+    ap (λ z. picture_text g.planes ++ z) (texts_more gs f) ∙ sym (append_assoc (picture_text g.planes) (flat_map picture_text (pictures gs)) (picture_text f.planes))
+
+-- the text grows by that of the next picture
+text_more : (s : Stream) (h : VideoHead) (frames : List Frame) (f : Frame) → ((said : Said) → head_saying h said ≡ video_of s said) →
+    let depth = s.accepted.configuration.depth in y4m_text s (frames ++ (f ∷ [])) ≡ y4m_text s frames ++ text_behind depth h (said_in (begun_behind depth h frames)) f.said f.planes
+text_more s h [] f heads =
+    ap (λ z. header_text s.accepted.configuration.depth (video_of s f.said) ++ z) (append-nil (picture_text f.planes)) ∙ ap (λ z. header_text s.accepted.configuration.depth z ++ picture_text f.planes) (sym (heads f.said))
+text_more s h (g ∷ gs) f heads =
+    ap (λ z. header_text s.accepted.configuration.depth (video_of s g.said) ++ z) (texts_more (g ∷ gs) f)
+    ∙ sym (append_assoc (header_text s.accepted.configuration.depth (video_of s g.said)) (flat_map picture_text (pictures (g ∷ gs))) (picture_text f.planes))
+
+module _ (s : Stream) (h : VideoHead) (heads : (said : Said) → head_saying h said ≡ video_of s said) (plain : is_ppm_stream s ≡ false) (from : Place) where
+  abbrev depth : ℕ
+  depth = s.accepted.configuration.depth
+
+  plain_alike : (frames : List Frame) → AlikeBy false frames → AlikeBy (is_ppm_stream s) frames
+  plain_alike frames alike = subst (λ b. AlikeBy b frames) (sym plain) alike
+
+  alike_plain : (frames : List Frame) → AlikeBy (is_ppm_stream s) frames → AlikeBy false frames
+  alike_plain frames alike = subst (λ b. AlikeBy b frames) plain alike
+
+  plain_text : (frames : List Frame) → text_by (is_ppm_stream s) s frames ≡ y4m_text s frames
+  plain_text frames = ap (λ b. text_by b s frames) plain
+
+  -- the text of a frame more
+  whole_text : (frames : List Frame) (f : Frame) →
+      text_by (is_ppm_stream s) s (frames ++ (f ∷ [])) ≡ text_by (is_ppm_stream s) s frames ++ text_behind depth h (said_in (begun_behind depth h frames)) f.said f.planes
+  whole_text frames f =
+      let behind = text_behind depth h (said_in (begun_behind depth h frames)) f.said f.planes in
+      plain_text (frames ++ (f ∷ [])) ∙ text_more s h frames f heads ∙ ap (λ z. z ++ behind) (sym (plain_text frames))
+
+  pub unpacked_none : (i o : Option (List ℕ)) (ib ob : ℕ) → Unpacked s from (between i i ib ib) (between o o ob ob) [] from
+  unpacked_none i o ib ob = record { so = none_yet (IsFrame s.accepted) frame_payload (text_of s) (plain_text []) from i o ib ob; alike = plain_alike [] tt }
+
+  module _ (to last : Place) (i0 i1 i2 o0 o1 o2 : Option (List ℕ)) (ib im ia ob om oa : ℕ) (frames : List Frame)
+      (un : Unpacked s from (between i0 i1 ib im) (between o0 o1 ob om) frames to) where
+    abbrev behind : Frame → List ℕ
+    behind f = text_behind depth h (said_in (begun_behind depth h frames)) f.said f.planes
+
+    more_alike : (f : Frame) → SaysAgain (said_in (begun_behind depth h frames)) f.said → AlikeBy (is_ppm_stream s) (frames ++ (f ∷ []))
+    more_alike f again = plain_alike (frames ++ (f ∷ [])) (alike_more depth h frames f (alike_plain frames un.alike) again)
+
+    pub unpacked_more : (f : Frame) → PlaysFrame s.accepted to last (between i1 i2 im ia) f → SaysAgain (said_in (begun_behind depth h frames)) f.said → oa ≡ om → Appends o1 o2 (behind f) →
+        Unpacked s from (between i0 i2 ib ia) (between o0 o2 ob oa) (frames ++ (f ∷ [])) last
+    unpacked_more f plays again same writes = unpacks_more s from to last i0 i1 i2 o0 o1 o2 ib im ia ob om oa frames un behind (whole_text frames) f plays (more_alike f again) same writes
+
+    pub unpacked_over : ReadsEnd to (between i1 i2 im ia) → Silent (between o1 o2 om oa) → UnpacksAll (HasThen from) s (between i0 i2 ib ia) (between o0 o2 ob oa) frames
+    unpacked_over = unpacks_all s from to last i0 i1 i2 o0 o1 o2 ib im ia ob om oa frames un
+
+    then : (Next : Place → List ℕ → List ℕ → Type 0) → Silent (between o1 o2 om oa) → Known i1 i2 (Next to) → UnpacksThen (HasThen from) s (between i0 i2 ib ia) (between o0 o2 ob oa) frames Next
+    then = unpacks_on s from to last i0 i1 i2 o0 o1 o2 ib im ia ob om oa frames un
+
+    kept_text : Silent (between o1 o2 om oa) → Appends o0 o2 (text_by (is_ppm_stream s) s frames)
+    kept_text none = Appends-kept o0 o1 o2 (text_by (is_ppm_stream s) s frames) un.so.writes none.kept
+
+    payload_faults : (f : Fault) → Silent (between o1 o2 om oa) → PayloadFaults s.accepted to last (between i1 i2 im ia) f → PayloadStops (HasThen from) s (between i0 i2 ib ia) (between o0 o2 ob oa) f
+    payload_faults f none p =
+        let text = text_by (is_ppm_stream s) s frames in
+        let rows : text ++ rows_by (is_ppm_stream s) s (lines_before p.faulty) ≡ text = ap (λ b. text ++ rows_by b s (lines_before p.faulty)) plain ∙ append-nil text in
+        record {
+          frames = frames;
+          payload = p.payload;
+          fault = p.fault;
+          tally = p.tally;
+          goes = goes_to s from to last i0 i1 i2 o0 o1 o2 ib im ia ob om oa frames un p.payload p.reads;
+          alike = un.alike;
+          faulty = p.faulty;
+          is = p.is;
+          written = none.same ∙ un.so.written;
+          writes = subst (Appends o0 o2) (sym rows) (kept_text none);
+        }
+
+    format_changes : (f : Fault) → Silent (between o1 o2 om oa) → FrameChanges s.accepted h (said_in (begun_behind depth h frames)) to last (between i1 i2 im ia) (between o1 o2 om oa) f →
+        FormatChanges (HasThen from) s (between i0 i2 ib ia) (between o0 o2 ob oa) f
+    format_changes f none p = record {
+      frames = frames;
+      last = p.frame;
+      goes = record {
+        are = all_more (IsFrame s.accepted) frames p.frame un.so.are p.plays.is;
+        has = has_stays from last i0 i2 (payloads (frames ++ (p.frame ∷ []))) (reads_more frame_payload from to last i0 i1 i2 frames p.frame un.so.read p.plays.reads.next);
+      };
+      alike = un.alike;
+      changed = λ alike. p.changed (last_alike depth h frames p.frame (alike_plain (frames ++ (p.frame ∷ [])) alike));
+      is = p.is;
+      wrote = record { written = none.same ∙ un.so.written; writes = kept_text none };
+    }
+
+    pub unpacking_stops : (f : Fault) (why : Cause) → NextStopsBy s.accepted h (said_in (begun_behind depth h frames)) to last (between i1 i2 im ia) (between o1 o2 om oa) f why →
+        UnpackingStopsBy (HasThen from) s (between i0 i2 ib ia) (between o0 o2 ob oa) f why
+    unpacking_stops f Writing p = inl (frames ++ (p.0 ∷ []), picture_fails s from to last i0 i1 i2 o0 o1 o2 ib im ia ob om oa frames un behind (whole_text frames) p.0 p.1 (more_alike p.0 p.2) p.3 p.4.0 p.4.1 p.4.2)
+    unpacking_stops f Reading p = (p.1 ∙ ap one_more un.so.kept, frames, then NextReadFails p.0 p.2)
+    unpacking_stops f Memory p = (p.1 ∙ un.so.kept, inl (frames, then NextPayloadLacks p.0 p.2))
+    unpacking_stops f Content p = (
+      p.1 ∙ un.so.kept,
+      elim p.2 [
+        | inl file ↦ inl (frames, then (NextHasFault f) p.0 file)
+        | inr more ↦ elim more [
+          | inl payload ↦ inr (inl (payload_faults f p.0 payload))
+          | inr changes ↦ inr (inr (format_changes f p.0 changes))
+        ]
+      ],
+    )
+
+-- a fault of decoding that is not the sink's comes from what was read
+pub decode_cause : (f : CodecFault) → is_decode_fault f ≡ true → f ≢ codec_fault.Sink → cause_of (of_codec f) ≡ Content
+decode_cause codec_fault.OutOfMemory is own = absurd (search rules)
+decode_cause codec_fault.BadStart is own = refl
+decode_cause codec_fault.SymbolTooLong is own = refl
+decode_cause codec_fault.Colour is own = refl
+decode_cause codec_fault.Overread is own = refl
+decode_cause codec_fault.Ending is own = refl
+decode_cause codec_fault.NotKey is own = refl
+decode_cause codec_fault.Place is own = refl
+decode_cause codec_fault.SetIndex is own = refl
+decode_cause codec_fault.Structure is own = refl
+decode_cause codec_fault.Aspect is own = refl
+decode_cause codec_fault.Footer is own = refl
+decode_cause codec_fault.Leftover is own = refl
+decode_cause codec_fault.SliceParity is own = refl
+decode_cause codec_fault.SliceStatus is own = refl
+decode_cause codec_fault.Overlap is own = refl
+decode_cause codec_fault.SliceTooLong is own = absurd (search rules)
+decode_cause codec_fault.InfoDiffers is own = refl
+decode_cause codec_fault.Sink is own = absurd (own refl)
+
+-- the head of a text is that of its stream
+pub heads_of : (x y : Head) (b a : Accepted) (h : VideoHead) → x ≡ y → b ≡ a → ((said : Said) → head_saying h said ≡ video_of (record { head = x; accepted = b }) said) →
+    (said : Said) → head_saying h said ≡ video_of (record { head = y; accepted = a }) said
+heads_of x y b a h head same heads =
+    subst (λ z. (said : Said) → head_saying h said ≡ video_of (record { head = y; accepted = z }) said) same
+    (subst (λ z. (said : Said) → head_saying h said ≡ video_of (record { head = z; accepted = b }) said) head heads)
+
+-- memory for the sink was refused
+pub wants_memory : (s : Stream) (from : Place) (i o : Option (List ℕ)) (ib ob : ℕ) (f : CodecFault) → is_ppm_stream s ≡ false → f ≡ codec_fault.OutOfMemory →
+    UnpackingStops (HasThen from) s (between i i ib ib) (between o o ob ob) (of_codec f)
+wants_memory s from i o ib ob f plain is =
+    let no_text = subst (λ b. Appends o o (text_by b s [])) (sym plain) (Appends-nil o) in
+    subst (λ z. UnpackingStops (HasThen from) s (between i i ib ib) (between o o ob ob) (of_codec z)) (sym is)
+    (refl, inr (none_unpacked s from i o ib ob (subst (λ b. AlikeBy b []) (sym plain) tt) no_text))
+
+module _ (a : Accepted) (h : VideoHead) (first : Option Said) (from to : Place) (input : Passage) where
+  -- a frame was decoded, and its picture was not written
+  pub picture_stops : (output : Passage) (after : Begun) (frame : Frame) (f : Fault) → PlaysFrame a from to input frame → WritesPicture a.configuration.depth h first frame.said frame.planes output after (Err f) →
+      NextStopsBy a h first from to input output f (cause_of f)
+  picture_stops output after frame f plays answer = elim answer [
+    | inl write ↦
+        subst (λ z. NextStopsBy a h first from to input output z (cause_of z)) (sym write.0) (frame, plays, write.1, write.2, write.3)
+    | inr other ↦
+        subst (λ z. NextStopsBy a h first from to input output z (cause_of z)) (sym other.0)
+        (other.2, plays.reads.kept, inr (inr (record { frame = frame; plays = plays; changed = other.1; is = refl })))
+  ]
+
+  -- there is none
+  pub file_stops : (o : Option (List ℕ)) (n : ℕ) (f : Fault) (why : Cause) → FileStopsBy (may_end from) (frame_read from) input f why → NextStopsBy a h first from to input (between o o n n) f why
+  file_stops o n f Reading stops = (silent o n, stops.0, stops.1)
+  file_stops o n f Writing stops = absurd stops
+  file_stops o n f Memory stops = (silent o n, stops.0, stops.1)
+  file_stops o n f Content stops = (silent o n, stops.0, inl stops.1)
+
+  -- its payload has a fault
+  pub payload_stops : (o : Option (List ℕ)) (n : ℕ) (f : Fault) → PayloadFaults a from to input f → NextStopsBy a h first from to input (between o o n n) f (cause_of f)
+  payload_stops o n f p = subst (NextStopsBy a h first from to input (between o o n n) f) (sym p.content) (silent o n, p.reads.kept, inr (inl p))
+
+-- so many frames were unpacked
+pub record UnpackedSo (s : Stream) (h : VideoHead) (from : Place) (input output : Passage) (begun : Begun) (count : ℕ) (to : Place) : Type 0 where
+  pub frames : List Frame
+  pub is : count ≡ saturated (length frames)
+  pub un : Unpacked s from input output frames to
+  pub begun_is : begun ≡ begun_behind s.accepted.configuration.depth h frames

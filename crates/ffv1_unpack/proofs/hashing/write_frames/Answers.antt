@@ -1,0 +1,158 @@
+-- Decodes all frames that are left, and writes the line of each picture as soon as it is decoded.
+use Rattle.std.proofs.Common.{◌≡◌, refl, Ok, Err, subst, sym, ◌∙◌, [], ◌∷◌, ◌++◌, length, arith}
+use Rattle.std.proofs.lemmas.Result.{err_from_is_err_and}
+use Rattle.ffv1_range.specs.Counts.{saturated}
+use Rattle.ffv1_wire.specs.Passage.{passage}
+use Rattle.ffv1_codec.specs.SliceList.{Said}
+use Rattle.ffv1_unpack.specs.FrameMd5.{frames_md5}
+use Rattle.ffv1_unpack.specs.Internal.FrameMd5.{frame_md5}
+use Rattle.ffv1_unpack.specs.Internal.Opens.{stream_of}
+use Rattle.ffv1_video.specs.KeptLines.{IsKeptFor}
+use Rattle.ffv1_unpack.specs.Internal.PicturesOut.{head_saying}
+use Rattle.ffv1_unpack.specs.Internal.Plays.{NextAnswers}
+use Rattle.ffv1_unpack.specs.Unpacked.{video_of}
+use Rattle.ffv1_unpack.proofs.FramesPlayed.{play_stops, played_more, played_none, played_over}
+use Rattle.ffv1_unpack.proofs.FramesPlayed.{wants_memory}
+use Rattle.ffv1_unpack.proofs.FramesInTurn.{counted_more}
+use Rattle.ffv1_unpack.proofs.Md5sSoFar.{text_more}
+use Rattle.ffv1_unpack.proofs.PicturesWritten.{heads_of}
+use Rattle.ffv1_video.proofs.KeptLines.{zeros_kept}
+use Rattle.ffv1_unpack.proofs.hashing.write_frames.Goals as goal
+
+pub returns-in_err-kept-clause-err : goal.returns-in_err-kept-clause-err
+returns-in_err-kept-clause-err g c =
+    let p = err_from_is_err_and c.from_residual.result c.from_residual.ensures.1 in
+    let a = c.args.player.now.decoder.accepted in
+    rw (p.1, p.2)
+    (wants_memory a (frames_md5 (stream_of c.args.player.now.reader a)) refl
+    c.args.player.now.reader.place (g.R.ByteIn.remaining c.args.input.now)
+    (g.W.ByteOut.contents c.args.output.now)
+    (g.R.ByteIn.failures c.args.input.now) (g.W.ByteOut.failures c.args.output.now)
+    c.in_err-kept.field-0.0 c.in_err-kept.ensures.err)
+
+pub loop-lines-init : goal.loop-lines-init
+loop-lines-init g c =
+    let a = c.args.player.now.decoder.accepted in
+    let heads = heads_of _ _ _ _ c.text_head.result c.head.ensures.value c.config-checked.ensures
+    c.text_head.ensures in (
+      c.requires.sound,
+      refl,
+      zeros_kept a c.config-checked.result.now c.in_ok-kept.kept c.config-checked.ensures
+          c.in_ok-kept.ensures.ok,
+      heads,
+      played_none a (frames_md5 (stream_of c.args.player.now.reader a)) refl
+          c.args.player.now.reader.place (g.R.ByteIn.remaining c.args.input.now)
+          (g.W.ByteOut.contents c.args.output.now)
+          (g.R.ByteIn.failures c.args.input.now) (g.W.ByteOut.failures c.args.output.now),
+      refl,
+    )
+
+pub returns-in_err-write_next-clause-err : goal.returns-in_err-write_next-clause-err
+returns-in_err-write_next-clause-err g c =
+    let p = err_from_is_err_and c.from_residual-in_err-write_next.result
+    c.from_residual-in_err-write_next.ensures.1 in
+    let a = c.args.player.now.decoder.accepted in
+    let s = stream_of c.args.player.now.reader a in
+    let h = c.loop-lines.lines.head in
+    let i = c.loop-lines.invariant in
+    let so = i.4 in
+    let f = c.in_err-write_next.field-0.0 in
+    let to = c.loop-lines.player.reader.place in
+    let last = c.write_next.new.player.reader.place in
+    let input = passage g.R.ByteIn.remaining g.R.ByteIn.failures c.loop-lines.input
+    c.write_next.new.input in
+    let output = passage g.W.ByteOut.contents g.W.ByteOut.failures c.loop-lines.output
+    c.write_next.new.output in
+    let answer = subst (λ z. NextAnswers z (frame_md5 z h c.loop-lines.count) to last input output
+    (Err f)) i.1 c.in_err-write_next.ensures.answer in
+    rw (p.1, p.2)
+    (play_stops a (frames_md5 s) c.args.player.now.reader.place to last c.loop-lines.count
+    (g.R.ByteIn.remaining c.args.input.now) (g.R.ByteIn.remaining c.loop-lines.input)
+    (g.R.ByteIn.remaining c.write_next.new.input)
+    (g.W.ByteOut.contents c.args.output.now) (g.W.ByteOut.contents c.loop-lines.output)
+    (g.W.ByteOut.contents c.write_next.new.output)
+    (g.R.ByteIn.failures c.args.input.now) (g.R.ByteIn.failures c.loop-lines.input)
+    (g.R.ByteIn.failures c.write_next.new.input)
+    (g.W.ByteOut.failures c.args.output.now) (g.W.ByteOut.failures c.loop-lines.output)
+    (g.W.ByteOut.failures c.write_next.new.output)
+    so (frame_md5 a h c.loop-lines.count) (λ z. text_more s h i.3 so.frames z c.loop-lines.count
+    so.is) f answer)
+
+pub returns-in_err-write_next-clause-own : goal.returns-in_err-write_next-clause-own
+returns-in_err-write_next-clause-own g c =
+    let p = err_from_is_err_and c.from_residual-in_err-write_next.result
+    c.from_residual-in_err-write_next.ensures.1 in
+    rw (p.1, p.2) (rw c.loop-lines.invariant.5 at c.in_err-write_next.ensures.own)
+
+pub loop-lines-preserved : goal.loop-lines-preserved
+loop-lines-preserved g c =
+    let a = c.args.player.now.decoder.accepted in
+    let s = stream_of c.args.player.now.reader a in
+    let h = c.loop-lines.lines.head in
+    let i = c.loop-lines.invariant in
+    let so = i.4 in
+    let to = c.loop-lines.player.reader.place in
+    let last = c.write_next.new.player.reader.place in
+    let input = passage g.R.ByteIn.remaining g.R.ByteIn.failures c.loop-lines.input
+    c.write_next.new.input in
+    let output = passage g.W.ByteOut.contents g.W.ByteOut.failures c.loop-lines.output
+    c.write_next.new.output in
+    let answer =
+    subst (λ b. NextAnswers a (frame_md5 a h c.loop-lines.count) to last input output (Ok b))
+    c.if-branch.true
+    (subst (λ z. NextAnswers z (frame_md5 z h c.loop-lines.count) to last input output
+    (Ok c.in_ok-write_next.field-0)) i.1 c.in_ok-write_next.ensures.answer) in
+    let f = answer.0 in
+    let next : c.saturating_add-count.result ≡ saturated (length (so.frames ++ (f ∷ []))) =
+    omega (arith, c.saturating_add-count.ensures, so.is, counted_more so.frames f) in (
+      c.in_ok-write_next.ensures.sound,
+      c.in_ok-write_next.ensures.same ∙ i.1,
+      subst (λ z. IsKeptFor z c.write_next.new.kept) i.1 c.in_ok-write_next.ensures.kept,
+      subst (λ z. (said : Said) → head_saying z said ≡ video_of s said)
+          (sym c.in_ok-write_next.ensures.head) i.3,
+      played_more a (frames_md5 s) c.args.player.now.reader.place to last c.loop-lines.count
+          (g.R.ByteIn.remaining c.args.input.now) (g.R.ByteIn.remaining c.loop-lines.input)
+          (g.R.ByteIn.remaining c.write_next.new.input)
+          (g.W.ByteOut.contents c.args.output.now) (g.W.ByteOut.contents c.loop-lines.output)
+          (g.W.ByteOut.contents c.write_next.new.output)
+          (g.R.ByteIn.failures c.args.input.now) (g.R.ByteIn.failures c.loop-lines.input)
+          (g.R.ByteIn.failures c.write_next.new.input)
+          (g.W.ByteOut.failures c.args.output.now) (g.W.ByteOut.failures c.loop-lines.output)
+          (g.W.ByteOut.failures c.write_next.new.output)
+          so (frame_md5 a h c.loop-lines.count)
+          (λ z. text_more s h i.3 so.frames z c.loop-lines.count so.is) f
+          c.saturating_add-count.result next answer.1 answer.2 answer.3,
+      c.in_ok-write_next.ensures.container ∙ i.5,
+    )
+
+pub returns-clause-ok : goal.returns-clause-ok
+returns-clause-ok g c =
+    let a = c.args.player.now.decoder.accepted in
+    let h = c.loop-lines.lines.head in
+    let i = c.loop-lines.invariant in
+    let so = i.4 in
+    let to = c.loop-lines.player.reader.place in
+    let last = c.write_next.new.player.reader.place in
+    let input = passage g.R.ByteIn.remaining g.R.ByteIn.failures c.loop-lines.input
+    c.write_next.new.input in
+    let output = passage g.W.ByteOut.contents g.W.ByteOut.failures c.loop-lines.output
+    c.write_next.new.output in
+    let answer =
+    subst (λ b. NextAnswers a (frame_md5 a h c.loop-lines.count) to last input output (Ok b))
+    c.if-branch.false
+    (subst (λ z. NextAnswers z (frame_md5 z h c.loop-lines.count) to last input output
+    (Ok c.in_ok-write_next.field-0)) i.1 c.in_ok-write_next.ensures.answer) in (
+      so.frames,
+      so.is,
+      played_over a (frames_md5 (stream_of c.args.player.now.reader a))
+          c.args.player.now.reader.place to last c.loop-lines.count
+          (g.R.ByteIn.remaining c.args.input.now) (g.R.ByteIn.remaining c.loop-lines.input)
+          (g.R.ByteIn.remaining c.write_next.new.input)
+          (g.W.ByteOut.contents c.args.output.now) (g.W.ByteOut.contents c.loop-lines.output)
+          (g.W.ByteOut.contents c.write_next.new.output)
+          (g.R.ByteIn.failures c.args.input.now) (g.R.ByteIn.failures c.loop-lines.input)
+          (g.R.ByteIn.failures c.write_next.new.input)
+          (g.W.ByteOut.failures c.args.output.now) (g.W.ByteOut.failures c.loop-lines.output)
+          (g.W.ByteOut.failures c.write_next.new.output)
+          so answer.0 answer.1,
+    )

@@ -1,0 +1,196 @@
+-- Reads the next frame, and decodes it into an image.
+use Rattle.std.proofs.Common.{◌≡◌, ◌∙◌, ◌+◌, [], inl, inr, ap, sym, subst, get_or}
+use Rattle.ffv1_wire.specs.Passage.{passage}
+use Rattle.std.specs.Prelude.{slice_index}
+use Rattle.ffv1_slice.specs.Cutting.{coded_of}
+use Rattle.ffv1_slice.specs.Footer.{foot_length}
+use Rattle.ffv1_codec.specs.Decoding.{top_of}
+use Rattle.ffv1_codec.specs.Lines.{lines_of, places_of}
+use Rattle.ffv1_y4m.specs.Images.{image_places}
+use Rattle.ffv1_y4m.specs.Sink.{Refuses, Takes}
+use Rattle.ffv1_video.specs.Faults.{cause_of, of_avi, of_codec}
+use Rattle.ffv1_unpack.specs.Internal.ImagesOut.{ImageStopsBy}
+use Rattle.ffv1_unpack.specs.Stream.{Frame}
+use Rattle.ffv1_unpack.specs.Told.{is_telling_fault}
+use Rattle.ffv1_codec.specs.Outcome.{lines_before}
+use Rattle.ffv1_unpack.proofs.FrameDecoded.{is_decided}
+use Rattle.ffv1_unpack.proofs.ImageLines.{colour_of, image_of}
+use Rattle.ffv1_unpack.proofs.ImagesWritten.{counted, either, file_stops, image_faults}
+use Rattle.ffv1_unpack.proofs.ImagesWritten.{image_written, line_long, payload_stops, row_cut}
+use Rattle.ffv1_unpack.proofs.ImagesWritten.{sink_stays, sinks_own}
+use Rattle.ffv1_unpack.proofs.PicturesWritten.{decode_cause}
+use Rattle.ffv1_unpack.proofs.OwnFaults.{payload_tells}
+use Rattle.ffv1_unpack.proofs.images_out.write_next.Goals as goal
+
+pub returns-in-Ok-Some-clause-answer : goal.returns-in-Ok-Some-clause-answer
+returns-in-Ok-Some-clause-answer g c =
+    let a = c.args.player.now.decoder.accepted in
+    let k = a.configuration in
+    let payload = c.play.new.player.payload.items in
+    let tally = c.play.new.player.decoder.tally in
+    let info = c.in-Ok-Some._info in
+    let old = c.args.sink.now in
+    let new = c.play.new.sink in
+    let is = c.requires.accepted in
+    let rct = c.requires.colour in
+    let answer = rw c.in-Ok-Some.field-0-is at c.in-Ok-Some.ensures.answer in
+    let found = c.answer_is_ok_for_coded_pictures.ensures.found a payload old new tally info is
+    answer.1 in
+    let image = image_of k (λ p. c.rct_planes_have_the_picture_size.ensures.wide a p is rct)
+    (λ p. c.rct_planes_have_the_picture_size.ensures.high a p is rct)
+    (c.lines_are_handed_in_turn.ensures.colours a is rct c.requires.opaque) found.0
+    (c.lines_are_handed_in_turn.ensures.lines a found.0) found.1.picture.fits
+    (c.accepted_configuration_has_sound_parts.ensures.rct k a.table is
+    (colour_of k.colour rct)).0 c.requires.opaque in
+    let written = image_written g.W.ByteOut.contents g.W.ByteOut.failures k old new found.0
+    c.requires.sink image (c.accepted_configuration_is_in_range.ensures.sizes k a.table is).2
+    c.image_is_written_after_the_others.ensures.image found.2 in
+    let decided = is_decided (Takes g.W.ByteOut.contents g.W.ByteOut.failures)
+    (Refuses g.W.ByteOut.contents g.W.ByteOut.failures) a payload old new tally info answer.1 in
+    let frame : Frame = record {
+      payload = payload;
+      planes = found.0;
+      said = info;
+      tally = tally;
+    } in (
+      frame,
+      record { is = record { codes = found.1; decided = decided }; reads = answer.0 },
+      c.sink_takes_the_next_line.ensures.taken old new (lines_of k found.0) found.2,
+      written.0,
+    )
+
+pub returns-in-Ok-Some-clause-sink : goal.returns-in-Ok-Some-clause-sink
+returns-in-Ok-Some-clause-sink g c =
+    let a = c.args.player.now.decoder.accepted in
+    let k = a.configuration in
+    let payload = c.play.new.player.payload.items in
+    let tally = c.play.new.player.decoder.tally in
+    let info = c.in-Ok-Some._info in
+    let old = c.args.sink.now in
+    let new = c.play.new.sink in
+    let is = c.requires.accepted in
+    let rct = c.requires.colour in
+    let answer = rw c.in-Ok-Some.field-0-is at c.in-Ok-Some.ensures.answer in
+    let found = c.answer_is_ok_for_coded_pictures.ensures.found a payload old new tally info is
+    answer.1 in
+    let image = image_of k (λ p. c.rct_planes_have_the_picture_size.ensures.wide a p is rct)
+    (λ p. c.rct_planes_have_the_picture_size.ensures.high a p is rct)
+    (c.lines_are_handed_in_turn.ensures.colours a is rct c.requires.opaque) found.0
+    (c.lines_are_handed_in_turn.ensures.lines a found.0) found.1.picture.fits
+    (c.accepted_configuration_has_sound_parts.ensures.rct k a.table is
+    (colour_of k.colour rct)).0 c.requires.opaque in
+    (image_written g.W.ByteOut.contents g.W.ByteOut.failures k old new found.0 c.requires.sink image
+    (c.accepted_configuration_is_in_range.ensures.sizes k a.table is).2
+    c.image_is_written_after_the_others.ensures.image found.2).1
+
+pub returns-in-Err-File-clause-answer : goal.returns-in-Err-File-clause-answer
+returns-in-Err-File-clause-answer g c =
+    let a = c.args.player.now.decoder.accepted in
+    let old = c.args.sink.now in
+    let new = c.play.new.sink in
+    let from = c.args.player.now.reader.place in
+    let to = c.play.new.player.reader.place in
+    let f = of_avi c.in-Err-File.fault in
+    let input = passage g.R.ByteIn.remaining g.R.ByteIn.failures c.args.input.now
+    c.play.new.input in
+    let output = passage g.W.ByteOut.contents g.W.ByteOut.failures old.out new.out in
+    let answer = rw c.in-Err-File.field-0-is at c.in-Err-File.ensures.answer in
+    let none = sink_stays g.W.ByteOut.contents g.W.ByteOut.failures old new answer.1 in
+    subst (λ z. ImageStopsBy a from to input output z (cause_of z)) (sym c.from.ensures)
+    (file_stops a from to input output f (cause_of f) none answer.0)
+
+pub returns-in-Sink-clause-answer : goal.returns-in-Sink-clause-answer
+returns-in-Sink-clause-answer g c =
+    let a = c.args.player.now.decoder.accepted in
+    let k = a.configuration in
+    let contents = g.W.ByteOut.contents in
+    let failed = g.W.ByteOut.failures in
+    let payload = c.play.new.player.payload.items in
+    let tally = c.play.new.player.decoder.tally in
+    let f = c.in-Err-Payload.fault in
+    let old = c.args.sink.now in
+    let new = c.play.new.sink in
+    let is = c.requires.accepted in
+    let rct = c.requires.colour in
+    let at = c.requires.sink.at in
+    let answer = rw c.in-Err-Payload.field-0-is at c.in-Err-Payload.ensures.answer in
+    let order : places_of k ≡ image_places old.height = c.lines_are_handed_in_turn.ensures.colours a
+    is rct c.requires.opaque ∙ ap image_places (sym c.requires.sink.height) in
+    elim (either (Takes contents failed) (Refuses contents failed) a payload old new tally f
+    answer.1) [
+      | inl faulty ↦
+          let h = c.sink_fault_is_a_refused_line.ensures.sink a payload old new tally f is answer.1
+          c.in-Sink.is in
+          let long = line_long contents failed k old f.plane f.line h.samples c.requires.sink
+          (c.rct_planes_have_the_picture_size.ensures.wide a f.plane is rct) h.line in
+          let cut = c.sink_takes_the_next_line.ensures.refused old h.between new h.lines f.plane
+          f.line h.samples h.rest at h.grows (h.turn ∙ order) long h.last in
+          absurd
+          (counted (failed old.out) (failed h.between.out) (failed new.out) cut.1
+          (c.sink_takes_the_next_line.ensures.taken old h.between h.lines h.grows)
+          (c.sink_takes_the_next_line.ensures.taken old new (lines_before faulty.faulty)
+          faulty.grows))
+      | inr r ↦
+          let coded = coded_of payload (foot_length k.ec) (slice_index r.offsets) in
+          let sink = r.sink in
+          let samples = get_or sink.state.out sink.number [] in
+          let y = top_of k sink.plane sink.row + sink.line in
+          let placed = c.lines_are_handed_in_turn.ensures.offered a coded sink.row sink.number
+          sink.plane sink.line sink.state sink.offers in
+          let line = c.offered_lines_fit_the_configuration.ensures a coded sink.row sink.number
+          sink.plane sink.line sink.state is sink.offers in
+          let long = line_long contents failed k old sink.plane y samples c.requires.sink
+          (c.rct_planes_have_the_picture_size.ensures.wide a sink.plane is rct) line in
+          let cut = c.sink_takes_the_next_line.ensures.refused old sink.between new sink.state.lines
+          sink.plane y samples placed.0 at sink.grows (placed.1 ∙ order) long sink.last in
+          row_cut contents failed a c.args.player.now.reader.place c.play.new.player.reader.place
+          (passage g.R.ByteIn.remaining g.R.ByteIn.failures c.args.input.now c.play.new.input)
+          payload answer.0 old new tally f
+          c.requires.sink r (c.sink_writes_the_lines_it_took.ensures.taken old sink.between
+          sink.state.lines sink.grows) (c.sink_takes_the_next_line.ensures.taken old
+          sink.between sink.state.lines sink.grows) cut.0 cut.1
+    ]
+
+pub returns-in_default : goal.returns-in_default
+returns-in_default g c =
+    let a = c.args.player.now.decoder.accepted in
+    let contents = g.W.ByteOut.contents in
+    let failed = g.W.ByteOut.failures in
+    let payload = c.play.new.player.payload.items in
+    let tally = c.play.new.player.decoder.tally in
+    let f = c.in-Err-Payload.fault in
+    let old = c.args.sink.now in
+    let new = c.play.new.sink in
+    let from = c.args.player.now.reader.place in
+    let to = c.play.new.player.reader.place in
+    let input = passage g.R.ByteIn.remaining g.R.ByteIn.failures c.args.input.now
+    c.play.new.input in
+    let output = passage contents failed old.out new.out in
+    let answer = rw c.in-Err-Payload.field-0-is at c.in-Err-Payload.ensures.answer in
+    let is = c.answered_fault_is_of_decoding.ensures a payload old new tally f answer.1 in
+    let content = decode_cause f.fault is c.in_default.not-Sink in
+    let stops : ImageStopsBy a from to input output (of_codec f.fault)
+    (cause_of (of_codec f.fault)) =
+    elim (either (Takes contents failed) (Refuses contents failed) a payload old new tally f
+    answer.1) [
+      | inl faulty ↦
+          payload_stops a from to input output (of_codec f.fault)
+          (image_faults contents failed a from to input payload answer.0 old new tally f
+          c.requires.sink faulty content (c.sink_writes_the_lines_it_took.ensures.taken old new
+          (lines_before faulty.faulty) faulty.grows)
+          (c.sink_takes_the_next_line.ensures.taken old new (lines_before faulty.faulty)
+          faulty.grows))
+      | inr r ↦ absurd (c.in_default.not-Sink (sinks_own (Takes contents failed)
+          (Refuses contents failed) a payload old new tally f r))
+    ] in
+    record {
+      answer = subst (λ z. ImageStopsBy a from to input output z (cause_of z))
+          (sym c.from-in_default.ensures) stops;
+      sink = tt;
+      sound = tt;
+      less = tt;
+      same = c.play.ensures.same;
+      container = c.play.ensures.container;
+      own = inl (inr (inl (ap is_telling_fault c.from-in_default.ensures ∙ payload_tells f.fault is
+          c.in_default.not-Sink)));
+    }

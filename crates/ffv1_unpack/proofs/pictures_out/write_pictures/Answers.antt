@@ -1,0 +1,177 @@
+-- Decodes all frames that are left, and writes the picture of each.
+use Rattle.std.proofs.Common.{◌≡◌, refl, Ok, Err, subst, sym, ◌∙◌, [], ◌∷◌, ◌++◌, length, arith}
+use Rattle.std.proofs.lemmas.Result.{err_from_is_err_and}
+use Rattle.ffv1_range.specs.Counts.{saturated}
+use Rattle.ffv1_wire.specs.Passage.{passage}
+use Rattle.ffv1_codec.specs.SliceList.{Said}
+use Rattle.ffv1_video.specs.Faults.{cause_of}
+use Rattle.ffv1_unpack.specs.Internal.Opens.{stream_of}
+use Rattle.ffv1_video.specs.KeptLines.{IsKeptFor}
+use Rattle.ffv1_unpack.specs.Internal.PicturesOut.{WritesNext, head_saying, said_in}
+use Rattle.ffv1_unpack.specs.Unpacked.{video_of}
+use Rattle.ffv1_unpack.proofs.FramesInTurn.{counted_more}
+use Rattle.ffv1_unpack.proofs.PicturesWritten.{UnpackedSo, begun_behind, begun_more, heads_of}
+use Rattle.ffv1_unpack.proofs.PicturesWritten.{unpacked_more, unpacked_none, unpacked_over}
+use Rattle.ffv1_unpack.proofs.PicturesWritten.{unpacking_stops, wants_memory}
+use Rattle.ffv1_video.proofs.KeptLines.{zeros_kept}
+use Rattle.ffv1_unpack.proofs.pictures_out.write_pictures.Goals as goal
+
+pub returns-in_err-kept-clause-err : goal.returns-in_err-kept-clause-err
+returns-in_err-kept-clause-err g c =
+    let p = err_from_is_err_and c.from_residual.result c.from_residual.ensures.1 in
+    rw (p.1, p.2)
+    (wants_memory (stream_of c.args.player.now.reader c.args.player.now.decoder.accepted)
+    c.args.player.now.reader.place (g.R.ByteIn.remaining c.args.input.now)
+    (g.W.ByteOut.contents c.args.output.now)
+    (g.R.ByteIn.failures c.args.input.now) (g.W.ByteOut.failures c.args.output.now)
+    c.in_err-kept.field-0.0 c.requires.colour c.in_err-kept.ensures.err)
+
+pub loop-kept-init : goal.loop-kept-init
+loop-kept-init g c =
+    let none : 0 ≡ saturated 0 = omega arith in
+    let heads = heads_of _ _ _ _ c.text_head.result c.head.ensures.value c.config-checked.ensures
+    c.text_head.ensures in (
+      c.requires.sound,
+      refl,
+      zeros_kept c.args.player.now.decoder.accepted c.config-checked.result.now c.in_ok-kept.kept
+          c.config-checked.ensures c.in_ok-kept.ensures.ok,
+      heads,
+      record {
+        frames = [];
+        is = none;
+        un = unpacked_none (stream_of c.args.player.now.reader c.args.player.now.decoder.accepted)
+            c.text_head.result heads c.requires.colour c.args.player.now.reader.place
+            (g.R.ByteIn.remaining c.args.input.now) (g.W.ByteOut.contents c.args.output.now)
+            (g.R.ByteIn.failures c.args.input.now) (g.W.ByteOut.failures c.args.output.now);
+        begun_is = refl;
+      },
+      refl,
+    )
+
+pub returns-in_err-write_next-clause-err : goal.returns-in_err-write_next-clause-err
+returns-in_err-write_next-clause-err g c =
+    let p = err_from_is_err_and c.from_residual-in_err-write_next.result
+    c.from_residual-in_err-write_next.ensures.1 in
+    let a = c.args.player.now.decoder.accepted in
+    let h = c.loop-kept.text.head in
+    let i = c.loop-kept.invariant in
+    let so = i.4 in
+    let f = c.in_err-write_next.field-0.0 in
+    let to = c.loop-kept.player.reader.place in
+    let last = c.write_next.new.player.reader.place in
+    let input = passage g.R.ByteIn.remaining g.R.ByteIn.failures c.loop-kept.input
+    c.write_next.new.input in
+    let output = passage g.W.ByteOut.contents g.W.ByteOut.failures c.loop-kept.output
+    c.write_next.new.output in
+    let answer =
+    subst (λ z. WritesNext a h (said_in z) to last input output c.write_next.new.text.begun (Err f))
+    so.begun_is
+    (subst (λ z. WritesNext z h (said_in c.loop-kept.text.begun) to last input output
+    c.write_next.new.text.begun (Err f)) i.1 c.in_err-write_next.ensures.answer) in
+    rw (p.1, p.2)
+    (unpacking_stops (stream_of c.args.player.now.reader a) h i.3 c.requires.colour
+    c.args.player.now.reader.place to last
+    (g.R.ByteIn.remaining c.args.input.now) (g.R.ByteIn.remaining c.loop-kept.input)
+    (g.R.ByteIn.remaining c.write_next.new.input)
+    (g.W.ByteOut.contents c.args.output.now) (g.W.ByteOut.contents c.loop-kept.output)
+    (g.W.ByteOut.contents c.write_next.new.output)
+    (g.R.ByteIn.failures c.args.input.now) (g.R.ByteIn.failures c.loop-kept.input)
+    (g.R.ByteIn.failures c.write_next.new.input)
+    (g.W.ByteOut.failures c.args.output.now) (g.W.ByteOut.failures c.loop-kept.output)
+    (g.W.ByteOut.failures c.write_next.new.output)
+    so.frames so.un f (cause_of f) answer)
+
+pub returns-in_err-write_next-clause-own : goal.returns-in_err-write_next-clause-own
+returns-in_err-write_next-clause-own g c =
+    let p = err_from_is_err_and c.from_residual-in_err-write_next.result
+    c.from_residual-in_err-write_next.ensures.1 in
+    rw (p.1, p.2) (rw c.loop-kept.invariant.5 at c.in_err-write_next.ensures.own)
+
+pub loop-kept-preserved : goal.loop-kept-preserved
+loop-kept-preserved g c =
+    let a = c.args.player.now.decoder.accepted in
+    let s = stream_of c.args.player.now.reader a in
+    let h = c.loop-kept.text.head in
+    let i = c.loop-kept.invariant in
+    let so = i.4 in
+    let to = c.loop-kept.player.reader.place in
+    let last = c.write_next.new.player.reader.place in
+    let input = passage g.R.ByteIn.remaining g.R.ByteIn.failures c.loop-kept.input
+    c.write_next.new.input in
+    let output = passage g.W.ByteOut.contents g.W.ByteOut.failures c.loop-kept.output
+    c.write_next.new.output in
+    let answer =
+    subst (λ b. WritesNext a h (said_in (begun_behind a.configuration.depth h so.frames)) to last
+    input output c.write_next.new.text.begun (Ok b)) c.if-branch.true
+    (subst (λ z. WritesNext a h (said_in z) to last input output c.write_next.new.text.begun
+    (Ok c.in_ok-write_next.field-0)) so.begun_is
+    (subst (λ z. WritesNext z h (said_in c.loop-kept.text.begun) to last input output
+    c.write_next.new.text.begun (Ok c.in_ok-write_next.field-0)) i.1
+    c.in_ok-write_next.ensures.answer)) in
+    let f = answer.0 in
+    let next : c.saturating_add-count.result ≡ saturated (length (so.frames ++ (f ∷ []))) =
+    omega (arith, c.saturating_add-count.ensures, so.is, counted_more so.frames f) in
+    let all_input = passage g.R.ByteIn.remaining g.R.ByteIn.failures c.args.input.now
+    c.write_next.new.input in
+    let all_output = passage g.W.ByteOut.contents g.W.ByteOut.failures c.args.output.now
+    c.write_next.new.output in
+    let unpacked : UnpackedSo s h c.args.player.now.reader.place all_input all_output
+    c.write_next.new.text.begun c.saturating_add-count.result last =
+    record {
+      frames = so.frames ++ (f ∷ []);
+      is = next;
+      un =
+          unpacked_more s h i.3 c.requires.colour c.args.player.now.reader.place to last
+          (g.R.ByteIn.remaining c.args.input.now) (g.R.ByteIn.remaining c.loop-kept.input)
+          (g.R.ByteIn.remaining c.write_next.new.input)
+          (g.W.ByteOut.contents c.args.output.now) (g.W.ByteOut.contents c.loop-kept.output)
+          (g.W.ByteOut.contents c.write_next.new.output)
+          (g.R.ByteIn.failures c.args.input.now) (g.R.ByteIn.failures c.loop-kept.input)
+          (g.R.ByteIn.failures c.write_next.new.input)
+          (g.W.ByteOut.failures c.args.output.now) (g.W.ByteOut.failures c.loop-kept.output)
+          (g.W.ByteOut.failures c.write_next.new.output)
+          so.frames so.un f answer.1 answer.2 answer.3 answer.4;
+      begun_is = answer.5 ∙ begun_more a.configuration.depth h so.frames f answer.2;
+    } in
+    let head = sym c.in_ok-write_next.ensures.head in (
+      c.in_ok-write_next.ensures.sound,
+      c.in_ok-write_next.ensures.same ∙ i.1,
+      subst (λ z. IsKeptFor z c.write_next.new.kept) i.1 c.in_ok-write_next.ensures.kept,
+      subst (λ z. (said : Said) → head_saying z said ≡ video_of s said) head i.3,
+      subst (λ z. UnpackedSo s z c.args.player.now.reader.place all_input all_output
+          c.write_next.new.text.begun c.saturating_add-count.result last) head unpacked,
+      c.in_ok-write_next.ensures.container ∙ i.5,
+    )
+
+pub returns-clause-ok : goal.returns-clause-ok
+returns-clause-ok g c =
+    let a = c.args.player.now.decoder.accepted in
+    let h = c.loop-kept.text.head in
+    let i = c.loop-kept.invariant in
+    let so = i.4 in
+    let to = c.loop-kept.player.reader.place in
+    let last = c.write_next.new.player.reader.place in
+    let input = passage g.R.ByteIn.remaining g.R.ByteIn.failures c.loop-kept.input
+    c.write_next.new.input in
+    let output = passage g.W.ByteOut.contents g.W.ByteOut.failures c.loop-kept.output
+    c.write_next.new.output in
+    let answer =
+    subst (λ b. WritesNext a h (said_in c.loop-kept.text.begun) to last input output
+    c.write_next.new.text.begun (Ok b)) c.if-branch.false
+    (subst (λ z. WritesNext z h (said_in c.loop-kept.text.begun) to last input output
+    c.write_next.new.text.begun (Ok c.in_ok-write_next.field-0)) i.1
+    c.in_ok-write_next.ensures.answer) in (
+      so.frames,
+      so.is,
+      unpacked_over (stream_of c.args.player.now.reader a) h i.3 c.requires.colour
+          c.args.player.now.reader.place to last
+          (g.R.ByteIn.remaining c.args.input.now) (g.R.ByteIn.remaining c.loop-kept.input)
+          (g.R.ByteIn.remaining c.write_next.new.input)
+          (g.W.ByteOut.contents c.args.output.now) (g.W.ByteOut.contents c.loop-kept.output)
+          (g.W.ByteOut.contents c.write_next.new.output)
+          (g.R.ByteIn.failures c.args.input.now) (g.R.ByteIn.failures c.loop-kept.input)
+          (g.R.ByteIn.failures c.write_next.new.input)
+          (g.W.ByteOut.failures c.args.output.now) (g.W.ByteOut.failures c.loop-kept.output)
+          (g.W.ByteOut.failures c.write_next.new.output)
+          so.frames so.un answer.0 answer.1,
+    )

@@ -1,0 +1,44 @@
+-- What `check_all` writes, and why it is refused.
+use Rattle.std.specs.Prelude.{◌≡◌, ℕ, ◌<◌, Bool, List, ◌++◌, length, slice_get, Option}
+use Rattle.std.specs.Io.KnownBytes.{Appends}
+use Rattle.ffv1_range.specs.Counts.{saturated}
+use Rattle.ffv1_wire.specs.Passage.{Passage}
+use Rattle.ffv1_record.specs.Configuration.{Configuration}
+use Rattle.ffv1_reads.specs.Known.{Known}
+use Rattle.ffv1_video.specs.declared.profile.Profile.{Profile}
+use Rattle.ffv1_video.specs.declared.fault.Fault.{Fault}
+use Rattle.ffv1_unpack.specs.Checked.{CheckedStops}
+use Rattle.ffv1_unpack.specs.Judged.{IsJudged, Judged, counts_line, judged_lines, payload_of}
+use Rattle.ffv1_unpack.specs.Judged.{payloads_of, refusals}
+use Rattle.ffv1_unpack.specs.Stream.{AreAll, HoldsPayloads, IsStream, Stream}
+
+-- how many frames there were, and how many of them were refused
+abbrev pub judged_count : List Judged → List ℕ
+judged_count js = counts_line (saturated (length js)) (saturated (length (refusals js)))
+
+-- the lines of each frame, and that one
+abbrev pub check_all_text : Bool → Configuration → List Judged → List ℕ
+check_all_text place c js = judged_lines place c js ++ judged_count js
+
+module _ (profile : Profile) (place : Bool) (input output : Passage) where
+  -- all frames of the file, at least one, were judged, and the text of them was written; the answer
+  -- is the fault of the first one that is refused
+  pub record CheckAllDone (first : Option Fault) : Type 0 where
+    pub stream : Stream
+    pub judged : List Judged
+    pub some : 0 < length judged
+    pub is : IsStream profile stream
+    pub are : AreAll (IsJudged stream.accepted) judged
+    pub reads : Known input.old input.new (λ file rest.
+        HoldsPayloads profile file rest stream.head (payloads_of judged))
+    pub kept : input.after ≡ input.before
+    pub written : output.after ≡ output.before
+    pub writes : Appends output.old output.new
+        (check_all_text place stream.accepted.configuration judged)
+    pub told : first ≡ slice_get (refusals judged) 0
+
+  -- why it is refused, which no fault of a payload is a reason for
+  abbrev pub CheckAllStops : Fault → Type 0
+  CheckAllStops f =
+      CheckedStops IsJudged payload_of (judged_lines place) judged_count profile place input output
+      f

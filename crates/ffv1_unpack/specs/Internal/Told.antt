@@ -1,0 +1,138 @@
+-- Writing lines of frames one after the other: what a step of that answers.
+use Rattle.std.specs.Prelude.{◌≡◌, ◌⊎◌, ℕ, Bool, true, false, List, []}
+use Rattle.std.specs.Prelude.{Option, Some, None, Result, Ok, Err, ⊤}
+use Rattle.std.specs.Io.KnownBytes.{Appends, Keeps}
+use Rattle.ffv1_range.specs.declared.tally.Tally.{Tally}
+use Rattle.ffv1_wire.specs.Failures.{one_more}
+use Rattle.ffv1_wire.specs.Passage.{Passage}
+use Rattle.ffv1_wire.specs.Runs.{LineStep}
+use Rattle.ffv1_wire.specs.Writes.{AppendsBeginning}
+use Rattle.ffv1_record.specs.Accepted.{Accepted}
+use Rattle.ffv1_record.specs.Configuration.{Configuration}
+use Rattle.ffv1_codec.specs.Answer.{Answers}
+use Rattle.ffv1_codec.specs.SliceList.{Said}
+use Rattle.ffv1_files.specs.Answers.{ReadFails, WantsMore}
+use Rattle.ffv1_files.specs.Places.{Place}
+use Rattle.ffv1_files.specs.declared.container.Container.{Container}
+use Rattle.ffv1_files.specs.Files.{frame_read}
+use Rattle.ffv1_files.specs.Places.{may_end}
+use Rattle.ffv1_files.specs.Readers.{Standing}
+use Rattle.ffv1_reads.specs.Reads as avi
+use Rattle.ffv1_reads.specs.Known.{Known}
+use Rattle.ffv1_video.specs.declared.fault.Fault.{Fault}
+use Rattle.ffv1_video.specs.declared.fault.Fault.TheVariants as fault
+use Rattle.ffv1_unpack.specs.declared.player.Stop.{Stop}
+use Rattle.ffv1_unpack.specs.declared.player.Stop.TheVariants as stop
+use Rattle.ffv1_unpack.specs.declared.frame_line.FrameLine.{FrameLine}
+use Rattle.ffv1_unpack.specs.Internal.Containers.{is_container_fault}
+use Rattle.ffv1_video.specs.Faults.{Cause, cause_of, of_avi}
+use Rattle.ffv1_video.specs.Faults.Cause.{Reading, Writing, Memory, Content}
+use Rattle.ffv1_unpack.specs.Stream.{Frame, IsFrame, frame_payload}
+use Rattle.ffv1_unpack.specs.Play.{FaultsRead}
+use Rattle.ffv1_unpack.specs.Internal.Play.{ReadsEnd, ReadsPayload}
+use Rattle.ffv1_unpack.specs.Plays.{GoesBy}
+use Rattle.ffv1_unpack.specs.Internal.Plays.{OneStopsBy, PayloadFaults}
+use Rattle.ffv1_unpack.specs.Internal.Plays.{PlaysFrame}
+use Rattle.ffv1_unpack.specs.FrameLines.{frame_line, frame_lines, place_text}
+use Rattle.ffv1_unpack.specs.Located.{WritesLine, WritesLocated}
+use Rattle.ffv1_unpack.specs.Internal.Located.{LocatedAfter}
+use Rattle.ffv1_video.specs.Output.{Silent}
+use Rattle.ffv1_unpack.specs.Told.{PayloadStops, is_telling_fault}
+
+-- if the text is known, it has this fault
+abbrev pub FaultsKnown : {X : Type 0} → avi.Reading X → Option (List ℕ) → Option (List ℕ) → Fault →
+    Type 0
+FaultsKnown reading old new f = Known old new (λ text rest. FaultsRead reading text rest f)
+
+-- why a file is not read on, by whether the end of the input may be an answer and by the cause: a
+-- read failed, which was counted; memory was refused for bytes that are kept, of which more were
+-- wanted; or what was read has this fault
+abbrev pub FileStopsBy : {X : Type 0} → Bool → avi.Reading X → Passage → Fault → Cause → Type 0
+FileStopsBy ends reading p f Reading =
+    (p.after ≡ one_more p.before) × Known p.old p.new (ReadFails ends reading)
+FileStopsBy ends reading p f Writing = ⊥
+FileStopsBy ends reading p f Memory =
+    (p.after ≡ p.before) × Known p.old p.new (WantsMore reading avi.Kept)
+FileStopsBy ends reading p f Content =
+    (p.after ≡ p.before) × FaultsKnown reading p.old p.new f
+
+abbrev pub FileStops : {X : Type 0} → Bool → avi.Reading X → Passage → Fault → Type 0
+FileStops ends reading p f = FileStopsBy ends reading p f (cause_of f)
+
+-- the same of the next frame from a position on
+abbrev pub StopsFrom : Place → Passage → Fault → Type 0
+StopsFrom from p f = FileStops (may_end from) (frame_read from) p f
+
+-- a payload was read, and decoding answers so
+abbrev pub StepAnswers : {S : Type 0} → LineStep S → LineStep S → Accepted → Place → Place →
+    List ℕ →
+    Tally → Passage → S → S → Result (Option Said) Stop → Type 0
+StepAnswers takes refuses a from to payload tally p old new (Ok None) =
+    ReadsEnd from p × (new ≡ old)
+StepAnswers takes refuses a from to payload tally p old new (Ok (Some info)) =
+    ReadsPayload from to payload p × Answers takes refuses a payload old new tally (Ok info)
+StepAnswers takes refuses a from to payload tally p old new (Err (stop.File f)) =
+    StopsFrom from p (of_avi f) × (new ≡ old)
+StepAnswers takes refuses a from to payload tally p old new (Err (stop.Payload f)) =
+    ReadsPayload from to payload p × Answers takes refuses a payload old new tally (Err f)
+
+-- the lines of frames
+abbrev pub told_line : FrameLine → Configuration → ℕ → Frame → List ℕ
+told_line kind c i f = frame_line kind c i f.payload f.tally
+
+-- by how a file has payloads
+module _ (Has : List (List ℕ) → (Place → List ℕ → List ℕ → Type 0) → List ℕ → List ℕ → Type 0)
+    (kind : FrameLine) (place : Bool) (a : Accepted) (input output : Passage) where
+  -- why no further line is printed, with the offset at which the file stops: the next payload has a
+  -- fault; or by the cause
+  abbrev pub TellingStops : (Fault → ℕ → Type 0) → Bool → Fault → Type 0
+  TellingStops Stops byte f =
+      PayloadStops Has kind place a input output f
+      ⊎ GoesBy (IsFrame a) frame_payload Has (frame_lines kind a.configuration) input output Stops
+      byte f (cause_of f)
+
+-- of the frame with this number
+module _ (kind : FrameLine) (place byte : Bool) (a : Accepted) (i : ℕ) (from : Standing)
+    (to : Place) (input output : Passage) where
+  -- its payload has its first fault
+  pub record FrameStops (f : Fault) : Type 0 where
+    pub payload : PayloadFaults a from.place to input f
+    pub writes : WritesLine [] (place_text place i payload.fault payload.tally) output
+
+  -- or why there is none, or its line is not written, by the cause
+  abbrev pub FrameStopsBy : Fault → Cause → Type 0
+  FrameStopsBy f why =
+      OneStopsBy (IsFrame a) frame_payload (told_line kind a.configuration i)
+      (λ g. WritesLocated (LocatedAfter from input) byte i [] g output) from.place to input output
+      f why
+
+  -- what writing a frame's line answers: that it is written, that there is none, or why it is not
+  abbrev pub FrameAnswers : Result Bool Fault → Type 0
+  FrameAnswers (Ok true) =
+      (frame : Frame) × PlaysFrame a from.place to input frame × (output.after ≡ output.before)
+      × Appends output.old output.new (told_line kind a.configuration i frame)
+  FrameAnswers (Ok false) = ReadsEnd from.place input × Silent output
+  FrameAnswers (Err f) = FrameStops f ⊎ FrameStopsBy f (cause_of f)
+
+-- a line was written; or a write failed, which was counted, after a beginning of it; or memory for
+-- it was refused
+abbrev pub WritesFrame : List ℕ → Passage → Result (Unit {0}) Fault → Type 0
+WritesFrame line p (Ok done) = (p.after ≡ p.before) × Appends p.old p.new line
+WritesFrame line p (Err f) =
+    ((f ≡ fault.Write) × (p.after ≡ one_more p.before) × AppendsBeginning p.old p.new line)
+    ⊎ ((f ≡ fault.OutOfMemory) × (p.after ≡ p.before) × Keeps p.old p.new)
+
+-- if a payload is refused, the file may be read on, as this says
+abbrev pub OnPayload : Type 0 → Stop → Type 0
+OnPayload P (stop.File f) = ⊤
+OnPayload P (stop.Payload f) = P
+
+-- with those of the container that the frames are in
+abbrev pub IsToldFault : Container → Fault → Type 0
+IsToldFault container f =
+    (is_telling_fault f ≡ true) ⊎ (is_container_fault container f ≡ true)
+
+-- if reading a frame ends, it is by one of those
+abbrev pub IsOwnStop : Container → Stop → Type 0
+IsOwnStop container (stop.File f) = IsToldFault container (of_avi f)
+IsOwnStop container (stop.Payload f) = ⊤

@@ -1,0 +1,96 @@
+-- Opening a file: what is known then of its head and its configuration, or why it is refused.
+use Rattle.std.specs.Prelude.{◌≡◌, ◌⊎◌, ℕ, Bool, true, false, List, Option, Ok}
+use Rattle.ffv1_wire.specs.Failures.{one_more}
+use Rattle.ffv1_wire.specs.Passage.{Passage}
+use Rattle.ffv1_record.specs.Reading.{ReachesSets}
+use Rattle.ffv1_files.specs.Places.{Place}
+use Rattle.ffv1_files.specs.Files.{open_read}
+use Rattle.ffv1_reads.specs.Head.{Head}
+use Rattle.ffv1_reads.specs.Reads.{Kept}
+use Rattle.ffv1_files.specs.Answers.{ReadFails, WantsMore}
+use Rattle.ffv1_files.specs.Places.{opening_may_end}
+use Rattle.ffv1_reads.specs.Known.{Known}
+use Rattle.ffv1_video.specs.declared.profile.Profile.{Profile}
+use Rattle.ffv1_video.specs.Profiles.{greatest_depth, scope_in}
+use Rattle.ffv1_video.specs.declared.fault.Fault.{Fault}
+use Rattle.ffv1_video.specs.declared.fault.Fault.TheVariants as fault
+use Rattle.ffv1_video.specs.Faults.{Cause, cause_of}
+use Rattle.ffv1_video.specs.Faults.Cause.{Reading, Writing, Memory, Content}
+use Rattle.ffv1_unpack.specs.Stream.{IsStream, Stream}
+use Rattle.ffv1_unpack.specs.Play.{LacksStream}
+
+-- if the text is known, it begins with this head, and its frames come from this place
+abbrev pub OpensKnown : Profile → Option (List ℕ) → Option (List ℕ) → Head → Place → Type 0
+OpensKnown profile old new head place = Known old new (λ file rest.
+    open_read (scope_in profile) file ≡ Ok ((head, place), rest))
+
+-- if the text is known, it begins with a head whose record has no fault before its first set:
+-- from there on memory is taken
+pub record OpensRecord (profile : Profile) (old new : Option (List ℕ)) : Type 0 where
+  pub head : Head
+  pub place : Place
+  pub known : OpensKnown profile old new head place
+  pub reaches : ReachesSets (greatest_depth profile) head.config_record
+
+-- or with one whose record is accepted: the decoder, and the lines of the stream, take memory
+pub record OpensAccepted (profile : Profile) (old new : Option (List ℕ)) : Type 0 where
+  pub stream : Stream
+  pub is : IsStream profile stream
+  pub place : Place
+  pub known : OpensKnown profile old new stream.head place
+
+-- what memory was refused for: bytes of the file that are kept, of which more were wanted; the sets
+-- of its record; or what comes once that is accepted
+abbrev pub OpeningLacks : Profile → Option (List ℕ) → Option (List ℕ) → Type 0
+OpeningLacks profile old new =
+    Known old new (WantsMore (open_read (scope_in profile)) Kept)
+    ⊎ OpensRecord profile old new ⊎ OpensAccepted profile old new
+
+-- if a read failed
+abbrev pub OpeningWants : Profile → Option (List ℕ) → Option (List ℕ) → Type 0
+OpeningWants profile old new = Known old new (ReadFails (opening_may_end (scope_in profile))
+    (open_read (scope_in profile)))
+
+-- why it was not opened, by the cause: a read failed, which was counted; memory was refused; or the
+-- file has this fault
+abbrev pub LacksOpeningBy : Profile → Passage → Fault → Cause → Type 0
+LacksOpeningBy profile p f Reading =
+    (p.after ≡ one_more p.before) × OpeningWants profile p.old p.new
+LacksOpeningBy profile p f Writing = ⊥
+LacksOpeningBy profile p f Memory = (p.after ≡ p.before) × OpeningLacks profile p.old p.new
+LacksOpeningBy profile p f Content = (p.after ≡ p.before) × LacksStream profile p.old p.new f
+
+abbrev pub LacksOpening : Profile → Passage → Fault → Type 0
+LacksOpening profile p f = LacksOpeningBy profile p f (cause_of f)
+
+-- the faults that opening has, whatever the file: those of its chunks before the first frame, and
+-- those of its record
+abbrev pub is_opening_fault : Fault → Bool
+is_opening_fault fault.OutOfMemory = true
+is_opening_fault fault.NotAvi = true
+is_opening_fault fault.NoFfv1 = true
+is_opening_fault fault.Truncated = true
+is_opening_fault fault.ChunkTooLong = true
+is_opening_fault fault.Read = true
+is_opening_fault fault.StateTable = true
+is_opening_fault fault.BadStart = true
+is_opening_fault fault.SymbolTooLong = true
+is_opening_fault fault.Runs = true
+is_opening_fault fault.Contexts = true
+is_opening_fault fault.Size = true
+is_opening_fault fault.Grid = true
+is_opening_fault fault.ChromaEdge = true
+is_opening_fault fault.Subsampling = true
+is_opening_fault fault.Sets = true
+is_opening_fault fault.Short = true
+is_opening_fault fault.Parity = true
+is_opening_fault fault.Version = true
+is_opening_fault fault.MicroVersion = true
+is_opening_fault fault.Coder = true
+is_opening_fault fault.ColourSpace = true
+is_opening_fault fault.Depth = true
+is_opening_fault fault.CodedStates = true
+is_opening_fault fault.Ec = true
+is_opening_fault fault.Intra = true
+is_opening_fault fault.ExtraPlane = true
+is_opening_fault f = false

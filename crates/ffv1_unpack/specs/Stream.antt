@@ -1,0 +1,85 @@
+-- The stream of a file: what its head says, its configuration, and its frames, decoded one after
+-- the other.
+use Rattle.std.specs.Prelude.{◌≡◌, ◌≤◌, ℕ, List, [], ◌∷◌, map, Option, Some}
+use Rattle.std.specs.Prelude.{Ok}
+use Rattle.ffv1_range.specs.declared.tally.Tally.{Tally}
+use Rattle.ffv1_record.specs.Accepted.{Accepted, IsAccepted, PassesAll, checks}
+use Rattle.ffv1_record.specs.Record.{IsRecord}
+use Rattle.ffv1_codec.specs.Outcome.{CountOf}
+use Rattle.ffv1_codec.specs.Frame.{CodesPicture}
+use Rattle.ffv1_codec.specs.Picture.{Planes}
+use Rattle.ffv1_codec.specs.SliceList.{Said}
+use Rattle.ffv1_files.specs.Places.{Place}
+use Rattle.ffv1_avi.specs.Chunks.{AviFile}
+use Rattle.ffv1_files.specs.Files.{frame_read}
+use Rattle.ffv1_reads.specs.Head.{Head}
+use Rattle.ffv1_files.specs.Whole.{IsWhole}
+use Rattle.ffv1_reads.specs.Known.{Known}
+use Rattle.ffv1_video.specs.declared.profile.Profile.{Profile}
+use Rattle.ffv1_video.specs.declared.profile.Profile.TheVariants.{Strict, Wide}
+use Rattle.ffv1_video.specs.Profiles.{greatest_depth, record_profile}
+
+-- the head of a file, and the configuration of its frames
+pub record Stream : Type 0 where
+  pub head : Head
+  pub accepted : Accepted
+
+-- the head's record is of that configuration, for pictures of the head's size, in the profile,
+-- whose checks it passes, and which reads samples of that depth
+pub record IsStream (profile : Profile) (s : Stream) : Type 0 where
+  pub coded : IsRecord s.head.config_record s.accepted.configuration
+  pub width : s.accepted.configuration.width ≡ s.head.width
+  pub height : s.accepted.configuration.height ≡ s.head.height
+  pub accepted : IsAccepted s.accepted.configuration s.accepted.table
+  pub passes : PassesAll (record_profile profile) checks s.accepted.configuration
+  pub profiled : s.accepted.profile ≡ record_profile profile
+  pub deep : s.accepted.configuration.depth ≤ greatest_depth profile
+
+-- a frame: its payload, the picture that it codes, what it says of it, and what was decided
+pub record Frame : Type 0 where
+  pub payload : List ℕ
+  pub planes : Planes
+  pub said : Said
+  pub tally : Tally
+
+-- a frame of a configuration
+pub record IsFrame (a : Accepted) (f : Frame) : Type 0 where
+  pub codes : CodesPicture a f.payload f.planes f.said
+  pub decided : CountOf a f.payload f.tally
+
+-- this stands of each one
+abbrev pub AreAll : {X : Type 0} → (X → Type 0) → List X → Type 0
+AreAll Is [] = Unit {0}
+AreAll Is (x ∷ xs) = Is x × AreAll Is xs
+
+abbrev pub AreFrames : Accepted → List Frame → Type 0
+AreFrames a frames = AreAll (IsFrame a) frames
+
+abbrev pub frame_payload : Frame → List ℕ
+frame_payload f = f.payload
+
+abbrev pub payloads : List Frame → List (List ℕ)
+payloads frames = map frame_payload frames
+
+-- from this place of the file this text begins with these frames; then come that place and that
+-- text
+abbrev pub ReadsFrames : Place → List ℕ → List (List ℕ) → Place → List ℕ → Type 0
+ReadsFrames from text [] to rest = (to ≡ from) × (rest ≡ text)
+ReadsFrames from text (frame ∷ frames) to rest =
+    (after : Place) × (behind : List ℕ) × (frame_read from text ≡ Ok (Some (frame, after), behind))
+    × ReadsFrames after behind frames to rest
+
+-- a file was read to its end, with this head and these payloads, and this is left of it: an AVI by
+-- its chunks, after whose first movi that stands; or one that was read whole, an AVI by the chunks
+-- of every RIFF, or a Matroska file by its elements
+abbrev pub HoldsPayloads : Profile → List ℕ → List ℕ → Head → List (List ℕ) → Type 0
+HoldsPayloads Strict file rest head held = (is : AviFile file head held) × (rest ≡ is.rest)
+HoldsPayloads Wide file rest head held = IsWhole file head held rest
+
+-- the same with the payloads of these frames
+abbrev pub IsRead : Profile → List ℕ → List ℕ → Stream → List Frame → Type 0
+IsRead profile file rest s frames = HoldsPayloads profile file rest s.head (payloads frames)
+
+-- if the file is known, it was read so
+abbrev pub ReadsFile : Profile → Option (List ℕ) → Option (List ℕ) → Stream → List Frame → Type 0
+ReadsFile profile old new s frames = Known old new (λ file rest. IsRead profile file rest s frames)

@@ -1,0 +1,65 @@
+-- Decoding the frames of a file one after the other, and writing a line of each at once: how far
+-- that goes, and why it goes no further.
+use Rattle.std.specs.Prelude.{◌≡◌, ℕ, Bool, true, false, List, length}
+use Rattle.ffv1_range.specs.declared.tally.Tally.{Tally}
+use Rattle.ffv1_range.specs.Counts.{saturated}
+use Rattle.ffv1_wire.specs.Passage.{Passage}
+use Rattle.ffv1_record.specs.Accepted.{Accepted}
+use Rattle.ffv1_codec.specs.declared.fault.FrameFault.{FrameFault}
+use Rattle.ffv1_files.specs.Places.{Place}
+use Rattle.ffv1_video.specs.declared.fault.Fault.{Fault}
+use Rattle.ffv1_video.specs.declared.fault.Fault.TheVariants as fault
+use Rattle.ffv1_unpack.specs.declared.frame_line.FrameLine.{FrameLine}
+use Rattle.ffv1_video.specs.Faults.{cause_of, of_codec}
+use Rattle.ffv1_video.specs.Faults.Cause.{Content}
+use Rattle.ffv1_codec.specs.Outcome.{FaultsOf}
+use Rattle.ffv1_unpack.specs.Stream.{Frame, IsFrame, frame_payload}
+use Rattle.ffv1_unpack.specs.Plays.{GoesThen, NextIsPayload}
+use Rattle.ffv1_unpack.specs.FrameLines.{frame_lines, place_text}
+use Rattle.ffv1_unpack.specs.Located.{WritesLine}
+
+-- by how a file has payloads
+module _ (Has : List (List ℕ) → (Place → List ℕ → List ℕ → Type 0) → List ℕ → List ℕ → Type 0)
+    (kind : FrameLine) (place : Bool) (a : Accepted) (input output : Passage) where
+  -- the payload after these frames has its first fault
+  pub record PayloadStops (f : Fault) : Type 0 where
+    pub frames : List Frame
+    pub payload : List ℕ
+    pub fault : FrameFault
+    pub tally : Tally
+    pub goes : GoesThen (IsFrame a) frame_payload Has (frame_lines kind a.configuration) input
+        output frames (NextIsPayload payload)
+    pub faulty : FaultsOf a payload fault tally
+    pub is : f ≡ of_codec fault.fault
+    pub content : cause_of f ≡ Content
+    pub kept : input.after ≡ input.before
+    pub writes : WritesLine (frame_lines kind a.configuration frames)
+        (place_text place (saturated (length frames)) fault tally) output
+
+-- the faults that telling frames has, whatever the file: those of reading a frame, of decoding it,
+-- and of writing its line
+abbrev pub is_telling_fault : Fault → Bool
+is_telling_fault fault.OutOfMemory = true
+is_telling_fault fault.Read = true
+is_telling_fault fault.Write = true
+is_telling_fault fault.NotAvi = true
+is_telling_fault fault.Truncated = true
+is_telling_fault fault.ChunkTooLong = true
+is_telling_fault fault.EmptyFrame = true
+is_telling_fault fault.BadStart = true
+is_telling_fault fault.SymbolTooLong = true
+is_telling_fault fault.Colour = true
+is_telling_fault fault.Overread = true
+is_telling_fault fault.Ending = true
+is_telling_fault fault.NotKey = true
+is_telling_fault fault.Place = true
+is_telling_fault fault.SetIndex = true
+is_telling_fault fault.Structure = true
+is_telling_fault fault.Aspect = true
+is_telling_fault fault.Footer = true
+is_telling_fault fault.Leftover = true
+is_telling_fault fault.SliceParity = true
+is_telling_fault fault.SliceStatus = true
+is_telling_fault fault.Overlap = true
+is_telling_fault fault.InfoDiffers = true
+is_telling_fault f = false

@@ -1,0 +1,107 @@
+-- Decoding the frames of a file one after the other, and writing each picture: how far that goes,
+-- and why it goes no further.
+use Rattle.std.specs.Prelude.{◌≡◌, ◌⊎◌, ℕ, true, List, [], ◌∷◌, ◌++◌, length}
+use Rattle.std.specs.Io.KnownBytes.{Appends}
+use Rattle.ffv1_range.specs.declared.tally.Tally.{Tally}
+use Rattle.ffv1_wire.specs.Failures.{one_more}
+use Rattle.ffv1_wire.specs.Passage.{Passage}
+use Rattle.ffv1_wire.specs.Runs.{Line}
+use Rattle.ffv1_codec.specs.declared.fault.FrameFault.{FrameFault}
+use Rattle.ffv1_files.specs.Places.{Place}
+use Rattle.ffv1_video.specs.declared.fault.Fault.{Fault}
+use Rattle.ffv1_video.specs.declared.fault.Fault.TheVariants as fault
+use Rattle.ffv1_video.specs.Faults.{Cause, cause_of, of_codec}
+use Rattle.ffv1_video.specs.Faults.Cause.{Reading, Writing, Memory, Content}
+use Rattle.ffv1_codec.specs.Outcome.{OffersLine}
+use Rattle.ffv1_codec.specs.Outcome.{FaultsOf}
+use Rattle.ffv1_unpack.specs.Stream.{Frame, IsFrame, Stream, frame_payload}
+use Rattle.ffv1_video.specs.Output.{WritesUpTo}
+use Rattle.ffv1_unpack.specs.Plays.{FramesThen, GoesThen, NextHasFault, NextIsPayload, NextOver}
+use Rattle.ffv1_unpack.specs.Plays.{NextPayloadLacks, NextReadFails, NextStays, TextFails}
+use Rattle.ffv1_unpack.specs.Plays.{WritesText}
+use Rattle.ffv1_codec.specs.Outcome.{lines_before}
+use Rattle.ffv1_unpack.specs.Unpacked.{AreAlike, is_ppm_stream, rows_of, text_of}
+
+-- by how a file has payloads
+module _ (Has : List (List ℕ) → (Place → List ℕ → List ℕ → Type 0) → List ℕ → List ℕ → Type 0)
+    (s : Stream) (input output : Passage) where
+  -- the file has these frames, which say the same, and then this stands; and their text was written
+  pub record UnpacksThen (frames : List Frame) (Next : Place → List ℕ → List ℕ → Type 0)
+      : Type 0 where
+    pub plays : FramesThen Has s.accepted (text_of s) input output frames Next
+    pub alike : AreAlike s frames
+
+  -- they are all
+  pub record UnpacksAll (frames : List Frame) : Type 0 where
+    pub unpacks : UnpacksThen frames NextOver
+    pub kept : input.after ≡ input.before
+
+  -- the picture of the last of them was not written whole
+  pub record PictureFails (frames : List Frame) : Type 0 where
+    pub fails : TextFails (IsFrame s.accepted) frame_payload Has (text_of s) input output frames
+    pub alike : AreAlike s frames
+
+  -- the same, and the payload after them comes next
+  abbrev pub GoesTo : List Frame → List ℕ → Type 0
+  GoesTo frames payload =
+      GoesThen (IsFrame s.accepted) frame_payload Has (text_of s) input output frames
+      (NextIsPayload payload)
+
+  -- of the image after these frames a row was not written whole, which a line was to bring
+  pub record RowFails : Type 0 where
+    pub frames : List Frame
+    pub payload : List ℕ
+    pub lines : List Line
+    pub next : Line
+    pub ppm : is_ppm_stream s ≡ true
+    pub goes : GoesTo frames payload
+    pub hands : OffersLine s.accepted payload lines next
+    pub kept : input.after ≡ input.before
+    pub written : output.after ≡ one_more output.before
+    pub writes : WritesUpTo output.old output.new
+        (length (text_of s frames ++ rows_of s lines))
+        (text_of s frames ++ rows_of s (lines ++ (next ∷ [])))
+
+  -- the payload after these frames has its first fault; of its image the rows before are written
+  pub record PayloadStops (f : Fault) : Type 0 where
+    pub frames : List Frame
+    pub payload : List ℕ
+    pub fault : FrameFault
+    pub tally : Tally
+    pub goes : GoesTo frames payload
+    pub alike : AreAlike s frames
+    pub faulty : FaultsOf s.accepted payload fault tally
+    pub is : f ≡ of_codec fault.fault
+    pub written : output.after ≡ output.before
+    pub writes : Appends output.old output.new
+        (text_of s frames ++ rows_of s (lines_before faulty))
+
+  -- the frame after these, decoded, says something else than they do
+  pub record FormatChanges (f : Fault) : Type 0 where
+    pub frames : List Frame
+    pub last : Frame
+    pub goes : GoesThen (IsFrame s.accepted) frame_payload Has (text_of s) input output
+        (frames ++ (last ∷ [])) NextStays
+    pub alike : AreAlike s frames
+    pub changed : AreAlike s (frames ++ (last ∷ [])) → ⊥
+    pub is : f ≡ fault.FormatChanged
+    pub wrote : WritesText (IsFrame s.accepted) frame_payload Has (text_of s) input output frames
+
+  -- why no further picture is written, by the cause: a write failed, which was counted; a read of
+  -- the next frame failed, which was counted; memory was refused for the next payload, or before
+  -- the first frame for what a picture is written from; or the file has this fault
+  abbrev pub UnpackingStopsBy : Fault → Cause → Type 0
+  UnpackingStopsBy f Writing = ((frames : List Frame) × PictureFails frames) ⊎ RowFails
+  UnpackingStopsBy f Reading =
+      (input.after ≡ one_more input.before)
+      × (frames : List Frame) × UnpacksThen frames NextReadFails
+  UnpackingStopsBy f Memory =
+      (input.after ≡ input.before)
+      × (((frames : List Frame) × UnpacksThen frames NextPayloadLacks) ⊎ UnpacksThen [] NextStays)
+  UnpackingStopsBy f Content =
+      (input.after ≡ input.before)
+      × (((frames : List Frame) × UnpacksThen frames (NextHasFault f))
+      ⊎ PayloadStops f ⊎ FormatChanges f)
+
+  abbrev pub UnpackingStops : Fault → Type 0
+  UnpackingStops f = UnpackingStopsBy f (cause_of f)

@@ -1,0 +1,181 @@
+//! Decodes all frames of a file, and prints a line of each.
+
+ghost use Rattle.std.specs.Prelude.{IfErr, IfOk, OnOk};
+ghost use Rattle.ffv1_wire.specs.Passage.{passage};
+ghost use Rattle.ffv1_unpack.specs.Check.{CheckDone, CheckStops, IsCheckFault, count_line};
+ghost use Rattle.ffv1_unpack.specs.CheckAll.{CheckAllDone, CheckAllStops};
+ghost use Rattle.ffv1_unpack.specs.Judged.{counts_line};
+ghost use Rattle.ffv1_unpack.specs.Internal.Told.{WritesFrame};
+
+use crate::frame_line::{FrameLine, put_count, put_counts};
+use crate::judging::judge_frames;
+use crate::player::open_player_located;
+use crate::telling::{Places, Telling, tell_byte, tell_frames};
+use ffv1_files::laws as files_laws;
+use ffv1_video::{Fault, Profile};
+use ffv1_wire::{ByteIn, ByteOut, write_all};
+use std::alloc::Allocator;
+
+/// Writes how many frames there were.
+fn write_count<W: ByteOut, A: Allocator + Copy>(
+    alloc: A,
+    output: &mut W,
+    count: u64,
+) -> Result<(), Fault>
+    ensures { WritesFrame (count_line count)
+        (passage W.contents W.failures output.old output.new) result }
+{
+    let mut text = Vec::new(alloc);
+    put_count(&mut text, count)?;
+    if write_all(output, &text).is_err() {
+        return Err(Fault::Write);
+    }
+    Ok(())
+}
+
+/// Decodes all frames of a file that the profile reads, and writes a line of each as soon as it is
+/// decoded, and at the end how many there were:
+///
+/// ```text
+/// frame {i}: {length} bytes, {slices} slices, {decisions} decisions
+/// frames {n}
+/// ```
+///
+/// Frames are counted from 0; a count of 64 bits stays at its greatest value. Beside what the
+/// decoder holds, one payload and one line are held.
+///
+/// The first fault ends it, after the lines of the frames before: those of the file up to its first
+/// frame (`NotAvi`, `NoFfv1`, `Truncated`, `ChunkTooLong`), of its record, of the chunks of its
+/// frames (`EmptyFrame`, too), of a payload; `NoFrames` at the end if there was none; `Read`,
+/// `OutOfMemory` and `Write` as they come. At `Wide`, `Truncated` is also a file that ends inside a
+/// `RIFF`, or that has fewer frames than its `dmlh` says, and `NotAvi` one in which something that
+/// is no `RIFF` comes after the last one; and a file that begins with the byte 1A is Matroska, with
+/// the faults that `MatroskaReader::open` and `MatroskaReader::next_frame` name in place of those
+/// of AVI. With `place` one line more is written if a payload is refused, and at `Wide` if
+/// the file itself is; if that line cannot be written, the fault stays what it is:
+///
+/// ```text
+/// fault frame {i} slice {s} plane {p} line {l} x {x} decisions {d}
+/// fault frame {i} byte {offset}
+/// ```
+///
+/// The second is written of `NotAvi`, `NoFfv1`, `Truncated`, `ChunkTooLong`, `EmptyFrame`, `Read`
+/// and the faults of Matroska. Its frame is the one that would come next, 0 up to the first one;
+/// its offset is how many bytes of the file come before the element or the chunk that is refused.
+pub fn check<R: ByteIn, W: ByteOut, A: Allocator + Copy>(
+    alloc: A,
+    profile: Profile,
+    input: &mut R,
+    output: &mut W,
+    place: bool,
+) -> Result<(), Fault>
+    ensures ok { OnOk result (CheckDone profile place
+        (passage R.remaining R.failures input.old input.new)
+        (passage W.contents W.failures output.old output.new)) }
+    ensures err { IfErr result (CheckStops profile place
+        (passage R.remaining R.failures input.old input.new)
+        (passage W.contents W.failures output.old output.new)) }
+    ensures own { IfErr result (IsCheckFault profile) }
+{
+    files_laws::frames_come_in_turn();
+    files_laws::what_is_read_is_a_file();
+    let byte = profile.tells_byte(place);
+    let mut offset = 0u64;
+    match open_player_located(alloc, profile, input, &mut offset) {
+        Err(fault) => {
+            tell_byte(output, byte, 0, offset, fault);
+            Err(fault)
+        }
+        Ok(mut player) => {
+            let telling = Telling {
+                kind: FrameLine::Sizes,
+                places: Places { place, byte },
+            };
+            let count = tell_frames(alloc, &mut player, input, output, telling)?;
+            if count == 0 {
+                return Err(Fault::NoFrames);
+            }
+            write_count(alloc, output, count)?;
+            Ok(())
+        }
+    }
+}
+
+/// Writes how many frames there were, and how many of them are refused.
+fn write_counts<W: ByteOut, A: Allocator + Copy>(
+    alloc: A,
+    output: &mut W,
+    frames: u64,
+    faults: u64,
+) -> Result<(), Fault>
+    ensures { WritesFrame (counts_line frames faults)
+        (passage W.contents W.failures output.old output.new) result }
+{
+    let mut text = Vec::new(alloc);
+    put_counts(&mut text, frames, faults)?;
+    if write_all(output, &text).is_err() {
+        return Err(Fault::Write);
+    }
+    Ok(())
+}
+
+/// Decodes all frames of a file that the profile reads, and goes on after a payload that is
+/// refused. Writes a line of each frame as soon as it is judged, and at the end how many there were
+/// and how many of them are refused:
+///
+/// ```text
+/// frame {i}: {length} bytes, {slices} slices, {decisions} decisions
+/// frame {i}: fault {number} {name}
+/// frames {n} faults {m}
+/// ```
+///
+/// With `place` a frame that is refused has a line more, after its own:
+///
+/// ```text
+/// fault frame {i} slice {s} plane {p} line {l} x {x} decisions {d}
+/// ```
+///
+/// Answers the fault of the first payload that is refused, and None if none is. Frames are
+/// counted from 0; a count of 64 bits stays at its greatest value. Beside what the decoder holds,
+/// one payload and its lines are held.
+///
+/// All other faults end it as they end `check`, after the lines of the frames before: those of the
+/// file up to its first frame, of its record, and of the chunks of its frames (`EmptyFrame`, too);
+/// `NoFrames` at the end if there was none; `Read`, `OutOfMemory` and `Write` as they come,
+/// `Write` also if the line of a frame's place is not written. With `place`, at `Wide`, a fault
+/// of the file itself has the line of its byte, as `check` writes it.
+pub fn check_all<R: ByteIn, W: ByteOut, A: Allocator + Copy>(
+    alloc: A,
+    profile: Profile,
+    input: &mut R,
+    output: &mut W,
+    place: bool,
+) -> Result<Option<Fault>, Fault>
+    ensures ok { IfOk result (CheckAllDone profile place
+        (passage R.remaining R.failures input.old input.new)
+        (passage W.contents W.failures output.old output.new)) }
+    ensures err { IfErr result (CheckAllStops profile place
+        (passage R.remaining R.failures input.old input.new)
+        (passage W.contents W.failures output.old output.new)) }
+    ensures own { IfErr result (IsCheckFault profile) }
+{
+    files_laws::frames_come_in_turn();
+    files_laws::what_is_read_is_a_file();
+    let byte = profile.tells_byte(place);
+    let mut offset = 0u64;
+    match open_player_located(alloc, profile, input, &mut offset) {
+        Err(fault) => {
+            tell_byte(output, byte, 0, offset, fault);
+            Err(fault)
+        }
+        Ok(mut player) => {
+            let places = Places { place, byte };
+            let counts = judge_frames(alloc, &mut player, input, output, places)?;
+            if counts.frames == 0 {
+                return Err(Fault::NoFrames);
+            }
+            write_counts(alloc, output, counts.frames, counts.faults)?;
+            Ok(counts.first)
+        }
+    }
+}

@@ -1,0 +1,224 @@
+//! The MD5 of each picture of a file.
+
+ghost use Rattle.std.specs.Prelude.{◌≡◌, ◌<◌, IfErr, IfOk, List, None, OnOk, length, true};
+ghost use Rattle.ffv1_wire.specs.Passage.{passage};
+ghost use Rattle.ffv1_range.specs.Counts.{saturated};
+ghost use Rattle.ffv1_record.specs.Accepted.{IsAccepted};
+ghost use Rattle.ffv1_record.specs.Configuration.{is_rct};
+ghost use Rattle.ffv1_slice.specs.Grid.{division_of};
+ghost use Rattle.ffv1_codec.specs.Picture.{AreOf, planes_of};
+ghost use Rattle.ffv1_files.specs.Places.{amount, container_of};
+ghost use Rattle.ffv1_unpack.specs.Check.{IsCheckFault};
+ghost use Rattle.ffv1_unpack.specs.FrameMd5.{Md5Done, Md5Stops, frames_md5};
+ghost use Rattle.ffv1_unpack.specs.Internal.FrameMd5.{frame_md5};
+ghost use Rattle.ffv1_video.specs.Md5Text.{next_md5};
+ghost use Rattle.ffv1_unpack.specs.Internal.Opens.{stream_of};
+ghost use Rattle.ffv1_video.specs.KeptLines.{IsKeptFor};
+ghost use Rattle.ffv1_unpack.specs.Internal.PicturesOut.{head_saying};
+ghost use Rattle.ffv1_unpack.specs.Plays.{HasThen, PlayStops};
+ghost use Rattle.ffv1_unpack.specs.Internal.Plays.{NextAnswers, PlaysAll};
+ghost use Rattle.ffv1_unpack.specs.Stream.{Frame, IsFrame, frame_payload};
+ghost use Rattle.ffv1_unpack.specs.Internal.Told.{IsToldFault, WritesFrame};
+
+use crate::pictures_out::text_head;
+use crate::player::{Player, Stop, open_player, play};
+use ffv1_codec::{Info, KeepLines, laws as codec_laws};
+use ffv1_files::laws as files_laws;
+use ffv1_record::{Checked, laws as record_laws};
+use ffv1_video::md5_lines::put_picture;
+use ffv1_video::{Fault, Profile};
+use ffv1_wire::{ByteIn, ByteOut, write_all};
+use ffv1_y4m::VideoHead;
+use std::alloc::Allocator;
+
+/// The text of the next picture, and what its head says but for the structure and the aspect, which
+/// are 0.
+struct Lines<A: Allocator> {
+    head: VideoHead,
+    text: Vec<u8, A>,
+}
+
+impl<A: Allocator> Drop for Lines<A> {
+    fn drop(self) {
+        let Lines {
+            head: _head,
+            text: _text,
+        } = self;
+    }
+}
+
+/// Writes the line of the picture of these planes, which says this, and before the first one the
+/// head.
+fn write_picture<W: ByteOut, A: Allocator>(
+    output: &mut W,
+    lines: &mut Lines<A>,
+    number: u64,
+    checked: &Checked<A>,
+    info: Info,
+    planes: &[Vec<u8, A>],
+) -> Result<(), Fault>
+    requires { AreOf (division_of checked.now.configuration) (planes_of planes.now) }
+    ensures answer { WritesFrame (next_md5 (is_rct checked.now.configuration.colour)
+        checked.now.configuration.depth (head_saying lines.old.head info) number
+        (planes_of planes.now)) (passage W.contents W.failures output.old output.new) result }
+    ensures same { lines.new.head ≡ lines.old.head }
+{
+    record_laws::accepted_configuration_has_sound_parts();
+    codec_laws::sink::rct_planes_have_the_picture_size();
+    let head = VideoHead {
+        structure: info.structure(),
+        sar_num: info.sar_num(),
+        sar_den: info.sar_den(),
+        ..lines.head
+    };
+    let rct = checked.config().colour.is_rct();
+    let depth = checked.depth();
+    put_picture(&mut lines.text, number, &head, rct, depth, planes)?;
+    if write_all(output, &lines.text).is_err() {
+        return Err(Fault::Write);
+    }
+    Ok(())
+}
+
+/// Reads the next frame, decodes it, and writes the line of its picture. Answers false if there
+/// is none.
+fn write_next<R: ByteIn, W: ByteOut, A: Allocator>(
+    player: &mut Player<A>,
+    input: &mut R,
+    output: &mut W,
+    kept: &mut KeepLines<A>,
+    lines: &mut Lines<A>,
+    number: u64,
+) -> Result<bool, Fault>
+    requires sound { player.old.reader.fault ≡ None }
+    requires accepted { IsAccepted player.old.decoder.accepted.configuration
+        player.old.decoder.accepted.table }
+    requires kept { IsKeptFor player.old.decoder.accepted kept.old }
+    ensures answer { NextAnswers player.old.decoder.accepted
+        (frame_md5 player.old.decoder.accepted lines.old.head number)
+        player.old.reader.place player.new.reader.place
+        (passage R.remaining R.failures input.old input.new)
+        (passage W.contents W.failures output.old output.new) result }
+    ensures kept { OnOk result (IsKeptFor player.old.decoder.accepted kept.new) }
+    ensures head { lines.new.head ≡ lines.old.head }
+    ensures sound { OnOk result (player.new.reader.fault ≡ None) }
+    ensures less { IfOk result (λ more. more ≡ true →
+        amount player.new.reader.place < amount player.old.reader.place) }
+    ensures same { player.new.decoder.accepted ≡ player.old.decoder.accepted }
+    ensures container { container_of player.new.reader.place
+        ≡ container_of player.old.reader.place }
+    ensures own { IfErr result (IsToldFault (container_of player.old.reader.place)) }
+{
+    codec_laws::answer::answer_is_ok_for_coded_pictures::<KeepLines<A>>();
+    codec_laws::sink::sinks_of_own_lines_refuse_none();
+    codec_laws::sink::kept_lines_make_up_the_picture();
+    codec_laws::answer::answered_fault_is_of_decoding::<KeepLines<A>>();
+    match play(player, input, kept) {
+        Ok(None) => Ok(false),
+        Ok(Some(info)) => {
+            let checked = player.decoder.config();
+            write_picture(output, lines, number, checked, info, kept.planes())?;
+            Ok(true)
+        }
+        Err(Stop::File(fault)) => Err(Fault::from(fault)),
+        Err(Stop::Payload(fault)) => Err(Fault::from(fault.fault)),
+    }
+}
+
+/// Decodes all frames that are left, and writes the line of each picture as soon as it is decoded.
+/// Answers how many there were, at most 2^64 - 1.
+fn write_frames<R: ByteIn, W: ByteOut, A: Allocator + Copy>(
+    alloc: A,
+    player: &mut Player<A>,
+    input: &mut R,
+    output: &mut W,
+) -> Result<u64, Fault>
+    requires sound { player.old.reader.fault ≡ None }
+    requires accepted { IsAccepted player.old.decoder.accepted.configuration
+        player.old.decoder.accepted.table }
+    ensures ok { IfOk result (λ n. (frames : List Frame) × (n ≡ saturated (length frames))
+        × PlaysAll (IsFrame player.old.decoder.accepted) frame_payload
+        (HasThen player.old.reader.place)
+        (frames_md5 (stream_of player.old.reader player.old.decoder.accepted))
+        (passage R.remaining R.failures input.old input.new)
+        (passage W.contents W.failures output.old output.new) frames) }
+    ensures err { IfErr result (PlayStops (HasThen player.old.reader.place)
+        player.old.decoder.accepted
+        (frames_md5 (stream_of player.old.reader player.old.decoder.accepted))
+        (passage R.remaining R.failures input.old input.new)
+        (passage W.contents W.failures output.old output.new)) }
+    ensures own { IfErr result (IsToldFault (container_of player.old.reader.place)) }
+{
+    let checked = player.decoder.config();
+    let mut kept = KeepLines::new(alloc, checked)?;
+    let mut lines = Lines {
+        head: text_head(player.reader.head(), checked),
+        text: Vec::new(alloc),
+    };
+    let mut count = 0u64;
+    while write_next(player, input, output, &mut kept, &mut lines, count)? {
+        count = count.saturating_add(1);
+    }
+    Ok(count)
+}
+
+/// Decodes all frames of a file that the profile reads, and writes of their pictures what FFmpeg's
+/// `framemd5` writes of raw video, but for the line `#software`: before the first frame a head of
+/// ten lines, and a line for each frame as soon as it is decoded:
+///
+/// ```text
+/// #format: frame checksums
+/// #version: 2
+/// #hash: MD5
+/// #software: ffv1
+/// #tb 0: {scale}/{rate}
+/// #media_type 0: video
+/// #codec_id 0: rawvideo
+/// #dimensions 0: {width}x{height}
+/// #sar 0: {width}/{height}
+/// #stream#, dts,        pts, duration,     size, hash
+/// 0,          0,          0,        1,   {bytes}, {MD5}
+/// ```
+///
+/// The rate is in lowest terms, 1/25 if none is known. The aspect of a sample is the first
+/// frame's as it stands, 0/1 if none is known; FFmpeg has that of the container if it is
+/// Matroska, and leaves out one by which a picture would have less than a row or a column. Frames
+/// are counted from 0; a count of 64 bits stays at its greatest value.
+///
+/// The bytes of a picture are those of its planes, one after the other: of YCbCr as they are, of
+/// RGB of more than 8 bits green, blue, red and transparency. Of RGB of 8 bits they are the samples
+/// of each place. Samples of more than 8 bits are two bytes, the low one first.
+///
+/// Beside what the decoder holds, one payload, one picture and one line are held.
+///
+/// The first fault ends it, after the lines of the frames before: those of the file up to its
+/// first frame (`NotAvi`, `NoFfv1`, `Truncated`, `ChunkTooLong`), of its record, of the chunks of
+/// its frames (`EmptyFrame`, too), of a payload; `NoFrames` at the end if there was none;
+/// `Read`, `OutOfMemory` and `Write` as they come. At `Wide`, `Truncated` is also a file that ends
+/// inside a `RIFF`, or that has fewer frames than its `dmlh` says, and `NotAvi` one in which
+/// something that is no `RIFF` comes after the last one; and a file that begins with the byte 1A
+/// is Matroska, with the faults that `MatroskaReader::open` and `MatroskaReader::next_frame` name
+/// in place of those of AVI.
+pub fn framemd5<R: ByteIn, W: ByteOut, A: Allocator + Copy>(
+    alloc: A,
+    profile: Profile,
+    input: &mut R,
+    output: &mut W,
+) -> Result<(), Fault>
+    ensures ok { OnOk result (Md5Done profile
+        (passage R.remaining R.failures input.old input.new)
+        (passage W.contents W.failures output.old output.new)) }
+    ensures err { IfErr result (Md5Stops profile
+        (passage R.remaining R.failures input.old input.new)
+        (passage W.contents W.failures output.old output.new)) }
+    ensures own { IfErr result (IsCheckFault profile) }
+{
+    files_laws::frames_come_in_turn();
+    files_laws::what_is_read_is_a_file();
+    let mut player = open_player(alloc, profile, input)?;
+    let count = write_frames(alloc, &mut player, input, output)?;
+    if count == 0 {
+        return Err(Fault::NoFrames);
+    }
+    Ok(())
+}

@@ -1,0 +1,135 @@
+//! Writes the pictures of a file as PPM, each row when it is decoded.
+
+ghost use Rattle.std.specs.Prelude.{◌≡◌, ◌<◌, ℕ, IfErr, IfOk, List, length, None, OnOk, false};
+ghost use Rattle.std.specs.Prelude.{true};
+ghost use Rattle.ffv1_wire.specs.Passage.{passage};
+ghost use Rattle.ffv1_range.specs.Counts.{saturated};
+ghost use Rattle.ffv1_record.specs.Accepted.{IsAccepted};
+ghost use Rattle.ffv1_record.specs.Configuration.{is_rct};
+ghost use Rattle.ffv1_files.specs.Places.{amount, container_of};
+ghost use Rattle.ffv1_unpack.specs.Internal.ImagesOut.{IsSinkFor, WritesImage};
+ghost use Rattle.ffv1_unpack.specs.Internal.Opens.{stream_of};
+ghost use Rattle.ffv1_unpack.specs.Stream.{Frame};
+ghost use Rattle.ffv1_unpack.specs.Internal.Unpack.{IsWritingFault};
+ghost use Rattle.ffv1_unpack.specs.Unpacking.{UnpackingStops, UnpacksAll};
+ghost use Rattle.ffv1_unpack.specs.Plays.{HasThen};
+
+use crate::player::{Player, Stop, play};
+use ffv1_codec::{CodecFault, laws as codec_laws};
+use ffv1_record::laws as record_laws;
+use ffv1_video::Fault;
+use ffv1_wire::{ByteIn, ByteOut};
+use ffv1_y4m::{PpmWriter, laws as y4m_laws};
+use std::alloc::Allocator;
+
+/// Reads the next frame, and decodes it into an image. Answers false if there is none.
+fn write_next<R: ByteIn, W: ByteOut, A: Allocator>(
+    player: &mut Player<A>,
+    input: &mut R,
+    sink: &mut PpmWriter<W, A>,
+) -> Result<bool, Fault>
+    requires sound { player.old.reader.fault ≡ None }
+    requires accepted { IsAccepted player.old.decoder.accepted.configuration
+        player.old.decoder.accepted.table }
+    requires colour { is_rct player.old.decoder.accepted.configuration.colour ≡ true }
+    requires opaque { player.old.decoder.accepted.configuration.extra_plane ≡ false }
+    requires sink { IsSinkFor player.old.decoder.accepted.configuration sink.old }
+    ensures answer { WritesImage player.old.decoder.accepted player.old.reader.place
+        player.new.reader.place (passage R.remaining R.failures input.old input.new)
+        (passage W.contents W.failures sink.old.out sink.new.out) result }
+    ensures sink { OnOk result (IsSinkFor player.old.decoder.accepted.configuration sink.new) }
+    ensures sound { OnOk result (player.new.reader.fault ≡ None) }
+    ensures less { IfOk result (λ more. more ≡ true →
+        amount player.new.reader.place < amount player.old.reader.place) }
+    ensures same { player.new.decoder.accepted ≡ player.old.decoder.accepted }
+    ensures container { container_of player.new.reader.place
+        ≡ container_of player.old.reader.place }
+    ensures own { IfErr result (IsWritingFault (container_of player.old.reader.place)) }
+{
+    codec_laws::answer::answer_is_ok_for_coded_pictures::<PpmWriter<W, A>>();
+    codec_laws::answer::answered_fault_is_of_decoding::<PpmWriter<W, A>>();
+    codec_laws::sink::sink_fault_is_a_refused_line::<PpmWriter<W, A>>();
+    codec_laws::sink::offered_lines_fit_the_configuration();
+    codec_laws::sink::lines_are_handed_in_turn();
+    codec_laws::sink::rct_planes_have_the_picture_size();
+    record_laws::accepted_configuration_is_in_range();
+    record_laws::accepted_configuration_has_sound_parts();
+    y4m_laws::image_is_written_after_the_others::<W>();
+    y4m_laws::sink_writes_the_lines_it_took::<W>();
+    y4m_laws::sink_takes_the_next_line::<W>();
+    match play(player, input, sink) {
+        Ok(None) => Ok(false),
+        Ok(Some(_info)) => Ok(true),
+        Err(Stop::File(fault)) => Err(Fault::from(fault)),
+        Err(Stop::Payload(fault)) => match fault.fault {
+            // The sink refuses no line of the pictures but one whose row cannot be written.
+            CodecFault::Sink => Err(Fault::Write),
+            fault => Err(Fault::from(fault)),
+        },
+    }
+}
+
+/// Decodes all frames that are left into images. Answers how many there were, at most 2^64 - 1.
+fn write_all_images<R: ByteIn, W: ByteOut, A: Allocator>(
+    player: &mut Player<A>,
+    input: &mut R,
+    sink: &mut PpmWriter<W, A>,
+) -> Result<u64, Fault>
+    requires sound { player.old.reader.fault ≡ None }
+    requires accepted { IsAccepted player.old.decoder.accepted.configuration
+        player.old.decoder.accepted.table }
+    requires colour { is_rct player.old.decoder.accepted.configuration.colour ≡ true }
+    requires opaque { player.old.decoder.accepted.configuration.extra_plane ≡ false }
+    requires sink { IsSinkFor player.old.decoder.accepted.configuration sink.old }
+    ensures ok { IfOk result (λ n. (frames : List Frame) × (n ≡ saturated (length frames))
+        × UnpacksAll (HasThen player.old.reader.place)
+        (stream_of player.old.reader player.old.decoder.accepted)
+        (passage R.remaining R.failures input.old input.new)
+        (passage W.contents W.failures sink.old.out sink.new.out) frames) }
+    ensures err { IfErr result (UnpackingStops (HasThen player.old.reader.place)
+        (stream_of player.old.reader player.old.decoder.accepted)
+        (passage R.remaining R.failures input.old input.new)
+        (passage W.contents W.failures sink.old.out sink.new.out)) }
+    ensures own { IfErr result (IsWritingFault (container_of player.old.reader.place)) }
+{
+    let mut count = 0u64;
+    while write_next(player, input, sink)? {
+        count = count.saturating_add(1);
+    }
+    Ok(count)
+}
+
+/// Decodes all frames that are left into images, which are written row by row. Answers how many
+/// there were, at most 2^64 - 1, and hands the writer back.
+pub(crate) fn write_images<R: ByteIn, W: ByteOut, A: Allocator + Copy>(
+    alloc: A,
+    player: &mut Player<A>,
+    input: &mut R,
+    output: W,
+) -> (W, Result<u64, Fault>)
+    requires sound { player.old.reader.fault ≡ None }
+    requires accepted { IsAccepted player.old.decoder.accepted.configuration
+        player.old.decoder.accepted.table }
+    requires colour { is_rct player.old.decoder.accepted.configuration.colour ≡ true }
+    requires opaque { player.old.decoder.accepted.configuration.extra_plane ≡ false }
+    ensures ok { IfOk result.1 (λ n. (frames : List Frame) × (n ≡ saturated (length frames))
+        × UnpacksAll (HasThen player.old.reader.place)
+        (stream_of player.old.reader player.old.decoder.accepted)
+        (passage R.remaining R.failures input.old input.new)
+        (passage W.contents W.failures output result.0) frames) }
+    ensures err { IfErr result.1 (UnpackingStops (HasThen player.old.reader.place)
+        (stream_of player.old.reader player.old.decoder.accepted)
+        (passage R.remaining R.failures input.old input.new)
+        (passage W.contents W.failures output result.0)) }
+    ensures own { IfErr result.1 (IsWritingFault (container_of player.old.reader.place)) }
+{
+    let checked = player.decoder.config();
+    let config = checked.config();
+    match PpmWriter::sized_at(alloc, output, config.width, config.height, checked.depth()) {
+        Err((output, fault)) => (output, Err(Fault::from(fault))),
+        Ok(mut sink) => {
+            let count = write_all_images(player, input, &mut sink);
+            (sink.into_inner(), count)
+        }
+    }
+}

@@ -1,0 +1,25 @@
+// SPDX-License-Identifier: MIT OR Apache-2.0
+//! The commands that read a file, an AVI or Matroska, as calls over any reader and writer of bytes.
+//!
+//! `unpack` decodes a file into a text; `check` decodes all its frames up to the first that is
+//! refused, and `check_all` all of them; `framemd5` writes the MD5 of each picture as FFmpeg does;
+//! and `show` prints what a file says. Each is a loop over a `Player`, which reads and decodes a
+//! frame at a time.
+#![tactic(auto)]
+
+mod checking;
+pub mod frame_line;
+mod hashing;
+mod images_out;
+mod judging;
+mod pictures_out;
+pub mod player;
+mod showing;
+mod stream_lines;
+mod telling;
+mod unpacking;
+
+pub use checking::{check, check_all};
+pub use hashing::framemd5;
+pub use showing::show;
+pub use unpacking::unpack;

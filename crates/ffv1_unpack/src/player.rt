@@ -1,0 +1,225 @@
+//! The frames of a file, one after the other.
+
+ghost use Rattle.std.specs.Prelude.{◌≡◌, ◌⊎◌, ◌<◌, IfErr, IfOk, IfSome, None, OnOk, Some, true};
+ghost use Rattle.ffv1_wire.specs.Passage.{passage};
+ghost use Rattle.ffv1_reads.specs.Head.{head_of};
+ghost use Rattle.ffv1_files.specs.Offsets.{Reached};
+ghost use Rattle.ffv1_files.specs.Places.{amount, container_of};
+ghost use Rattle.ffv1_record.specs.Reading.{IsRefused, ReachesSets};
+ghost use Rattle.ffv1_record.specs.declared.fault.RecordFault.TheVariants as record_fault;
+ghost use Rattle.ffv1_video.specs.declared.fault.Fault.TheVariants as fault;
+ghost use Rattle.ffv1_unpack.specs.Containers.{is_profile_fault};
+ghost use Rattle.ffv1_unpack.specs.Located.{LocatedFault};
+ghost use Rattle.ffv1_unpack.specs.Internal.Located.{LocatedStep};
+ghost use Rattle.ffv1_video.specs.Profiles.{greatest_depth, record_profile, scope_in};
+ghost use Rattle.ffv1_unpack.specs.Opens.{LacksOpening, is_opening_fault};
+ghost use Rattle.ffv1_unpack.specs.Internal.Opens.{OpensStream};
+ghost use Rattle.ffv1_unpack.specs.Stream.{IsStream};
+ghost use Rattle.ffv1_unpack.specs.Internal.Told.{IsOwnStop, OnPayload, StepAnswers};
+
+use ffv1_codec::{FrameDecoder, FrameFault, Info};
+use ffv1_files::FileReader;
+use ffv1_reads::{FileFault, FileHead};
+use ffv1_record::{Checked, RecordFault, read_record_in};
+use ffv1_video::{Fault, Profile};
+use ffv1_wire::{ByteIn, LineSink};
+use std::alloc::{Allocator, Global};
+
+/// Why a file is not played on.
+#[derive(Clone, Copy, Debug)]
+pub enum Stop {
+    /// The file has no further frame that can be read.
+    File(FileFault),
+    /// The payload that was read does not decode to its end.
+    Payload(FrameFault),
+}
+
+/// The configuration of a head's record, for pictures of the head's size, in the profile.
+fn read_head<A: Allocator + Copy>(
+    alloc: A,
+    profile: Profile,
+    head: &FileHead<A>,
+) -> Result<Checked<A>, RecordFault>
+    ensures ok { IfOk result (λ c.
+        IsStream profile (record { head = head_of head.now; accepted = c })) }
+    ensures err { IfErr result (λ f. (f ≡ record_fault.OutOfMemory)
+        ⊎ IsRefused (record_profile profile) (greatest_depth profile)
+        head.now.config_record.items head.now.width head.now.height f) }
+    ensures memory { IfErr result (λ f. f ≡ record_fault.OutOfMemory →
+        ReachesSets (greatest_depth profile) head.now.config_record.items) }
+{
+    // Both arms are written out, so that the clauses are proved by arm.
+    match read_record_in(
+        alloc,
+        &head.config_record,
+        head.width,
+        head.height,
+        profile.of_record(),
+        16,
+    ) {
+        Ok(checked) => Ok(checked),
+        Err(fault) => Err(fault),
+    }
+}
+
+/// Opens a file as `open_stream` does. If the file is refused, the offset is how many bytes of
+/// it come before the element or chunk that is.
+fn open_stream_located<R: ByteIn, A: Allocator + Copy>(
+    alloc: A,
+    profile: Profile,
+    input: &mut R,
+    offset: &mut u64,
+) -> Result<(FileReader<A>, Checked<A>), Fault>
+    ensures ok { IfOk result (λ p. OpensStream profile p.0 p.1
+        (passage R.remaining R.failures input.old input.new)) }
+    ensures err { IfErr result (LacksOpening profile
+        (passage R.remaining R.failures input.old input.new)) }
+    ensures own { IfErr result (λ f. (is_opening_fault f ≡ true)
+        ⊎ (is_profile_fault profile f ≡ true)) }
+    ensures located { IfOk result (λ p. Reached (scope_in profile) (R.remaining input.old)
+        (R.remaining input.new) p.0) }
+    ensures stopped { IfErr result (λ f. LocatedFault (scope_in profile)
+        (passage R.remaining R.failures input.old input.new) f offset.new) }
+{
+    let reader = FileReader::open_located(alloc, profile.scope(), input, offset)?;
+    let checked = read_head(alloc, profile, reader.head())?;
+    Ok((reader, checked))
+}
+
+/// Opens a file, as the profile says, and reads the configuration of its frames. The faults are
+/// those of the file up to its frames, then those of its record; `Read` and `OutOfMemory` as they
+/// come.
+pub(crate) fn open_stream<R: ByteIn, A: Allocator + Copy>(
+    alloc: A,
+    profile: Profile,
+    input: &mut R,
+) -> Result<(FileReader<A>, Checked<A>), Fault>
+    ensures ok { IfOk result (λ p. OpensStream profile p.0 p.1
+        (passage R.remaining R.failures input.old input.new)) }
+    ensures err { IfErr result (LacksOpening profile
+        (passage R.remaining R.failures input.old input.new)) }
+    ensures own { IfErr result (λ f. (is_opening_fault f ≡ true)
+        ⊎ (is_profile_fault profile f ≡ true)) }
+{
+    let mut offset = 0u64;
+    match open_stream_located(alloc, profile, input, &mut offset) {
+        Ok(opened) => Ok(opened),
+        Err(refused) => Err(refused),
+    }
+}
+
+/// A file that is played: its reader, the decoder of its frames, and the payload that was read
+/// last. Both vectors that it needs are reused for each frame.
+pub struct Player<A: Allocator = Global> {
+    pub(crate) reader: FileReader<A>,
+    pub(crate) decoder: FrameDecoder<A>,
+    pub(crate) payload: Vec<u8, A>,
+}
+
+impl<A: Allocator> Drop for Player<A> {
+    fn drop(self) {
+        let Player {
+            reader: _reader,
+            decoder: _decoder,
+            payload: _payload,
+        } = self;
+    }
+}
+
+/// A player of a file that was opened. Refuses with `OutOfMemory` if the decoder is refused its
+/// memory.
+pub(crate) fn player_of<A: Allocator + Copy>(
+    alloc: A,
+    reader: FileReader<A>,
+    checked: Checked<A>,
+) -> Result<Player<A>, Fault>
+    ensures reader { IfOk result (λ p. p.reader ≡ reader) }
+    ensures decoder { IfOk result (λ p. p.decoder.accepted ≡ checked) }
+    ensures err { IfErr result (λ f. f ≡ fault.OutOfMemory) }
+{
+    let decoder = FrameDecoder::new(alloc, checked)?;
+    Ok(Player {
+        reader,
+        decoder,
+        payload: Vec::new(alloc),
+    })
+}
+
+/// Opens a file as `open_player` does. If the file is refused, the offset is how many bytes of
+/// it come before the element or chunk that is.
+pub(crate) fn open_player_located<R: ByteIn, A: Allocator + Copy>(
+    alloc: A,
+    profile: Profile,
+    input: &mut R,
+    offset: &mut u64,
+) -> Result<Player<A>, Fault>
+    ensures ok { IfOk result (λ p. OpensStream profile p.reader p.decoder.accepted
+        (passage R.remaining R.failures input.old input.new)) }
+    ensures err { IfErr result (LacksOpening profile
+        (passage R.remaining R.failures input.old input.new)) }
+    ensures own { IfErr result (λ f. (is_opening_fault f ≡ true)
+        ⊎ (is_profile_fault profile f ≡ true)) }
+    ensures located { IfOk result (λ p. Reached (scope_in profile) (R.remaining input.old)
+        (R.remaining input.new) p.reader) }
+    ensures stopped { IfErr result (λ f. LocatedFault (scope_in profile)
+        (passage R.remaining R.failures input.old input.new) f offset.new) }
+{
+    let (reader, checked) = open_stream_located(alloc, profile, input, offset)?;
+    let player = player_of(alloc, reader, checked)?;
+    Ok(player)
+}
+
+/// Opens a file, and makes the decoder of its frames. The faults are those of `open_stream`, and
+/// `OutOfMemory` if the decoder is refused its memory.
+pub(crate) fn open_player<R: ByteIn, A: Allocator + Copy>(
+    alloc: A,
+    profile: Profile,
+    input: &mut R,
+) -> Result<Player<A>, Fault>
+    ensures ok { IfOk result (λ p. OpensStream profile p.reader p.decoder.accepted
+        (passage R.remaining R.failures input.old input.new)) }
+    ensures err { IfErr result (LacksOpening profile
+        (passage R.remaining R.failures input.old input.new)) }
+    ensures own { IfErr result (λ f. (is_opening_fault f ≡ true)
+        ⊎ (is_profile_fault profile f ≡ true)) }
+{
+    let mut offset = 0u64;
+    match open_player_located(alloc, profile, input, &mut offset) {
+        Ok(player) => Ok(player),
+        Err(refused) => Err(refused),
+    }
+}
+
+/// Reads the next frame and decodes it into a sink, and answers what it says of its picture; None
+/// at the end of the file.
+pub(crate) fn play<R: ByteIn, S: LineSink, A: Allocator>(
+    player: &mut Player<A>,
+    input: &mut R,
+    sink: &mut S,
+) -> Result<Option<Info>, Stop>
+    requires sound { player.old.reader.fault ≡ None }
+    ensures answer { StepAnswers S.takes S.refuses player.old.decoder.accepted
+        player.old.reader.place player.new.reader.place player.new.payload.items
+        player.new.decoder.tally (passage R.remaining R.failures input.old input.new)
+        sink.old sink.new result }
+    ensures sound { OnOk result (player.new.reader.fault ≡ None) }
+    ensures less { IfOk result (λ o. IfSome o (λ _.
+        amount player.new.reader.place < amount player.old.reader.place)) }
+    ensures same { player.new.decoder.accepted ≡ player.old.decoder.accepted }
+    ensures container { container_of player.new.reader.place
+        ≡ container_of player.old.reader.place }
+    ensures own { IfErr result (IsOwnStop (container_of player.old.reader.place)) }
+    ensures goes_on { IfErr result (OnPayload ((player.new.reader.fault ≡ None)
+        × (amount player.new.reader.place < amount player.old.reader.place))) }
+    ensures located { LocatedStep player.old.reader
+        (passage R.remaining R.failures input.old input.new) result player.new.reader }
+{
+    match player.reader.next_frame(input, &mut player.payload) {
+        Ok(false) => Ok(None),
+        Ok(true) => match player.decoder.decode(&player.payload, sink) {
+            Ok(info) => Ok(Some(info)),
+            Err(fault) => Err(Stop::Payload(fault)),
+        },
+        Err(fault) => Err(Stop::File(fault)),
+    }
+}

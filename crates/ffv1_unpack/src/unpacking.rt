@@ -1,0 +1,148 @@
+//! Unpacks the frames of a file into pictures.
+
+ghost use Rattle.std.specs.Prelude.{◌≡◌, ◌⊎◌, ℕ, IfErr, IfOk, IfSome, List, length, None};
+ghost use Rattle.ffv1_wire.specs.Passage.{passage};
+ghost use Rattle.ffv1_range.specs.Counts.{saturated};
+ghost use Rattle.ffv1_files.specs.Places.{container_of};
+ghost use Rattle.ffv1_record.specs.Accepted.{IsAccepted};
+ghost use Rattle.ffv1_record.specs.Configuration.{configuration_of, is_rct};
+ghost use Rattle.ffv1_unpack.specs.Internal.Opens.{OpensStream, stream_of};
+ghost use Rattle.ffv1_unpack.specs.Plays.{HasThen};
+ghost use Rattle.ffv1_unpack.specs.Stream.{Frame};
+ghost use Rattle.ffv1_unpack.specs.Unpack.{IsUnpackFaultIn, LacksUnpacking};
+ghost use Rattle.ffv1_unpack.specs.Internal.Unpack.{IsWritingFault};
+ghost use Rattle.ffv1_unpack.specs.Unpack.{UnpackDone, UnpackStops};
+ghost use Rattle.ffv1_unpack.specs.Unpacked.{HasText, HasTextBy, LacksTextBy};
+ghost use Rattle.ffv1_unpack.specs.Unpacking.{UnpackingStops, UnpacksAll};
+
+use crate::images_out::write_images;
+use crate::pictures_out::{text_head, write_pictures};
+use crate::player::{Player, open_stream, player_of};
+use ffv1_files::laws as files_laws;
+use ffv1_reads::FileHead;
+use ffv1_record::{Checked, Colour};
+use ffv1_video::{Fault, Profile};
+use ffv1_wire::{ByteIn, ByteOut};
+use ffv1_y4m::has_chroma_name_at;
+use std::alloc::Allocator;
+
+/// Whether pictures of a configuration have a text: YUV4MPEG2 names six kinds of chroma of 8 bits,
+/// and fewer of other depths, as `has_chroma_name_at` has them, and PPM has no transparency.
+/// Refuses with `NoY4mName` or `NoPpm`.
+fn check_text<A: Allocator>(head: &FileHead<A>, checked: &Checked<A>) -> Result<(), Fault>
+    ensures ok { IfOk result (λ _. HasTextBy (is_rct checked.now.configuration.colour)
+        checked.now.configuration) }
+    ensures err { IfErr result (LacksTextBy (is_rct checked.now.configuration.colour)
+        checked.now.configuration) }
+{
+    let config = checked.config();
+    if config.colour == Colour::Rct {
+        if config.extra_plane {
+            return Err(Fault::NoPpm);
+        }
+        return Ok(());
+    }
+    if !has_chroma_name_at(&text_head(head, checked), checked.depth()) {
+        return Err(Fault::NoY4mName);
+    }
+    Ok(())
+}
+
+/// Opens a file whose pictures have a text, and makes the decoder of its frames.
+fn open_unpacking<R: ByteIn, A: Allocator + Copy>(
+    alloc: A,
+    profile: Profile,
+    input: &mut R,
+) -> Result<Player<A>, Fault>
+    ensures ok { IfOk result (λ p. OpensStream profile p.reader p.decoder.accepted
+        (passage R.remaining R.failures input.old input.new)) }
+    ensures text { IfOk result (λ p. HasText (stream_of p.reader p.decoder.accepted)) }
+    ensures err { IfErr result (LacksUnpacking profile
+        (passage R.remaining R.failures input.old input.new)) }
+    ensures own { IfErr result (IsUnpackFaultIn profile) }
+{
+    let (reader, checked) = open_stream(alloc, profile, input)?;
+    check_text(reader.head(), &checked)?;
+    let player = player_of(alloc, reader, checked)?;
+    Ok(player)
+}
+
+/// Writes the pictures of all frames that are left, and hands the writer back.
+fn write_frames<R: ByteIn, W: ByteOut, A: Allocator + Copy>(
+    alloc: A,
+    player: &mut Player<A>,
+    input: &mut R,
+    mut output: W,
+) -> (W, Result<u64, Fault>)
+    requires sound { player.old.reader.fault ≡ None }
+    requires accepted { IsAccepted player.old.decoder.accepted.configuration
+        player.old.decoder.accepted.table }
+    requires text { HasText (stream_of player.old.reader player.old.decoder.accepted) }
+    ensures ok { IfOk result.1 (λ n. (frames : List Frame) × (n ≡ saturated (length frames))
+        × UnpacksAll (HasThen player.old.reader.place)
+        (stream_of player.old.reader player.old.decoder.accepted)
+        (passage R.remaining R.failures input.old input.new)
+        (passage W.contents W.failures output result.0) frames) }
+    ensures err { IfErr result.1 (UnpackingStops (HasThen player.old.reader.place)
+        (stream_of player.old.reader player.old.decoder.accepted)
+        (passage R.remaining R.failures input.old input.new)
+        (passage W.contents W.failures output result.0)) }
+    ensures own { IfErr result.1 (IsWritingFault (container_of player.old.reader.place)) }
+{
+    match player.decoder.config().config().colour {
+        Colour::YCbCr => {
+            let answer = write_pictures(alloc, player, input, &mut output);
+            (output, answer)
+        }
+        Colour::Rct => write_images(alloc, player, input, output),
+    }
+}
+
+/// Decodes all frames of a file that the profile reads, and writes their pictures: those of YCbCr
+/// as YUV4MPEG2 in its canonical form, and those of RCT as PPM, one image after the other, each of
+/// the depth that the record says. It answers how many frames there were, at most 2^64 - 1, and
+/// hands the writer back.
+///
+/// A picture of YCbCr is written when it is decoded, the header before the first one; a row of an
+/// image as soon as it is decoded. Beside what the decoder holds, one payload and one picture are
+/// held, for PPM three lines.
+///
+/// The first fault ends it. Nothing is written if it is one of the file up to its first frame
+/// (`NotAvi`, `NoFfv1`, `Truncated`, `ChunkTooLong`) or of its record, or `NoY4mName` if
+/// YUV4MPEG2 has no name for the chroma at its depth, or `NoPpm` for RCT with transparency. Then
+/// come those of the chunks of its frames (`EmptyFrame`, too), of a payload, `FormatChanged` if
+/// a later frame's structure or aspect are not those of the header, and `NoFrames` if there was
+/// none; `Read`, `OutOfMemory` and `Write` as they come. At `Wide`, `Truncated` is also a file that
+/// ends inside a `RIFF`, or that has fewer frames than its `dmlh` says, and `NotAvi` one in which
+/// something that is no `RIFF` comes after the last one; and a file that begins with the byte 1A is
+/// Matroska, with the faults that `MatroskaReader::open` and `MatroskaReader::next_frame` name in
+/// place of those of AVI. What is written then is the text of the frames before, and of an image
+/// the rows before the fault; after `Write` a beginning of the next picture or row, too.
+pub fn unpack<R: ByteIn, W: ByteOut, A: Allocator + Copy>(
+    alloc: A,
+    profile: Profile,
+    input: &mut R,
+    output: W,
+) -> (W, Result<u64, Fault>)
+    ensures ok { IfOk result.1 (UnpackDone profile
+        (passage R.remaining R.failures input.old input.new)
+        (passage W.contents W.failures output result.0)) }
+    ensures err { IfErr result.1 (UnpackStops profile
+        (passage R.remaining R.failures input.old input.new)
+        (passage W.contents W.failures output result.0)) }
+    ensures own { IfErr result.1 (IsUnpackFaultIn profile) }
+{
+    files_laws::frames_come_in_turn();
+    files_laws::what_is_read_is_a_file();
+    match open_unpacking(alloc, profile, input) {
+        Err(fault) => (output, Err(fault)),
+        Ok(mut player) => {
+            let (output, answer) = write_frames(alloc, &mut player, input, output);
+            match answer {
+                Ok(0) => (output, Err(Fault::NoFrames)),
+                Ok(count) => (output, Ok(count)),
+                Err(fault) => (output, Err(fault)),
+            }
+        }
+    }
+}

@@ -1,0 +1,10 @@
+pub mod NumberLines
+pub mod Output
+pub mod KeptLines
+pub mod Faults
+pub mod Profiles
+pub mod Video
+pub mod Colours
+pub mod RawPicture
+pub mod Md5Text
+pub mod Internal
