@@ -1,8 +1,4 @@
 //! Encodes pictures: a frame by its slices, and a slice by its lines.
 
-mod cell_rows;
-pub mod frame;
-pub mod frame_counts;
-mod slice;
-mod slice_body;
-mod slice_bytes;
+pub use ffv1_encode::frame;
+pub use ffv1_frame::frame_counts;

@@ -27,22 +27,11 @@
 //! ```
 #![tactic(auto)]
 
-mod class;
 pub mod decode;
 pub mod encode;
-pub mod fault;
-pub mod info;
-pub mod laws;
-mod line_word;
-pub mod picture;
-mod places;
-mod places_of_colours;
-mod plane_sizes;
 
-pub use decode::frame::FrameDecoder;
-pub use decode::sinks::{DropLines, KeepLines};
-pub use encode::frame::FrameEncoder;
-pub use encode::frame_counts::FrameCounts;
-pub use fault::{CodecFault, FrameFault};
-pub use info::Info;
-pub use picture::Picture;
+pub use ffv1_decode::{DropLines, FrameDecoder, KeepLines};
+pub use ffv1_encode::FrameEncoder;
+pub use ffv1_frame::{
+    CodecFault, FrameCounts, FrameFault, Info, Picture, fault, info, laws, picture,
+};

@@ -11,7 +11,7 @@ use Rattle.ffv1_record.specs.declared.config.Profile.TheVariants as of_record
 use Rattle.ffv1_record.specs.Accepted.{Accepted}
 use Rattle.ffv1_codec.specs.Frame.{frame_of}
 use Rattle.ffv1_codec.specs.Picture.{Planes}
-use Rattle.ffv1_codec.specs.declared.fault.FrameFault.{FrameFault}
+use Rattle.ffv1_frame.specs.declared.fault.FrameFault.{FrameFault}
 use Rattle.ffv1_files.specs.Places.{Place, container_of, extent_in}
 use Rattle.ffv1_avi.specs.Chunks.{IsWritable}
 use Rattle.ffv1_files.specs.Files.{file_read, frame_read, open_read}

@@ -8,8 +8,8 @@ use Rattle.ffv1_slice.specs.Cutting.{CutsTo}
 use Rattle.ffv1_slice.specs.declared.cutting.CutFault.{CutFault}
 use Rattle.ffv1_codec.specs.Answer.{AnswersCut, Answers, cut_fault}
 use Rattle.ffv1_codec.specs.SliceList.{Said}
-use Rattle.ffv1_codec.specs.declared.fault.CodecFault.TheVariants as codec_fault
-use Rattle.ffv1_codec.specs.declared.fault.FrameFault.{FrameFault}
+use Rattle.ffv1_frame.specs.declared.fault.CodecFault.TheVariants as codec_fault
+use Rattle.ffv1_frame.specs.declared.fault.FrameFault.{FrameFault}
 use Rattle.ffv1_unpack.specs.Internal.FrameLines.{WritesPart}
 use Rattle.ffv1_codec.specs.Outcome.{CountOf, FaultsOf}
 use Rattle.ffv1_unpack.specs.Located.{WritesLine}

@@ -6,8 +6,8 @@ use Rattle.ffv1_range.specs.Counts.{saturated}
 use Rattle.ffv1_wire.specs.Failures.{one_more}
 use Rattle.ffv1_wire.specs.Passage.{Passage, between}
 use Rattle.ffv1_record.specs.Accepted.{Accepted}
-use Rattle.ffv1_codec.specs.declared.fault.CodecFault.{CodecFault}
-use Rattle.ffv1_codec.specs.declared.fault.CodecFault.TheVariants as codec_fault
+use Rattle.ffv1_frame.specs.declared.fault.CodecFault.{CodecFault}
+use Rattle.ffv1_frame.specs.declared.fault.CodecFault.TheVariants as codec_fault
 use Rattle.ffv1_files.specs.Files.{frame_read}
 use Rattle.ffv1_files.specs.Places.{Place, may_end}
 use Rattle.ffv1_files.specs.Readers.{Standing}

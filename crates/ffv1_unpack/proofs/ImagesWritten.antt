@@ -19,8 +19,8 @@ use Rattle.ffv1_codec.specs.Decoding.{top_of}
 use Rattle.ffv1_codec.specs.Kept.{IsLine}
 use Rattle.ffv1_codec.specs.Lines.{lines_of}
 use Rattle.ffv1_codec.specs.Picture.{Planes, plane_width}
-use Rattle.ffv1_codec.specs.declared.fault.CodecFault.TheVariants as codec_fault
-use Rattle.ffv1_codec.specs.declared.fault.FrameFault.{FrameFault}
+use Rattle.ffv1_frame.specs.declared.fault.CodecFault.TheVariants as codec_fault
+use Rattle.ffv1_frame.specs.declared.fault.FrameFault.{FrameFault}
 use Rattle.ffv1_y4m.specs.Images.{AtImage, image_lines, image_text, text_of_lines}
 use Rattle.ffv1_y4m.specs.Ppm.{bytes_for}
 use Rattle.ffv1_samples.specs.Samples.{sample_bytes}

@@ -3,8 +3,8 @@ use Rattle.std.proofs.Common.{◌≡◌, ◌≢◌, ◌⊎◌, refl, ℕ, Bool, 
 use Rattle.ffv1_wire.specs.Passage.{Passage}
 use Rattle.ffv1_record.specs.declared.fault.RecordFault.{RecordFault}
 use Rattle.ffv1_record.specs.declared.fault.RecordFault.TheVariants as record_fault
-use Rattle.ffv1_codec.specs.declared.fault.CodecFault.{CodecFault}
-use Rattle.ffv1_codec.specs.declared.fault.CodecFault.TheVariants as codec_fault
+use Rattle.ffv1_frame.specs.declared.fault.CodecFault.{CodecFault}
+use Rattle.ffv1_frame.specs.declared.fault.CodecFault.TheVariants as codec_fault
 use Rattle.ffv1_codec.specs.DecodeFaults.{is_decode_fault}
 use Rattle.ffv1_reads.specs.declared.fault.FileFault.{FileFault}
 use Rattle.ffv1_reads.specs.declared.fault.FileFault.TheVariants as avi_fault

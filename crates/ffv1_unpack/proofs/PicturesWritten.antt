@@ -9,8 +9,8 @@ use Rattle.ffv1_wire.specs.Passage.{Passage, between}
 use Rattle.ffv1_record.specs.Accepted.{Accepted}
 use Rattle.ffv1_codec.specs.DecodeFaults.{is_decode_fault}
 use Rattle.ffv1_codec.specs.SliceList.{Said}
-use Rattle.ffv1_codec.specs.declared.fault.CodecFault.{CodecFault}
-use Rattle.ffv1_codec.specs.declared.fault.CodecFault.TheVariants as codec_fault
+use Rattle.ffv1_frame.specs.declared.fault.CodecFault.{CodecFault}
+use Rattle.ffv1_frame.specs.declared.fault.CodecFault.TheVariants as codec_fault
 use Rattle.ffv1_y4m.specs.Canonical.{header_text}
 use Rattle.ffv1_y4m.specs.Pictures.{picture_text}
 use Rattle.ffv1_y4m.specs.declared.head.VideoHead.{VideoHead}

@@ -6,7 +6,7 @@ use Rattle.ffv1_range.specs.declared.tally.Tally.{Tally}
 use Rattle.ffv1_range.specs.Counts.{saturated}
 use Rattle.ffv1_record.specs.Configuration.{Configuration}
 use Rattle.ffv1_codec.specs.Answer.{decided_by}
-use Rattle.ffv1_codec.specs.declared.fault.FrameFault.{FrameFault}
+use Rattle.ffv1_frame.specs.declared.fault.FrameFault.{FrameFault}
 use Rattle.ffv1_unpack.specs.declared.frame_line.FrameLine.{FrameLine}
 use Rattle.ffv1_unpack.specs.declared.frame_line.FrameLine.TheVariants as line
 use Rattle.ffv1_unpack.specs.Stream.{Frame}

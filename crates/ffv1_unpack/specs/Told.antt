@@ -5,7 +5,7 @@ use Rattle.ffv1_range.specs.declared.tally.Tally.{Tally}
 use Rattle.ffv1_range.specs.Counts.{saturated}
 use Rattle.ffv1_wire.specs.Passage.{Passage}
 use Rattle.ffv1_record.specs.Accepted.{Accepted}
-use Rattle.ffv1_codec.specs.declared.fault.FrameFault.{FrameFault}
+use Rattle.ffv1_frame.specs.declared.fault.FrameFault.{FrameFault}
 use Rattle.ffv1_files.specs.Places.{Place}
 use Rattle.ffv1_video.specs.declared.fault.Fault.{Fault}
 use Rattle.ffv1_video.specs.declared.fault.Fault.TheVariants as fault

@@ -8,8 +8,8 @@ use Rattle.ffv1_plane.specs.declared.fault.Fault.{Fault as PlaneFault}
 use Rattle.ffv1_plane.specs.declared.fault.Fault.TheVariants as plane_fault
 use Rattle.ffv1_record.specs.declared.fault.RecordFault.{RecordFault}
 use Rattle.ffv1_record.specs.declared.fault.RecordFault.TheVariants as record_fault
-use Rattle.ffv1_codec.specs.declared.fault.CodecFault.{CodecFault}
-use Rattle.ffv1_codec.specs.declared.fault.CodecFault.TheVariants as codec_fault
+use Rattle.ffv1_frame.specs.declared.fault.CodecFault.{CodecFault}
+use Rattle.ffv1_frame.specs.declared.fault.CodecFault.TheVariants as codec_fault
 use Rattle.ffv1_reads.specs.declared.fault.FileFault.{FileFault}
 use Rattle.ffv1_reads.specs.declared.fault.FileFault.TheVariants as avi_fault
 use Rattle.ffv1_y4m.specs.declared.fault.Fault.{Fault as Y4mFault}

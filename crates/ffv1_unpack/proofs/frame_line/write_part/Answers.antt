@@ -2,7 +2,7 @@
 use Rattle.std.proofs.Common.{ℕ, Err, List, ◌++◌}
 use Rattle.std.specs.Prelude.{codes, decimal}
 use Rattle.std.proofs.lemmas.Result.{err_from_is_err_and}
-use Rattle.ffv1_codec.specs.declared.fault.FrameFault.{FrameFault}
+use Rattle.ffv1_frame.specs.declared.fault.FrameFault.{FrameFault}
 use Rattle.ffv1_unpack.specs.FrameLines.{part_of_frame}
 use Rattle.ffv1_unpack.proofs.LineParts.{part_stops, part_then, parts_done}
 use Rattle.ffv1_unpack.proofs.frame_line.write_part.Goals as goal

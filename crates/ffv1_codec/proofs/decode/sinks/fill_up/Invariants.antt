@@ -1,8 +1,0 @@
-use Rattle.std.proofs.Common.{◌≡◌, ◌++◌, replicate}
-use Rattle.std.specs.Vec.{vec_capacity}
-use Rattle.ffv1_codec.proofs.decode.sinks.fill_up.Given as goal
-
-abbrev pub invariant-loop : goal.invariant-loop
-invariant-loop g l =
-    (l.plane.items ≡ l.initial.plane.items ++ replicate l.counter 0)
-    × (vec_capacity l.plane ≡ vec_capacity l.initial.plane)

@@ -1,0 +1,320 @@
+-- Reads a segment into its place of a line.
+use Rattle.std.proofs.Common.{◌≡◌, ℕ, ◌++◌, ◌+◌, ◌-◌, ◌*◌, ◌<◌, ◌≤◌, ◌⊎◌, inl, inr, ap, sym, subst}
+use Rattle.std.proofs.Common.{◌∙◌, rules, Fits, w64}
+use Rattle.std.proofs.Math.Nat.{mul-le-mul_right}
+use Rattle.std.proofs.Common.{length, slice_index_or, take, drop, arith}
+use Rattle.std.proofs.lemmas.List.{get_or_default, length-take-le}
+use Rattle.ffv1_record.specs.Held.{classes_of}
+use Rattle.ffv1_frame.specs.Picture.{plane}
+use Rattle.ffv1_frame.specs.Windows.{window}
+use Rattle.ffv1_frame.specs.Decoding.{slice_at, left_of, width_in}
+use Rattle.ffv1_decode.specs.Internal.Tied.{IsOpen, column_at, no_column, slots_in}
+use Rattle.ffv1_frame.proofs.Sizes.{slots_small, part_small, part_apart}
+use Rattle.ffv1_decode.proofs.ClassRoom.{classes_most}
+use Rattle.ffv1_frame.proofs.WrittenParts.{put_held, put_other, part_held, part_long}
+use Rattle.ffv1_decode.proofs.WordLines.{piece_long, window_samples, put_samples}
+use Rattle.ffv1_decode.proofs.ColumnsOpen.{open_next}
+use Rattle.ffv1_decode.proofs.SegmentTied.{step_made, stopped, stands_here}
+use Rattle.ffv1_decode.proofs.segment.read_on.Given.{Over}
+use Rattle.ffv1_decode.proofs.segment.read_on.Goals.{After-index-columns-k, After-read_column}
+use Rattle.ffv1_decode.proofs.segment.read_on.Goals.{After-extent-left}
+use Rattle.ffv1_decode.proofs.segment.read_on.Goals as goal
+
+-- the states of a column lie in those of the row
+fits : (k columns slots count all : ℕ) → k < columns → slots ≡ count → all ≡ columns * count → k *
+    slots + slots ≤ all
+fits k columns slots count all inside same room =
+    let part = part_apart k columns slots inside in
+    let room : all ≡ columns * slots = room ∙ ap (λ z. columns * z) (sym same) in
+    omega (arith, part, room)
+
+-- and are as many as a slice has
+thick : (k slots : ℕ) → k * slots + slots - k * slots ≡ slots
+thick k slots = omega arith
+
+-- the column that is read
+column_is : (g : Over) (c : After-index-columns-k g) →
+    slice_index_or c.args.columns.now c.args.segment.now.column c.index-columns-k.result
+    ≡ column_at c.args.columns.now c.args.segment.now.column
+column_is g c = get_or_default c.args.columns.now c.args.segment.now.column c.index-columns-k.result
+    no_column (omega (arith, c.requires.column, c.requires.many))
+
+-- the column was read
+module _ (g : Over) (c : After-read_column g) where
+  words_fit : c.extent-left.result.0 + (c.extent-left.result.1 - c.extent-left.result.0) ≤ length
+      c.args.cur.now
+  words_fit = omega (
+    arith,
+    c.extent-left.ensures.some,
+    c.extent-left.ensures.inside,
+    c.requires.cur_long,
+  )
+
+  row_long : length (g.W.Word.samples c.read_column.new.cur) ≡ c.extent-left.result.1 -
+      c.extent-left.result.0
+  row_long =
+      g.met.W.Word.lengths c.read_column.new.cur ∙ c.read_column.auto.cur
+      ∙ piece_long c.extent-left.result.0 (c.extent-left.result.1 - c.extent-left.result.0)
+      c.args.cur.now words_fit
+
+  states_long : length c.read_column.new.states ≡ c.args.frame.now.slots
+  states_long =
+      let k = c.args.segment.now.column in
+      let slots = c.args.frame.now.slots in
+      c.read_column.auto.states ∙ part_long (k * slots) slots (k * slots + slots - k * slots)
+      c.args.states.now (thick k slots) (fits c.args.segment.now.column
+      c.args.frame.now.checked.now.configuration.columns c.args.frame.now.slots _ _
+      c.requires.column c.requires.frame.slots c.requires.room)
+
+  -- the line has what was read in its place, and beside it what it had
+  others : (b n : ℕ) → b + n ≤ length (g.W.Word.samples c.args.cur.now) →
+      (b + n ≤ c.args.segment.now.index * c.args.frame.now.checked.now.configuration.width)
+      ⊎ (c.args.segment.now.index * c.args.frame.now.checked.now.configuration.width +
+      c.args.frame.now.checked.now.configuration.width ≤ b) →
+      window b n (g.W.Word.samples (take c.extent-left.result.0 c.args.cur.now ++
+      (c.read_column.new.cur ++ drop (c.extent-left.result.1 - c.extent-left.result.0)
+      (drop c.extent-left.result.0 c.args.cur.now))))
+      ≡ window b n (g.W.Word.samples c.args.cur.now)
+  others b n within apart =
+      let left = c.extent-left.result.0 in
+      let width = c.extent-left.result.1 - left in
+      let cur = g.W.Word.samples c.args.cur.now in
+      let cur_long : length cur ≡ length c.args.cur.now = g.met.W.Word.lengths c.args.cur.now in
+      let cur_fits : left + width ≤ length cur = omega (arith, words_fit, cur_long) in
+      let index = c.args.segment.now.index * c.args.frame.now.checked.now.configuration.width in
+      let apart : (b + n ≤ left) ⊎ (left + width ≤ b) = elim apart [
+        | inl front ↦ inl (omega (arith, front, c.extent-left.ensures.left))
+        | inr behind ↦ inr (omega (
+          arith,
+          behind,
+          c.extent-left.ensures.some,
+          c.extent-left.ensures.inside,
+        ))
+      ] in
+      let law = g.met.W.Word in
+      rw (put_samples g.W.Word.samples law.takes law.drops law.joins left width c.args.cur.now
+      c.read_column.new.cur) (put_other cur (g.W.Word.samples c.read_column.new.cur) left width
+      cur_fits row_long b n within apart)
+
+-- the states of a column end at a place that a number can say
+end_small : (g : Over) (c : After-extent-left g) →
+    c.args.segment.now.column * c.args.frame.now.slots
+    + c.args.frame.now.slots ≤ 100663296
+end_small g c =
+    let a = c.args.frame.now.checked.now in
+    let conf = a.configuration in
+    let k = c.args.segment.now.column in
+    let slots = c.args.frame.now.slots in
+    let most = c.accepted_configuration_has_sound_parts.ensures.most conf a.table
+    c.requires.frame.accepted in
+    let few = slots_small (classes_of conf.chroma_planes conf.extra_plane) _
+    (classes_most conf.chroma_planes conf.extra_plane) most in
+    let columns = c.accepted_configuration_is_in_range.ensures.columns conf a.table
+    c.requires.frame.accepted in
+    part_small k slots (omega (arith, c.requires.column, columns))
+    (omega (arith, few, c.requires.frame.slots))
+
+pub overflow_mul-at : goal.overflow_mul-at
+overflow_mul-at g c =
+    let small = end_small g (goal.at.overflow_mul-at g c).After-extent-left in
+    omega (arith, small)
+
+pub overflow_add-at : goal.overflow_add-at
+overflow_add-at g c =
+    let small = end_small g (goal.at.overflow_add-at g c).After-extent-left in
+    omega (arith, small)
+
+-- a segment begins in its line
+begins : (g : Over) (c : After-extent-left g) → c.extent-left.result.0 ≤ length c.args.cur.now
+begins g c = omega (
+  arith,
+  c.extent-left.ensures.some,
+  c.extent-left.ensures.inside,
+  c.requires.cur_long,
+)
+
+-- and so does it in bytes
+scaled : (left long size : ℕ) → left ≤ long → Fits w64 (long * size) → Fits w64 (left * size)
+scaled left long size below fits =
+    let less = mul-le-mul_right {m = left} {n = long} size below in
+    omega (arith, less, fits)
+
+pub offset_bounds-cur-left : goal.offset_bounds-cur-left
+offset_bounds-cur-left g c =
+    let below = begins g (goal.at.offset_bounds-cur-left g c).After-extent-left in
+    scaled c.extent-left.result.0 (length c.args.cur.now) _ below (search rules)
+
+pub fault_at-requires-clause-x : goal.fault_at-requires-clause-x
+fault_at-requires-clause-x g c =
+    let conf = c.args.frame.now.checked.now.configuration in
+    let right : c.extent-left.result.1 - c.extent-left.result.0
+    ≡ width_in conf c.args.segment.now.plane c.args.segment.now.column =
+    omega (arith, c.extent-left.ensures.right) in
+    let row_is = row_long g (goal.at.fault_at-requires-clause-x g c).After-read_column ∙ right in
+    omega (arith, c.in-Err.ensures.inside, row_is)
+
+pub slice_bounds-read_column-end : goal.slice_bounds-read_column-end
+slice_bounds-read_column-end g c = fits c.args.segment.now.column
+    c.args.frame.now.checked.now.configuration.columns c.args.frame.now.slots _ _ c.requires.column
+    c.requires.frame.slots c.requires.room
+
+pub read_column-requires-clause-open : goal.read_column-requires-clause-open
+read_column-requires-clause-open g c =
+    let is = column_is g (goal.at.read_column-requires-clause-open g c).After-index-columns-k in
+    subst (IsOpen c.args.frame.now.payload.now c.args.frame.now.checked.now.configuration.sets)
+    (sym is)
+    (c.requires.open c.args.segment.now.column (omega (arith, c.requires.column, c.requires.many)))
+
+pub read_column-requires-clause-held : goal.read_column-requires-clause-held
+read_column-requires-clause-held g c =
+    let k = c.args.segment.now.column in
+    let slots = c.args.frame.now.slots in
+    let fits = fits c.args.segment.now.column c.args.frame.now.checked.now.configuration.columns
+    c.args.frame.now.slots _ _ c.requires.column c.requires.frame.slots c.requires.room in
+    rw (thick k slots) (part_held c.args.frame.now.checked.now.table c.args.states.now (k * slots)
+    slots fits c.requires.held)
+
+pub returns-in-Ok-clause-exact : goal.returns-in-Ok-clause-exact
+returns-in-Ok-clause-exact g c = λ coded next s less tied line.
+    let a = c.args.frame.now.checked.now in
+    let conf = a.configuration in
+    let samples = g.W.Word.samples in
+    let law = g.met.W.Word in
+    let two = samples c.args.above.now.two.now in
+    let one = samples c.args.above.now.one.now in
+    let cur = samples c.args.cur.now in
+    let row = samples c.read_column.new.cur in
+    let k = c.args.segment.now.column in
+    let p = c.args.segment.now.plane in
+    let slots = c.args.frame.now.slots in
+    let left = c.extent-left.result.0 in
+    let width = c.extent-left.result.1 - left in
+    let here = goal.at.returns-in-Ok-clause-exact g c in
+    let thick = thick k slots in
+    let column_is = column_is g here.After-index-columns-k in
+    let right : width ≡ width_in conf p k = omega (arith, c.extent-left.ensures.right) in
+    let row_is : length row ≡ width_in conf p k = row_long g here.After-read_column ∙ right in
+    let part_is = window_samples samples law.takes law.drops law.joins left width in
+    let two_is = part_is c.args.above.now.two.now in
+    let one_is = part_is c.args.above.now.one.now in
+    let same = rw column_is at c.in-Ok.ensures.same in
+    let slots_are : slots ≡ slots_in conf = c.requires.frame.slots in
+    let left_is : left ≡ c.args.segment.now.index * conf.width + left_of conf p k =
+    c.extent-left.ensures.left in
+    let exact = rw (column_is, thick, slots_are, two_is, one_is, right, left_is) at
+    c.in-Ok.ensures.exact in
+    let old = slice_at s k in
+    let rolls = line.unread k (omega arith) c.requires.column in
+    let stands = stands_here a coded c.args.segment.now.row next c.args.frame.now.payload.now
+    c.args.columns.now c.args.states.now s tied p c.args.segment.now.index c.args.segment.now.y
+    k two one cur row
+    c.read_column.new.column c.requires.column c.requires.many same in
+    let raw = rw row_is at (exact old.past (plane old.cells p) c.args.segment.now.y stands
+    (rw row_is rolls)) in
+    let cur_back = put_samples samples law.takes law.drops law.joins left width c.args.cur.now
+    c.read_column.new.cur in
+    let cur_long : length cur ≡ length c.args.cur.now = law.lengths c.args.cur.now in
+    let long : length c.read_column.new.states ≡ slots_in conf = states_long g
+    here.After-read_column ∙ slots_are in
+    let are = c.slices_lie_beside_one_another.ensures.across conf a.table p
+    c.requires.frame.accepted in
+    rw (cur_back, thick, slots_are, right, left_is)
+    (step_made a coded c.args.segment.now.row next c.args.frame.now.payload.now
+    c.args.columns.now c.args.states.now s tied p c.args.segment.now.index c.args.segment.now.y
+    k two one cur row
+    c.read_column.new.column c.requires.column c.requires.many same rolls c.read_column.new.states
+    c.in-Ok.ensures.small row_is less c.requires.plane c.requires.room long raw are
+    c.reading_its_rows_reads_the_cell.ensures.rolls
+    (omega (arith, cur_long, c.requires.cur_long)) line)
+
+pub returns-in-Ok-clause-beside : goal.returns-in-Ok-clause-beside
+returns-in-Ok-clause-beside g c = others g
+    (goal.at.returns-in-Ok-clause-beside g c).After-read_column
+
+pub returns-in-Ok-clause-open : goal.returns-in-Ok-clause-open
+returns-in-Ok-clause-open g c =
+    let is = column_is g (goal.at.returns-in-Ok-clause-open g c).After-index-columns-k in
+    let same = rw is at c.in-Ok.ensures.same in
+    open_next c.args.frame.now.payload.now c.args.frame.now.checked.now.configuration.sets
+    c.args.columns.now c.args.segment.now.column c.read_column.new.column
+    (omega (arith, c.requires.column, c.requires.many)) c.requires.open same c.in-Ok.ensures.open
+
+pub returns-in-Ok-clause-held : goal.returns-in-Ok-clause-held
+returns-in-Ok-clause-held g c =
+    let here = goal.at.returns-in-Ok-clause-held g c in
+    let k = c.args.segment.now.column in
+    let slots = c.args.frame.now.slots in
+    let long = states_long g here.After-read_column in
+    rw (thick k slots) (put_held c.args.states.now c.read_column.new.states (k * slots) slots
+    (fits c.args.segment.now.column c.args.frame.now.checked.now.configuration.columns
+    c.args.frame.now.slots _ _ c.requires.column c.requires.frame.slots c.requires.room) long
+    c.args.frame.now.checked.now.table c.requires.held c.in-Ok.ensures.held)
+
+pub returns-in-Err-clause-exact : goal.returns-in-Err-clause-exact
+returns-in-Err-clause-exact g c = λ coded next s less tied line.
+    let a = c.args.frame.now.checked.now in
+    let conf = a.configuration in
+    let samples = g.W.Word.samples in
+    let law = g.met.W.Word in
+    let two = samples c.args.above.now.two.now in
+    let one = samples c.args.above.now.one.now in
+    let cur = samples c.args.cur.now in
+    let row = samples c.read_column.new.cur in
+    let k = c.args.segment.now.column in
+    let p = c.args.segment.now.plane in
+    let slots = c.args.frame.now.slots in
+    let left = c.extent-left.result.0 in
+    let width = c.extent-left.result.1 - left in
+    let here = goal.at.returns-in-Err-clause-exact g c in
+    let thick = thick k slots in
+    let column_is = column_is g here.After-index-columns-k in
+    let right : width ≡ width_in conf p k = omega (arith, c.extent-left.ensures.right) in
+    let row_is : length row ≡ width_in conf p k = row_long g here.After-read_column ∙ right in
+    let part_is = window_samples samples law.takes law.drops law.joins left width in
+    let two_is = part_is c.args.above.now.two.now in
+    let one_is = part_is c.args.above.now.one.now in
+    let same = rw column_is at c.in-Err.ensures.same in
+    let slots_are : slots ≡ slots_in conf = c.requires.frame.slots in
+    let left_is : left ≡ c.args.segment.now.index * conf.width + left_of conf p k =
+    c.extent-left.ensures.left in
+    let exact = rw (column_is, thick, slots_are, two_is, one_is, right, left_is) at
+    c.in-Err.ensures.exact in
+    let old = slice_at s k in
+    let rolls = line.unread k (omega arith) c.requires.column in
+    let stands = stands_here a coded c.args.segment.now.row next c.args.frame.now.payload.now
+    c.args.columns.now c.args.states.now s tied p c.args.segment.now.index c.args.segment.now.y
+    k two one cur (take c.in-Err.refused.x row)
+    c.read_column.new.column c.requires.column c.requires.many same in
+    let raw = rw row_is at (exact old.past (plane old.cells p) c.args.segment.now.y stands
+    (rw row_is rolls)) in
+    let x = c.in-Err.refused.x in
+    let few : x < width_in conf p k = omega (arith, c.in-Err.ensures.inside, row_is) in
+    let taken : length (take x row) ≡ x = length-take-le x row (omega (arith, few, row_is)) in
+    stopped a coded c.args.segment.now.row next c.args.frame.now.payload.now c.args.columns.now
+    c.args.states.now s tied p c.args.segment.now.index c.args.segment.now.y k two one cur
+    (take x row)
+    c.read_column.new.column c.requires.column c.requires.many same rolls x taken few
+    c.counters_from_zero_show_all_steps.ensures raw c.fault_at.result c.fault_at.ensures
+
+pub returns-in-Err-clause-beside : goal.returns-in-Err-clause-beside
+returns-in-Err-clause-beside g c = others g
+    (goal.at.returns-in-Err-clause-beside g c).After-read_column
+
+pub returns-in-Err-clause-open : goal.returns-in-Err-clause-open
+returns-in-Err-clause-open g c =
+    let is = column_is g (goal.at.returns-in-Err-clause-open g c).After-index-columns-k in
+    let same = rw is at c.in-Err.ensures.same in
+    open_next c.args.frame.now.payload.now c.args.frame.now.checked.now.configuration.sets
+    c.args.columns.now c.args.segment.now.column c.read_column.new.column
+    (omega (arith, c.requires.column, c.requires.many)) c.requires.open same c.in-Err.ensures.open
+
+pub returns-in-Err-clause-held : goal.returns-in-Err-clause-held
+returns-in-Err-clause-held g c =
+    let here = goal.at.returns-in-Err-clause-held g c in
+    let k = c.args.segment.now.column in
+    let slots = c.args.frame.now.slots in
+    let long = states_long g here.After-read_column in
+    rw (thick k slots) (put_held c.args.states.now c.read_column.new.states (k * slots) slots
+    (fits c.args.segment.now.column c.args.frame.now.checked.now.configuration.columns
+    c.args.frame.now.slots _ _ c.requires.column c.requires.frame.slots c.requires.room) long
+    c.args.frame.now.checked.now.table c.requires.held c.in-Err.ensures.held)

@@ -1,0 +1,11 @@
+pub mod Begun
+pub mod Buffers
+pub mod Finished
+pub mod Opened
+pub mod Places
+pub mod Progress
+pub mod Rows
+pub mod Shared
+pub mod Stands
+pub mod Tallies
+pub mod Tied

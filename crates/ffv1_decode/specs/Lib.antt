@@ -1,0 +1,3 @@
+pub mod OwnFaults
+pub mod Filled
+pub mod Internal

@@ -1,0 +1,356 @@
+//! Reads the segment of a line that lies in one slice.
+
+ghost use Rattle.std.specs.Prelude.{◌≡◌, ℕ, ◌+◌, ◌-◌, ◌*◌, ◌^◌, ◌≤◌, ◌<◌, ◌⊎◌, List, IsSome, OnOk};
+ghost use Rattle.std.specs.Prelude.{IfErr, MatchResult, length, slice_index, take, [], ◌∷◌};
+ghost use Rattle.ffv1_range.specs.Symbols.{AllHeld, Step};
+ghost use Rattle.ffv1_plane.specs.Quantisation.{contexts_of};
+ghost use Rattle.ffv1_line.specs.Cell.{Rolls};
+ghost use Rattle.ffv1_frame.specs.Picture.{plane_count};
+ghost use Rattle.ffv1_frame.specs.SliceList.{class_of, base_of, bits_of, set_at};
+ghost use Rattle.ffv1_decode.specs.OwnFaults.{IsOwn};
+ghost use Rattle.ffv1_frame.specs.Order.{lines_down};
+ghost use Rattle.ffv1_frame.specs.Order.Event.{Read};
+ghost use Rattle.ffv1_frame.specs.Decoding.{State, fault_in, left_of, width_in, slice_number};
+ghost use Rattle.ffv1_decode.specs.Internal.Stands.{Stands, SegmentRead, SegmentRefused};
+ghost use Rattle.ffv1_frame.specs.Windows.{window};
+ghost use Rattle.ffv1_decode.specs.Internal.Tied.{KeepsBeside, IsFrame, IsOpen, AreOpen, bytes_in};
+ghost use Rattle.ffv1_decode.specs.Internal.Tied.{IsKept, TiedKept};
+ghost use Rattle.ffv1_decode.specs.Internal.Tied.{HasPlane, row_slots, slots_in};
+ghost use Rattle.ffv1_decode.specs.Internal.Tied.{TiedColumns, TiedLine, SegmentMade};
+ghost use Rattle.ffv1_decode.specs.Internal.Tied.{StepMade, Stopped, overread_in, row_slices};
+ghost use Rattle.ffv1_decode.specs.Internal.Tied.{rolling_lines};
+ghost use Rattle.ffv1_line.specs.Coding.{coding_by};
+
+use crate::column::Column;
+use crate::ending::lacks_ending;
+use crate::overread::is_overread;
+use crate::parts::{Frame, LinesAbove, Segment};
+use crate::places;
+use crate::shared::{first_difference, said_left};
+use ffv1_frame::class::class_of;
+use ffv1_frame::fault::{CodecFault, FrameFault};
+use ffv1_frame::line_word::{Above, LineCoding, LineWord, bits_of};
+use ffv1_line::{TooLong, laws as line_laws};
+use ffv1_range::{Parked, laws as range_laws};
+use ffv1_record::laws as record_laws;
+use std::alloc::Allocator;
+
+/// Reads a segment: wakes a decoder on the bytes of its slice, decodes a row by the states of its
+/// class, and parks.
+fn read_segment<W: LineWord, B: Allocator>(
+    parked: &mut Option<Parked>,
+    bytes: &[u8],
+    coding: &LineCoding<'_, B>,
+    states: &mut [u8],
+    above: &Above<'_, W>,
+    cur: &mut [W],
+) -> Result<(), TooLong>
+    requires open { IsSome parked.old }
+    requires bits { W.holds coding.now.bits }
+    requires few { coding.now.bits ≤ 17 }
+    requires some { 0 < length cur.old }
+    requires two_long { length above.now.two.now ≡ length cur.old }
+    requires one_long { length above.now.one.now ≡ length cur.old }
+    requires rows { length states.old ≡ contexts_of coding.now.set.now * 32 }
+    requires held { AllHeld coding.now.table.now states.old }
+    ensures exact { (past : List Step) (base : ℕ) (samples : List ℕ) (y : ℕ) →
+        let table = coding.now.table.now in
+        let set = coding.now.set.now in
+        let row = W.samples cur.new in
+        Stands bytes.now table base parked.old states.old past →
+        Rolls (length row) samples (W.samples above.now.two.now) (W.samples above.now.one.now) y →
+        MatchResult result
+        (λ _. SegmentRead bytes.now (coding_by table set coding.now.bits) base base past samples
+        (length row) y parked.new states.new row)
+        (λ e. SegmentRefused bytes.now (coding_by table set coding.now.bits) base base past samples
+        (length row) y parked.new (take e.x row) e.x) }
+    ensures small { OnOk result ((x : ℕ) → x < length (W.samples cur.new) →
+        slice_index (W.samples cur.new) x < 2 ^ coding.now.bits) }
+    ensures inside { IfErr result (λ e. e.x < length (W.samples cur.new)) }
+    ensures open { IsSome parked.new }
+    ensures held { AllHeld coding.now.table.now states.new }
+{
+    range_laws::array_states_follow_the_history();
+    range_laws::decisions_of_two_parts_join();
+    range_laws::read_bytes_code_what_was_read();
+    range_laws::counters_go_on_by_both_parts();
+    range_laws::counters_from_zero_show_all_steps();
+    line_laws::row_slots_are_the_contexts_slots();
+    range_laws::symbols_stay_in_their_slots();
+    line_laws::read_samples_fit_their_bits();
+    let set = coding.set;
+    set.is_a_bounded_set();
+    let mut decoder = parked.take().unwrap().wake(bytes);
+    let read = W::decode(&mut decoder, coding, states, above, cur);
+    *parked = Some(decoder.park());
+    read
+}
+
+/// Reads a segment of a plane, by the states of its slice.
+fn read_column<W: LineWord, A: Allocator>(
+    frame: &Frame<'_, A>,
+    plane: u8,
+    column: &mut Column,
+    states: &mut [u8],
+    above: &Above<'_, W>,
+    cur: &mut [W],
+) -> Result<(), TooLong>
+    requires frame { IsFrame frame.now }
+    requires bits { W.holds (bits_of frame.now.checked.now.configuration) }
+    requires plane { plane < plane_count frame.now.checked.now.configuration }
+    requires open { IsOpen frame.now.payload.now frame.now.checked.now.configuration.sets
+        column.old }
+    requires some { 0 < length cur.old }
+    requires two_long { length above.now.two.now ≡ length cur.old }
+    requires one_long { length above.now.one.now ≡ length cur.old }
+    requires rows { length states.old ≡ slots_in frame.now.checked.now.configuration }
+    requires held { AllHeld frame.now.checked.now.table states.old }
+    ensures exact { (past : List Step) (samples : List ℕ) (y : ℕ) →
+        let a = frame.now.checked.now in
+        let set = set_at a.configuration.sets (slice_index column.old.indexes (class_of plane)) in
+        let bytes = bytes_in frame.now.payload.now column.old in
+        let base = base_of a.configuration plane in
+        let row = W.samples cur.new in
+        Stands bytes a.table 33 column.old.parked states.old past →
+        Rolls (length row) samples (W.samples above.now.two.now) (W.samples above.now.one.now) y →
+        MatchResult result
+        (λ _. SegmentRead bytes (coding_by a.table set (bits_of a.configuration)) base 33 past
+        samples (length row) y column.new.parked states.new row)
+        (λ e. SegmentRefused bytes (coding_by a.table set (bits_of a.configuration)) base 33 past
+        samples (length row) y column.new.parked (take e.x row) e.x) }
+    ensures small { OnOk result ((x : ℕ) → x < length (W.samples cur.new) →
+        slice_index (W.samples cur.new) x < 2 ^ bits_of frame.now.checked.now.configuration) }
+    ensures inside { IfErr result (λ e. e.x < length (W.samples cur.new)) }
+    ensures open { IsSome column.new.parked }
+    ensures same { column.new ≡ record column.old { parked = column.new.parked } }
+    ensures held { AllHeld frame.now.checked.now.table states.new }
+{
+    range_laws::array_states_follow_the_history();
+    record_laws::accepted_configuration_has_sound_parts();
+    let config = frame.checked.config();
+    let class = class_of(plane as u32);
+    let set = config.sets.get(usize::from(column.indexes[class]));
+    let at = class * frame.most * 32;
+    let end = at + set.contexts() as usize * 32;
+    let bytes = &frame.payload[column.first..column.last];
+    let coding = LineCoding {
+        table: frame.checked.table(),
+        set,
+        bits: bits_of(frame.checked),
+    };
+    read_segment(
+        &mut column.parked,
+        bytes,
+        &coding,
+        &mut states[at..end],
+        above,
+        cur,
+    )
+}
+
+/// Where a segment begins and ends in a rolling line.
+pub(crate) fn extent<A: Allocator>(frame: &Frame<'_, A>, segment: &Segment) -> (usize, usize)
+    requires frame { IsFrame frame.now }
+    requires column { segment.now.column < frame.now.checked.now.configuration.columns }
+    requires few { segment.now.index < 4 }
+    ensures left { result.0 ≡ segment.now.index * frame.now.checked.now.configuration.width
+        + left_of frame.now.checked.now.configuration segment.now.plane segment.now.column }
+    ensures right { result.1 ≡ result.0
+        + width_in frame.now.checked.now.configuration segment.now.plane segment.now.column }
+    ensures some { result.0 < result.1 }
+    ensures inside { result.1 ≤ segment.now.index * frame.now.checked.now.configuration.width
+        + frame.now.checked.now.configuration.width }
+{
+    places::slices_lie_beside_one_another();
+    record_laws::accepted_configuration_is_in_range();
+    let plane = segment.plane as u32;
+    let k = segment.column as u32;
+    let offset = segment.index as usize * frame.checked.config().width as usize;
+    let cell = frame.grid.cell_across(plane, k);
+    let left = offset + cell.0 as usize;
+    (left, left + cell.1 as usize)
+}
+
+/// A fault of a segment, at this of its samples.
+fn fault_at<A: Allocator>(
+    frame: &Frame<'_, A>,
+    fault: CodecFault,
+    segment: &Segment,
+    x: usize,
+) -> FrameFault
+    requires frame { IsFrame frame.now }
+    requires row { segment.now.row < frame.now.checked.now.configuration.rows }
+    requires column { segment.now.column < frame.now.checked.now.configuration.columns }
+    requires y { segment.now.y < lines_down frame.now.checked.now.configuration
+        segment.now.plane segment.now.row }
+    requires x { x < width_in frame.now.checked.now.configuration segment.now.plane
+        segment.now.column }
+    ensures { result ≡ fault_in frame.now.checked.now.configuration fault segment.now.row
+        segment.now.column segment.now.plane segment.now.y
+        (left_of frame.now.checked.now.configuration segment.now.plane segment.now.column + x) }
+{
+    places::slices_lie_beside_one_another();
+    record_laws::accepted_configuration_is_in_range();
+    let cell = frame
+        .grid
+        .cell_across(segment.plane as u32, segment.column as u32);
+    frame.fault_in(fault, segment, cell.0 as usize + x)
+}
+
+/// Reads a segment into its place of a line. How far its slice was read, and whether it ends, is
+/// not looked at.
+fn read_on<W: LineWord, A: Allocator>(
+    frame: &Frame<'_, A>,
+    segment: &Segment,
+    columns: &mut [Column],
+    states: &mut [u8],
+    above: &Above<'_, W>,
+    cur: &mut [W],
+) -> Result<(), FrameFault>
+    requires frame { IsFrame frame.now }
+    requires bits { W.holds (bits_of frame.now.checked.now.configuration) }
+    requires row { segment.now.row < frame.now.checked.now.configuration.rows }
+    requires column { segment.now.column < frame.now.checked.now.configuration.columns }
+    requires plane { segment.now.plane < plane_count frame.now.checked.now.configuration }
+    requires few { segment.now.index < 4 }
+    requires y { segment.now.y < lines_down frame.now.checked.now.configuration
+        segment.now.plane segment.now.row }
+    requires many { length columns.old ≡ frame.now.checked.now.configuration.columns }
+    requires open { AreOpen frame.now.payload.now frame.now.checked.now.configuration.sets
+        columns.old }
+    requires two_long { HasPlane frame.now.checked.now.configuration segment.now.index
+        (length above.now.two.now) }
+    requires one_long { HasPlane frame.now.checked.now.configuration segment.now.index
+        (length above.now.one.now) }
+    requires cur_long { HasPlane frame.now.checked.now.configuration segment.now.index
+        (length cur.old) }
+    requires room { length states.old ≡ row_slots frame.now.checked.now.configuration }
+    requires held { AllHeld frame.now.checked.now.table states.old }
+    ensures exact { (coded : ℕ → List ℕ) (next : ℕ) (s : State) →
+        let a = frame.now.checked.now in
+        let offset = segment.now.index * a.configuration.width in
+        segment.now.plane < next →
+        TiedColumns a coded segment.now.row next frame.now.payload.now
+        (row_slices columns.old states.old) s →
+        TiedLine a.configuration segment.now.plane offset segment.now.column segment.now.y
+        (rolling_lines (W.samples above.now.two.now) (W.samples above.now.one.now)
+        (W.samples cur.old)) s →
+        MatchResult result
+        (λ _. SegmentMade a coded segment.now.row next frame.now.payload.now segment.now.plane
+        offset segment.now.y segment.now.column columns.new states.new
+        (W.samples above.now.two.now) (W.samples above.now.one.now) (W.samples cur.new) s)
+        (λ f. Stopped a coded columns.new
+        (Read segment.now.row segment.now.column segment.now.plane segment.now.y ∷ []) f s) }
+    ensures beside { KeepsBeside
+        (segment.now.index * frame.now.checked.now.configuration.width)
+        frame.now.checked.now.configuration.width (W.samples cur.old) (W.samples cur.new) }
+    ensures own { IfErr result IsOwn }
+    ensures open { AreOpen frame.now.payload.now frame.now.checked.now.configuration.sets
+        columns.new }
+    ensures held { AllHeld frame.now.checked.now.table states.new }
+{
+    record_laws::accepted_configuration_is_in_range();
+    record_laws::accepted_configuration_has_sound_parts();
+    line_laws::reading_its_rows_reads_the_cell();
+    range_laws::counters_from_zero_show_all_steps();
+    places::slices_lie_beside_one_another();
+    let (left, right) = extent(frame, segment);
+    let k = segment.column;
+    let at = k * frame.slots;
+    let above = Above {
+        two: &above.two[left..right],
+        one: &above.one[left..right],
+    };
+    match read_column(
+        frame,
+        segment.plane,
+        &mut columns[k],
+        &mut states[at..at + frame.slots],
+        &above,
+        &mut cur[left..right],
+    ) {
+        Ok(()) => Ok(()),
+        Err(refused) => Err(fault_at(frame, CodecFault::SymbolTooLong, segment, refused.x)),
+    }
+}
+
+/// Reads a segment into its place of a line, and looks at how far its slice was read, whether the
+/// slices to the left and above say the same of the samples that it has in common with them, and
+/// whether the slice ends if that was its last line.
+pub(crate) fn read_at<W: LineWord, A: Allocator>(
+    frame: &Frame<'_, A>,
+    segment: &Segment,
+    columns: &mut [Column],
+    states: &mut [u8],
+    above: &LinesAbove<'_, W>,
+    cur: &mut [W],
+) -> Result<(), FrameFault>
+    requires frame { IsFrame frame.now }
+    requires bits { W.holds (bits_of frame.now.checked.now.configuration) }
+    requires row { segment.now.row < frame.now.checked.now.configuration.rows }
+    requires column { segment.now.column < frame.now.checked.now.configuration.columns }
+    requires plane { segment.now.plane < plane_count frame.now.checked.now.configuration }
+    requires few { segment.now.index < 4 }
+    requires y { segment.now.y < lines_down frame.now.checked.now.configuration
+        segment.now.plane segment.now.row }
+    requires height { segment.now.height ≡ lines_down frame.now.checked.now.configuration
+        segment.now.plane segment.now.row }
+    requires many { length columns.old ≡ frame.now.checked.now.configuration.columns }
+    requires open { AreOpen frame.now.payload.now frame.now.checked.now.configuration.sets
+        columns.old }
+    requires two_long { HasPlane frame.now.checked.now.configuration segment.now.index
+        (length above.now.two.now) }
+    requires one_long { HasPlane frame.now.checked.now.configuration segment.now.index
+        (length above.now.one.now) }
+    requires cur_long { HasPlane frame.now.checked.now.configuration segment.now.index
+        (length cur.old) }
+    requires kept { IsKept frame.now.checked.now.configuration segment.now.row
+        segment.now.plane segment.now.y (length above.now.kept.now) }
+    requires room { length states.old ≡ row_slots frame.now.checked.now.configuration }
+    requires held { AllHeld frame.now.checked.now.table states.old }
+    ensures exact { (coded : ℕ → List ℕ) (next : ℕ) (s : State) →
+        let a = frame.now.checked.now in
+        let offset = segment.now.index * a.configuration.width in
+        segment.now.plane < next →
+        TiedColumns a coded segment.now.row next frame.now.payload.now
+        (row_slices columns.old states.old) s →
+        TiedLine a.configuration segment.now.plane offset segment.now.column segment.now.y
+        (rolling_lines (W.samples above.now.two.now) (W.samples above.now.one.now)
+        (W.samples cur.old)) s →
+        TiedKept a.configuration segment.now.row segment.now.plane segment.now.y
+        (W.samples above.now.kept.now) s →
+        MatchResult result
+        (λ _. StepMade a coded segment.now.row next frame.now.payload.now segment.now.plane offset
+        segment.now.y segment.now.column columns.new states.new (W.samples above.now.two.now)
+        (W.samples above.now.one.now) (W.samples cur.new) s)
+        (λ f. Stopped a coded columns.new
+        (Read segment.now.row segment.now.column segment.now.plane segment.now.y ∷ []) f s) }
+    ensures beside { KeepsBeside
+        (segment.now.index * frame.now.checked.now.configuration.width)
+        frame.now.checked.now.configuration.width (W.samples cur.old) (W.samples cur.new) }
+    ensures own { IfErr result IsOwn }
+    ensures open { AreOpen frame.now.payload.now frame.now.checked.now.configuration.sets
+        columns.new }
+    ensures held { AllHeld frame.now.checked.now.table states.new }
+{
+    range_laws::counters_from_zero_show_all_steps();
+    places::slices_lie_beside_one_another();
+    let said = said_left(frame, segment, cur);
+    let lines = Above {
+        two: above.two,
+        one: above.one,
+    };
+    read_on(frame, segment, columns, states, &lines, cur)?;
+    let column = &columns[segment.column];
+    if is_overread(frame, column) {
+        return Err(frame.fault_in(CodecFault::Overread, segment, 0));
+    }
+    match first_difference(frame, segment, said, above.kept, cur) {
+        Some(x) => return Err(fault_at(frame, CodecFault::Overlap, segment, x)),
+        None => (),
+    }
+    if lacks_ending(frame, segment, column) {
+        return Err(frame.fault_in(CodecFault::Ending, segment, 0));
+    }
+    Ok(())
+}

@@ -1,0 +1,5 @@
+use Rattle.std.proofs.Common.{◌≡◌, take}
+use Rattle.ffv1_encode.proofs.cell_rows.widen.Given as goal
+
+abbrev pub invariant-loop-x : goal.invariant-loop-x
+invariant-loop-x g l = take l.x (g.W.Word.samples l.row) ≡ take l.x l.samples

@@ -1,0 +1,3 @@
+pub mod CellRows
+pub mod HasPut
+pub mod Scratch

@@ -1,0 +1,232 @@
+//! The words in which lines are coded.
+
+ghost use Rattle.std.specs.Prelude.{◌≡◌, ℕ, ◌*◌, ◌≤◌, ◌<◌, IfErr, OnErr, OnOk, length, replicate};
+ghost use Rattle.std.specs.Prelude.{vec_capacity};
+ghost use Rattle.std.proofs.Common.{rules};
+ghost use Rattle.ffv1_range.specs.Symbols.{AllHeld};
+ghost use Rattle.ffv1_plane.specs.Quantisation.{contexts_of};
+ghost use Rattle.ffv1_line.specs.Decoded.{Lined, LinedToRefusal};
+ghost use Rattle.ffv1_line.specs.Encoded.{Written};
+ghost use Rattle.ffv1_line.specs.Coding.{coding_by};
+ghost use Rattle.ffv1_line.specs.Coder.{decoder_by, encoder_by};
+ghost use Rattle.ffv1_line.specs.Above.{rows_above};
+ghost use Rattle.ffv1_frame.specs.SliceList.{bits_of};
+
+use ffv1_line::{
+    Coding, TooLong, WideAbove, WideCoding, Word, decode_line, decode_wide, encode_line,
+    encode_wide,
+};
+use ffv1_plane::QuantSet;
+use ffv1_range::{Fault, RangeDecoder, RangeEncoder, StateTable};
+use ffv1_record::{Checked, Colour, laws as record_laws};
+use std::alloc::{AllocError, Allocator};
+
+/// The two lines above one that is read.
+#[derive(Clone, Copy)]
+pub struct Above<'a, W: Word> {
+    /// The upper one.
+    pub two: &'a [W],
+    /// The lower one.
+    pub one: &'a [W],
+}
+
+/// How a line is coded: by which table of states, by which quantisation table set, and how many
+/// bits a coded sample has.
+#[derive(Drop)]
+pub struct LineCoding<'a, B: Allocator> {
+    /// How states move.
+    pub table: &'a StateTable,
+    /// The quantisation table set of the plane.
+    pub set: &'a QuantSet<B>,
+    /// The bits of a coded sample.
+    pub bits: u8,
+}
+
+/// Words that lines of samples of some numbers of bits are coded in: 8 to 16 bits in words of 16
+/// bits, and 17 in words of 32.
+pub trait LineWord: Word {
+    // Lines of samples of so many bits are coded in words of this type.
+    ghost holds: { ℕ → Type 0 };
+
+    /// Decodes a row of a cell, as `ffv1_line::decode_line` does.
+    fn decode<B: Allocator>(
+        decoder: &mut RangeDecoder<'_>,
+        coding: &LineCoding<'_, B>,
+        states: &mut [u8],
+        above: &Above<'_, Self>,
+        cur: &mut [Self],
+    ) -> Result<(), TooLong>
+        requires bits { holds coding.now.bits }
+        requires some { 0 < length cur.old }
+        requires two_long { length above.now.two.now ≡ length cur.old }
+        requires one_long { length above.now.one.now ≡ length cur.old }
+        requires rows { length states.old ≡ contexts_of coding.now.set.now * 32 }
+        requires held { AllHeld coding.now.table.now states.old }
+        ensures ok { OnOk result (Lined (coding_by coding.now.table.now coding.now.set.now
+            coding.now.bits) (decoder_by decoder.old states.old) (decoder_by decoder.new states.new)
+            (rows_above (Self.samples above.now.two.now) (Self.samples above.now.one.now))
+            (Self.samples cur.new) (length (Self.samples cur.new))) }
+        ensures refused { IfErr result (λ e. LinedToRefusal (coding_by coding.now.table.now
+            coding.now.set.now coding.now.bits) (decoder_by decoder.old states.old)
+            (decoder_by decoder.new states.new) (rows_above (Self.samples above.now.two.now)
+            (Self.samples above.now.one.now)) (Self.samples cur.new) e.x) }
+        ensures inside { IfErr result (λ e. e.x < length (Self.samples cur.new)) }
+        ensures held { AllHeld coding.now.table.now states.new };
+
+    /// Codes a row of a cell, as `ffv1_line::encode_line` does.
+    fn encode<R: Allocator, B: Allocator>(
+        encoder: &mut RangeEncoder<R>,
+        coding: &LineCoding<'_, B>,
+        states: &mut [u8],
+        above: &Above<'_, Self>,
+        cur: &[Self],
+    ) -> Result<(), Fault>
+        requires bits { holds coding.now.bits }
+        requires some { 0 < length (Self.samples cur.now) }
+        requires two_long { length (Self.samples above.now.two.now)
+            ≡ length (Self.samples cur.now) }
+        requires one_long { length (Self.samples above.now.one.now)
+            ≡ length (Self.samples cur.now) }
+        requires rows { length states.old ≡ contexts_of coding.now.set.now * 32 }
+        requires held { AllHeld coding.now.table.now states.old }
+        ensures ok { OnOk result (Written (coding_by coding.now.table.now coding.now.set.now
+            coding.now.bits) (encoder_by encoder.old states.old) (encoder_by encoder.new states.new)
+            (rows_above (Self.samples above.now.two.now) (Self.samples above.now.one.now))
+            (Self.samples cur.now) (length (Self.samples cur.now))) }
+        ensures held { AllHeld coding.now.table.now states.new };
+
+    /// Sets each sample of some lines to 0.
+    fn clear(lines: &mut [Self])
+        ensures { Self.samples lines.new ≡ replicate (length lines.old) 0 };
+
+    /// So many zeros, in the memory that a row has if they find room in it. None of it is given
+    /// back.
+    fn renew<A: Allocator>(row: &mut Vec<Self, A>, width: usize) -> Result<(), AllocError>
+        ensures zeros { OnOk result (Self.samples row.new.items ≡ replicate width 0) }
+        ensures room { vec_capacity row.old ≤ vec_capacity row.new }
+        ensures full { OnErr result (vec_capacity row.old < width) };
+
+    ghost room: { 65536 ≤ Self.limit };
+}
+
+impl LineWord for u16 {
+    ghost holds = { λ bits. (8 ≤ bits) × (bits ≤ 16) };
+
+    #[inline(always)]
+    fn decode<B: Allocator>(
+        decoder: &mut RangeDecoder<'_>,
+        coding: &LineCoding<'_, B>,
+        states: &mut [u8],
+        above: &Above<'_, u16>,
+        cur: &mut [u16],
+    ) -> Result<(), TooLong> {
+        let LineCoding { table, set, bits } = coding;
+        let coding = Coding {
+            table,
+            set,
+            bits: *bits,
+        };
+        let above = ffv1_line::Above {
+            two: above.two,
+            one: above.one,
+        };
+        decode_line(decoder, &coding, states, &above, cur)
+    }
+
+    #[inline(always)]
+    fn encode<R: Allocator, B: Allocator>(
+        encoder: &mut RangeEncoder<R>,
+        coding: &LineCoding<'_, B>,
+        states: &mut [u8],
+        above: &Above<'_, u16>,
+        cur: &[u16],
+    ) -> Result<(), Fault> {
+        let LineCoding { table, set, bits } = coding;
+        let coding = Coding {
+            table,
+            set,
+            bits: *bits,
+        };
+        let above = ffv1_line::Above {
+            two: above.two,
+            one: above.one,
+        };
+        encode_line(encoder, &coding, states, &above, cur)
+    }
+
+    fn clear(lines: &mut [u16]) {
+        lines.fill(0);
+    }
+
+    fn renew<A: Allocator>(row: &mut Vec<u16, A>, width: usize) -> Result<(), AllocError> {
+        row.resize(width, 0)?;
+        row.fill(0);
+        Ok(())
+    }
+
+    ghost room = { Prim.search rules };
+}
+
+impl LineWord for u32 {
+    ghost holds = { λ bits. bits ≡ 17 };
+
+    #[inline(always)]
+    fn decode<B: Allocator>(
+        decoder: &mut RangeDecoder<'_>,
+        coding: &LineCoding<'_, B>,
+        states: &mut [u8],
+        above: &Above<'_, u32>,
+        cur: &mut [u32],
+    ) -> Result<(), TooLong> {
+        let LineCoding { table, set, .. } = coding;
+        let coding = WideCoding { table, set };
+        let above = WideAbove {
+            two: above.two,
+            one: above.one,
+        };
+        decode_wide(decoder, &coding, states, &above, cur)
+    }
+
+    #[inline(always)]
+    fn encode<R: Allocator, B: Allocator>(
+        encoder: &mut RangeEncoder<R>,
+        coding: &LineCoding<'_, B>,
+        states: &mut [u8],
+        above: &Above<'_, u32>,
+        cur: &[u32],
+    ) -> Result<(), Fault> {
+        let LineCoding { table, set, .. } = coding;
+        let coding = WideCoding { table, set };
+        let above = WideAbove {
+            two: above.two,
+            one: above.one,
+        };
+        encode_wide(encoder, &coding, states, &above, cur)
+    }
+
+    fn clear(lines: &mut [u32]) {
+        lines.fill(0);
+    }
+
+    fn renew<A: Allocator>(row: &mut Vec<u32, A>, width: usize) -> Result<(), AllocError> {
+        row.resize(width, 0)?;
+        row.fill(0);
+        Ok(())
+    }
+
+    ghost room = { Prim.search rules };
+}
+
+/// The bits of a coded sample.
+pub fn bits_of<A: Allocator>(checked: &Checked<A>) -> u8
+    ensures value { result ≡ bits_of checked.now.configuration }
+    ensures least { 8 ≤ result }
+    ensures most { result ≤ 17 }
+{
+    record_laws::accepted_configuration_is_in_range();
+    let depth = checked.depth() as u8;
+    match checked.config().colour {
+        Colour::YCbCr => depth,
+        Colour::Rct => depth + 1,
+    }
+}
