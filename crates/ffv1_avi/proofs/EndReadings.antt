@@ -108,14 +108,14 @@ answers_by FirstMovi view reading p (Ok y) (same, inr ((halts, ended), none)) = 
 answers_by FirstMovi view reading p (Err fault.Read) (counted, inl wants) = (counted, wants)
 answers_by FirstMovi view reading p (Err fault.Read) (counted, inr halts) = absurd halts
 answers_by EveryRiff view reading p (Ok y) (same, inl read) = (same, inl read)
-answers_by EveryRiff view reading p (Ok y) (same, inr ((halts, ended), none)) = (same, inr (rw none halts, ended))
+answers_by EveryRiff view reading p (Ok y) (same, inr over) = (same, inr over)
 answers_by EveryRiff view reading p (Err fault.Read) (counted, inl wants) = (counted, inl wants)
-answers_by EveryRiff view reading p (Err fault.Read) (counted, inr halts) = (counted, inr (None, halts))
+answers_by EveryRiff view reading p (Err fault.Read) (counted, inr halts) = (counted, inr halts)
 answers_by FirstMovi view reading p (Err f) why = why
 answers_by EveryRiff view reading p (Err f) why = why
 
 -- a refusal says nothing of a value
-pub refused_by : {X Y Z : Type 0} (extent : Extent) (view : Y → X) (other : Z → X) (reading : Reading X) (p : Passage) (f : FileFault) → AnswersBy extent view reading p (Err f) → AnswersBy extent other reading p (Err f)
+pub refused_by : {X Y Z : Type 0} (extent : Extent) (view : Y → Option X) (other : Z → Option X) (reading : Reading (Option X)) (p : Passage) (f : FileFault) → AnswersBy extent view reading p (Err f) → AnswersBy extent other reading p (Err f)
 refused_by FirstMovi view other reading p f why = why
 refused_by EveryRiff view other reading p f why = why
 

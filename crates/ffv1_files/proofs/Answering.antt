@@ -2,12 +2,12 @@
 use Rattle.std.proofs.Common.{◌≡◌, ◌⊎◌, refl, ℕ, Bool, true, false, Option, Some, None, Result, Ok, Err, List, [], ◌++◌, inl, inr, ap, sym, ◌∙◌, append-nil}
 use Rattle.std.specs.Io.KnownBytes.{IsAtEnd}
 use Rattle.ffv1_wire.specs.Passage.{Passage}
-use Rattle.ffv1_reads.specs.Ends.{Ends, FaultsAtEnd, ReadOrEnds, RefusedOrEnds, ReadOrOver, RefusedOrFaults, Stops}
+use Rattle.ffv1_reads.specs.Ends.{Ends, FaultsAtEnd, Halts, ReadOrNone, ReadOrOver, RefusedOrFaults, RefusedOrNone, Stops}
 use Rattle.ffv1_reads.specs.Known.{Known}
 use Rattle.ffv1_reads.specs.Reads.{Faults, Kept, Lacks, Met, Read, Reading, Refused, Short, Stop, Want, Wants, read_on, given, ◌>>=◌}
 use Rattle.ffv1_reads.specs.declared.fault.FileFault.{FileFault}
 use Rattle.ffv1_reads.specs.declared.fault.FileFault.TheVariants as fault
-use Rattle.ffv1_files.specs.Answers.{FaultsRead, ReadFails, ReadsAs, SoFar, StopsReading, WantsMore}
+use Rattle.ffv1_files.specs.Answers.{Endings, FaultsRead, ReadFails, ReadsAs, SoFar, StopsReading, WantsMore, nothing_more}
 
 pub known_map : (old new : Option (List ℕ)) (P Q : List ℕ → List ℕ → Type 0) → ((text rest : List ℕ) → P text rest → Q text rest) → Known old new P → Known old new Q
 known_map None new P Q f h = tt
@@ -25,10 +25,6 @@ module _ {X : Type 0} (reading : Reading X) where
   end_known (Some text) None x h = absurd h.0.consumed
   end_known (Some text) (Some rest) x (stop, at) = ap reading (stop.consumed ∙ ap (λ z. stop.bytes ++ z) at ∙ append-nil stop.bytes) ∙ stop.is ∙ ap (λ z. Ok (x, z)) (sym at)
 
-  pub value_known : (old new : Option (List ℕ)) (x : X) → ReadOrEnds reading old new x → Known old new (λ text rest. reading text ≡ Ok (x, rest))
-  value_known old new x (inl read) = read_known old new x read
-  value_known old new x (inr ends) = end_known old new x ends
-
   pub over_known : (over : X → Type 0) (old new : Option (List ℕ)) (x : X) → ReadOrOver over reading old new x → Known old new (λ text rest. reading text ≡ Ok (x, rest))
   over_known over old new x (inl read) = read_known old new x read
   over_known over old new x (inr (ends, is)) = end_known old new x ends
@@ -41,21 +37,21 @@ module _ {X : Type 0} (reading : Reading X) where
   lacks_known (Some text) None w h = absurd h.consumed
   lacks_known (Some text) (Some rest) w h = (h.bytes, h.consumed, h.is)
 
-  wants_known : (ends : Bool) (old new : Option (List ℕ)) → Wants reading old new → Known old new (ReadFails ends reading)
-  wants_known ends None new h = tt
-  wants_known ends (Some text) None h = absurd h.1.consumed
-  wants_known false (Some text) (Some rest) (w, h) = (w, (h.bytes, h.consumed, h.is))
-  wants_known true (Some text) (Some rest) (w, h) = inl (w, (h.bytes, h.consumed, h.is))
+  module _ (ends : Endings X) where
+    wants_known : (old new : Option (List ℕ)) → Wants reading old new → Known old new (ReadFails ends reading)
+    wants_known None new h = tt
+    wants_known (Some text) None h = absurd h.1.consumed
+    wants_known (Some text) (Some rest) (w, h) = inl (w, (h.bytes, h.consumed, h.is))
 
-  stops_known : (old new : Option (List ℕ)) (x : X) → Stops reading old new x → Known old new (ReadFails true reading)
-  stops_known None new x h = tt
-  stops_known (Some text) None x h = absurd h.consumed
-  stops_known (Some text) (Some rest) x h = inr (inl (x, (h.bytes, h.consumed, h.is)))
+    stops_known : (old new : Option (List ℕ)) (x : X) → ends.values x → Stops reading old new x → Known old new (ReadFails ends reading)
+    stops_known None new x over h = tt
+    stops_known (Some text) None x over h = absurd h.consumed
+    stops_known (Some text) (Some rest) x over h = inr (inl (x, over, (h.bytes, h.consumed, h.is)))
 
-  end_fails : (old new : Option (List ℕ)) (f : FileFault) → FaultsAtEnd reading old new f → Known old new (ReadFails true reading)
-  end_fails None new f h = tt
-  end_fails (Some text) None f h = absurd h.consumed
-  end_fails (Some text) (Some rest) f h = inr (inr (f, (h.bytes, h.consumed, h.is)))
+    end_fails : (old new : Option (List ℕ)) (f : FileFault) → ends.faults f → FaultsAtEnd reading old new f → Known old new (ReadFails ends reading)
+    end_fails None new f over h = tt
+    end_fails (Some text) None f over h = absurd h.consumed
+    end_fails (Some text) (Some rest) f over h = inr (inr (f, over, (h.bytes, h.consumed, h.is)))
 
   faults_known : (old new : Option (List ℕ)) (f : FileFault) → Faults reading old new f → Known old new (λ text rest. FaultsRead reading text rest f)
   faults_known None new f h = tt
@@ -74,7 +70,7 @@ module _ {X : Type 0} (reading : Reading X) where
   early_known (Some text) (Some rest) (w, h) at = inl (w, ap reading (h.consumed ∙ ap (λ z. h.bytes ++ z) at ∙ append-nil h.bytes) ∙ h.is, at, refl)
 
   module _ (p : Passage) where
-    pub refused_stops : (ends : Bool) (f : FileFault) → Refused reading p.old p.new p.before p.after f → StopsReading ends reading p f
+    pub refused_stops : (ends : Endings X) (f : FileFault) → Refused reading p.old p.new p.before p.after f → StopsReading ends reading p f
     refused_stops ends fault.OutOfMemory h = (h.0, lacks_known p.old p.new Kept h.1)
     refused_stops ends fault.Truncated (same, inl early) = (same, early_known p.old p.new early.0 early.1)
     refused_stops ends fault.Truncated (same, inr faults) = (same, faults_known p.old p.new fault.Truncated faults)
@@ -84,24 +80,34 @@ module _ {X : Type 0} (reading : Reading X) where
     refused_stops ends fault.Rate h = absurd h
     refused_stops ends f h = (h.0, faults_known p.old p.new f h.1)
 
-    pub ends_stops : (f : FileFault) → RefusedOrEnds reading p.old p.new p.before p.after f → StopsReading true reading p f
-    ends_stops fault.TooLarge h = absurd h
-    ends_stops fault.Read (same, inl wants) = (same, wants_known true p.old p.new wants)
-    ends_stops fault.Read (same, inr stops) = (same, stops_known p.old p.new stops.0 stops.1)
-    ends_stops fault.Write h = absurd h
-    ends_stops fault.Rate h = absurd h
-    ends_stops f h = refused_stops true f h
-
     -- such a refusal, or the fault of the end
-    either : (f : FileFault) → Refused reading p.old p.new p.before p.after f ⊎ ((p.after ≡ p.before) × (f ≡ fault.NoTracks) × (FaultsAtEnd reading p.old p.new fault.NoTracks × IsAtEnd p.new)) → StopsReading true reading p f
-    either f (inl h) = refused_stops true f h
-    either f (inr (same, is, (faults, at))) = rw is (same, end_faults p.old p.new fault.NoTracks faults at)
+    module _ (over : X → Type 0) where
+      abbrev tracks : Endings X
+      tracks = record { values = over; faults = λ f. f ≡ fault.NoTracks }
 
-    pub faults_stops : (over : X → Type 0) (f : FileFault) → RefusedOrFaults fault.NoTracks over reading p.old p.new p.before p.after f → StopsReading true reading p f
-    faults_stops over fault.Read (same, inl wants) = (same, wants_known true p.old p.new wants)
-    faults_stops over fault.Read (same, inr (inl stops)) = (same, stops_known p.old p.new stops.0 stops.1.0)
-    faults_stops over fault.Read (same, inr (inr h)) = (same, end_fails p.old p.new fault.NoTracks h)
-    faults_stops over f h = either f h
+      either : (f : FileFault) → Refused reading p.old p.new p.before p.after f ⊎ ((p.after ≡ p.before) × (f ≡ fault.NoTracks) × (FaultsAtEnd reading p.old p.new fault.NoTracks × IsAtEnd p.new)) → StopsReading tracks reading p f
+      either f (inl h) = refused_stops tracks f h
+      either f (inr (same, is, (faults, at))) = rw is (same, end_faults p.old p.new fault.NoTracks faults at)
+
+      pub faults_stops : (f : FileFault) → RefusedOrFaults fault.NoTracks over reading p.old p.new p.before p.after f → StopsReading tracks reading p f
+      faults_stops fault.Read (same, inl wants) = (same, wants_known tracks p.old p.new wants)
+      faults_stops fault.Read (same, inr (inl stops)) = (same, stops_known tracks p.old p.new stops.0 stops.1.1 stops.1.0)
+      faults_stops fault.Read (same, inr (inr h)) = (same, end_fails tracks p.old p.new fault.NoTracks refl h)
+      faults_stops f h = either f h
+
+-- where the end of the input may be the answer that there is nothing more
+module _ {X : Type 0} (reading : Reading (Option X)) (p : Passage) where
+  pub none_known : (x : Option X) → ReadOrNone reading p.old p.new x → Known p.old p.new (λ text rest. reading text ≡ Ok (x, rest))
+  none_known x (inl read) = just_read reading p.old p.new x read
+  none_known x (inr (over, none)) = rw none (over_known reading (λ o. Unit {0}) p.old p.new None (inr (over, tt)))
+
+  pub none_stops : (f : FileFault) → RefusedOrNone reading p.old p.new p.before p.after f → StopsReading nothing_more reading p f
+  none_stops fault.TooLarge h = absurd h
+  none_stops fault.Read (same, inl wants) = (same, wants_known reading nothing_more p.old p.new wants)
+  none_stops fault.Read (same, inr halts) = (same, stops_known reading nothing_more p.old p.new None refl halts)
+  none_stops fault.Write h = absurd h
+  none_stops fault.Rate h = absurd h
+  none_stops f h = refused_stops reading p nothing_more f h
 
 -- what is made of what was read
 module _ {X Y : Type 0} (reading : Reading X) (make : X → Y) where
@@ -111,12 +117,6 @@ module _ {X Y : Type 0} (reading : Reading X) (make : X → Y) where
   made_so_far : (r : Result (X × List ℕ) Stop) (text rest : List ℕ) → SoFar reading r text rest → SoFar made (read_on r (λ x. given (make x))) text rest
   made_so_far r text rest (bytes, is, reads) = (bytes, is, ap (λ z. read_on z (λ x. given (make x))) reads)
 
-  made_fails : (ends : Bool) (text rest : List ℕ) → ReadFails ends reading text rest → ReadFails ends made text rest
-  made_fails false text rest (w, h) = (w, made_so_far (Err (Short w)) text rest h)
-  made_fails true text rest (inl (w, h)) = inl (w, made_so_far (Err (Short w)) text rest h)
-  made_fails true text rest (inr (inl (x, h))) = inr (inl (make x, made_so_far (Ok (x, [])) text rest h))
-  made_fails true text rest (inr (inr (f, h))) = inr (inr (f, made_so_far (Err (Met f [])) text rest h))
-
   made_faults : (f : FileFault) (text rest : List ℕ) → FaultsRead reading text rest f → FaultsRead made text rest f
   made_faults f text rest (inl (w, h, over, is)) = inl (w, ap (λ z. read_on z (λ x. given (make x))) h, over, is)
   made_faults f text rest (inr h) = inr (ap (λ z. read_on z (λ x. given (make x))) h)
@@ -125,10 +125,17 @@ module _ {X Y : Type 0} (reading : Reading X) (make : X → Y) where
     pub made_reads : (x : X) → ReadsAs reading p x → ReadsAs made p (make x)
     made_reads x h = (h.0, known_map p.old p.new _ _ (λ text rest is. ap (λ z. read_on z (λ x. given (make x))) is) h.1)
 
-    pub made_stops : (ends : Bool) (f : FileFault) → StopsReading ends reading p f → StopsReading ends made p f
-    made_stops ends fault.OutOfMemory h = (h.0, known_map p.old p.new _ _ (made_so_far (Err (Short Kept))) h.1)
-    made_stops ends fault.TooLarge h = absurd h
-    made_stops ends fault.Read h = (h.0, known_map p.old p.new _ _ (made_fails ends) h.1)
-    made_stops ends fault.Write h = absurd h
-    made_stops ends fault.Rate h = absurd h
-    made_stops ends f h = (h.0, known_map p.old p.new _ _ (made_faults f) h.1)
+    -- what the end may be is made of what it may be there
+    module _ (ends : Endings X) (after : Endings Y) (values : (x : X) → ends.values x → after.values (make x)) (faults : (f : FileFault) → ends.faults f → after.faults f) where
+      made_fails : (text rest : List ℕ) → ReadFails ends reading text rest → ReadFails after made text rest
+      made_fails text rest (inl (w, h)) = inl (w, made_so_far (Err (Short w)) text rest h)
+      made_fails text rest (inr (inl (x, over, h))) = inr (inl (make x, values x over, made_so_far (Ok (x, [])) text rest h))
+      made_fails text rest (inr (inr (f, over, h))) = inr (inr (f, faults f over, made_so_far (Err (Met f [])) text rest h))
+
+      pub made_stops : (f : FileFault) → StopsReading ends reading p f → StopsReading after made p f
+      made_stops fault.OutOfMemory h = (h.0, known_map p.old p.new _ _ (made_so_far (Err (Short Kept))) h.1)
+      made_stops fault.TooLarge h = absurd h
+      made_stops fault.Read h = (h.0, known_map p.old p.new _ _ made_fails h.1)
+      made_stops fault.Write h = absurd h
+      made_stops fault.Rate h = absurd h
+      made_stops f h = (h.0, known_map p.old p.new _ _ (made_faults f) h.1)

@@ -10,7 +10,7 @@ use Rattle.ffv1_reads.specs.Known.{Known}
 use Rattle.ffv1_reads.specs.Reads.{Kept, Met, Reading, Short, Stop, Want}
 use Rattle.ffv1_reads.specs.declared.fault.FileFault.{FileFault}
 use Rattle.ffv1_reads.specs.declared.fault.FileFault.TheVariants as fault
-use Rattle.ffv1_files.specs.Answers.{FaultsRead, ReadFails, ReadsAs, SoFar, StopsReading}
+use Rattle.ffv1_files.specs.Answers.{Endings, FaultsRead, ReadFails, ReadsAs, SoFar, StopsReading}
 use Rattle.ffv1_files.proofs.Answering.{known_map}
 
 -- bytes that begin with this one, or are none
@@ -46,11 +46,10 @@ module _ {X : Type 0} (first : Option ℕ) (reading whole : Reading X) (same : (
     | inr some ↦ (bytes, is, same bytes some ∙ reads)
   ]
 
-  fails : (ends : Bool) (text rest : List ℕ) → Begun first text × ReadFails ends reading text rest → ReadFails ends whole text rest
-  fails false text rest (begun, (w, h)) = (w, so_far (Err (Short w)) text rest (begun, h))
-  fails true text rest (begun, inl (w, h)) = inl (w, so_far (Err (Short w)) text rest (begun, h))
-  fails true text rest (begun, inr (inl (x, h))) = inr (inl (x, so_far (Ok (x, [])) text rest (begun, h)))
-  fails true text rest (begun, inr (inr (f, h))) = inr (inr (f, so_far (Err (Met f [])) text rest (begun, h)))
+  fails : (ends : Endings X) (text rest : List ℕ) → Begun first text × ReadFails ends reading text rest → ReadFails ends whole text rest
+  fails ends text rest (begun, inl (w, h)) = inl (w, so_far (Err (Short w)) text rest (begun, h))
+  fails ends text rest (begun, inr (inl (x, over, h))) = inr (inl (x, over, so_far (Ok (x, [])) text rest (begun, h)))
+  fails ends text rest (begun, inr (inr (f, over, h))) = inr (inr (f, over, so_far (Err (Met f [])) text rest (begun, h)))
 
   faults : (f : FileFault) (text rest : List ℕ) → Begun first text × FaultsRead reading text rest f → FaultsRead whole text rest f
   faults f text rest (begun, inl (w, h, over, is)) = inl (w, same text begun ∙ h, over, is)
@@ -63,7 +62,7 @@ module _ {X : Type 0} (first : Option ℕ) (reading whole : Reading X) (same : (
     pub first_reads : (x : X) → ReadsAs reading (between (bytes_with first mid) new before after) x → ReadsAs whole (between old new before after) x
     first_reads x h = (h.0, on _ _ (λ text rest z. same text z.0 ∙ z.1) h.1)
 
-    pub first_stops : (ends : Bool) (f : FileFault) → StopsReading ends reading (between (bytes_with first mid) new before after) f → StopsReading ends whole (between old new before after) f
+    pub first_stops : (ends : Endings X) (f : FileFault) → StopsReading ends reading (between (bytes_with first mid) new before after) f → StopsReading ends whole (between old new before after) f
     first_stops ends fault.OutOfMemory h = (h.0, on _ _ (so_far (Err (Short Kept))) h.1)
     first_stops ends fault.TooLarge h = absurd h
     first_stops ends fault.Read h = (h.0, on _ _ (fails ends) h.1)
@@ -83,7 +82,7 @@ same_first None b same e f = cc
 same_first (Some a) b same e f = ap Some (eqb-true a b (sym e ∙ f))
 
 -- a read that failed at once, of which nothing was taken
-pub nothing_read : {X : Type 0} (whole : Reading X) (w : Want) (old new : Option (List ℕ)) → whole [] ≡ Err (Short w) → Keeps old new → Known old new (ReadFails true whole)
-nothing_read whole w None new none kept = tt
-nothing_read whole w (Some text) None none kept = absurd kept
-nothing_read whole w (Some text) (Some rest) none kept = inl (w, ([], sym kept, none))
+pub nothing_read : {X : Type 0} (ends : Endings X) (whole : Reading X) (w : Want) (old new : Option (List ℕ)) → whole [] ≡ Err (Short w) → Keeps old new → Known old new (ReadFails ends whole)
+nothing_read ends whole w None new none kept = tt
+nothing_read ends whole w (Some text) None none kept = absurd kept
+nothing_read ends whole w (Some text) (Some rest) none kept = inl (w, ([], sym kept, none))

@@ -16,7 +16,8 @@ use Rattle.ffv1_matroska.specs.Opened as beginning
 use Rattle.ffv1_matroska.specs.Opening.{ident_read}
 use Rattle.ffv1_matroska.specs.Readers.{HasEnded}
 use Rattle.ffv1_files.specs.declared.container.Scope.TheVariants as scope
-use Rattle.ffv1_files.specs.Answers.{ReadsAs, StopsReading}
+use Rattle.ffv1_files.specs.Answers.{ReadsAs, StopsReading, no_ending}
+use Rattle.ffv1_files.specs.Endings.{opening_endings}
 use Rattle.ffv1_files.specs.Files.{avi_opened, matroska_opened, open_read}
 use Rattle.ffv1_files.specs.Places.{InAvi, InMatroska, Place}
 use Rattle.ffv1_files.proofs.Answering.{faults_stops, just_read, made_reads, made_stops, over_known, refused_stops}
@@ -33,9 +34,9 @@ pub movi_opens : (p : Passage) (x : Head × AviPlace) → (p.after ≡ p.before)
 unfolding open_read
 movi_opens p x h = made_reads (avi.open_read FirstMovi) in_avi p x (h.0, just_read (avi.open_read FirstMovi) p.old p.new x h.1)
 
-pub movi_stops : (p : Passage) (f : FileFault) → Refused (avi.open_read FirstMovi) p.old p.new p.before p.after f → StopsReading false (open_read scope.FirstMovi) p f
+pub movi_stops : (p : Passage) (f : FileFault) → Refused (avi.open_read FirstMovi) p.old p.new p.before p.after f → StopsReading no_ending (open_read scope.FirstMovi) p f
 unfolding open_read
-movi_stops p f h = made_stops (avi.open_read FirstMovi) in_avi p false f (refused_stops (avi.open_read FirstMovi) p false f h)
+movi_stops p f h = made_stops (avi.open_read FirstMovi) in_avi p no_ending no_ending (λ x over. over) (λ e over. over) f (refused_stops (avi.open_read FirstMovi) p no_ending f h)
 
 -- what begins otherwise than Matroska is read as AVI
 avi_same : (first : Option ℕ) → first ≢ Some 26 → (text : List ℕ) → Begun first text → open_read scope.Whole text ≡ avi_opened EveryRiff text
@@ -71,10 +72,10 @@ module _ (first : Option ℕ) (old mid new : Option (List ℕ)) (before after : 
       first_reads first (avi_opened EveryRiff) (open_read scope.Whole) (avi_same first other) none_avi old mid new before after gives (in_avi x)
       (made_reads (avi.open_read EveryRiff) in_avi handed x (h.0, just_read (avi.open_read EveryRiff) handed.old handed.new x h.1))
 
-  pub avi_stops : first ≢ Some 26 → (f : FileFault) → Refused (avi.open_read EveryRiff) handed.old handed.new before after f → StopsReading true (open_read scope.Whole) (between old new before after) f
+  pub avi_stops : first ≢ Some 26 → (f : FileFault) → Refused (avi.open_read EveryRiff) handed.old handed.new before after f → StopsReading (opening_endings scope.Whole) (open_read scope.Whole) (between old new before after) f
   avi_stops other f h =
-      first_stops first (avi_opened EveryRiff) (open_read scope.Whole) (avi_same first other) none_avi old mid new before after gives true f
-      (made_stops (avi.open_read EveryRiff) in_avi handed true f (refused_stops (avi.open_read EveryRiff) handed true f h))
+      first_stops first (avi_opened EveryRiff) (open_read scope.Whole) (avi_same first other) none_avi old mid new before after gives (opening_endings scope.Whole) f
+      (made_stops (avi.open_read EveryRiff) in_avi handed no_ending (opening_endings scope.Whole) (λ x over. absurd over) (λ e over. absurd over) f (refused_stops (avi.open_read EveryRiff) handed no_ending f h))
 
 module _ (old mid new : Option (List ℕ)) (before after : ℕ) (gives : GivesByte old mid (Some 26)) where
   abbrev begun : Passage
@@ -85,7 +86,7 @@ module _ (old mid new : Option (List ℕ)) (before after : ℕ) (gives : GivesBy
       first_reads (Some 26) matroska_opened (open_read scope.Whole) matroska_same none_matroska old mid new before after gives (in_matroska x)
       (made_reads beginning.open_read in_matroska begun x (h.0, over_known beginning.open_read HasEnded begun.old begun.new x h.1))
 
-  pub matroska_stops : (f : FileFault) → RefusedOrFaults fault.NoTracks HasEnded beginning.open_read begun.old begun.new before after f → StopsReading true (open_read scope.Whole) (between old new before after) f
+  pub matroska_stops : (f : FileFault) → RefusedOrFaults fault.NoTracks HasEnded beginning.open_read begun.old begun.new before after f → StopsReading (opening_endings scope.Whole) (open_read scope.Whole) (between old new before after) f
   matroska_stops f h =
-      first_stops (Some 26) matroska_opened (open_read scope.Whole) matroska_same none_matroska old mid new before after gives true f
-      (made_stops beginning.open_read in_matroska begun true f (faults_stops beginning.open_read begun HasEnded f h))
+      first_stops (Some 26) matroska_opened (open_read scope.Whole) matroska_same none_matroska old mid new before after gives (opening_endings scope.Whole) f
+      (made_stops beginning.open_read in_matroska begun (record { values = HasEnded; faults = λ e. e ≡ fault.NoTracks }) (opening_endings scope.Whole) (λ x over. over) (λ e over. over) f (faults_stops beginning.open_read begun HasEnded f h))

@@ -1,5 +1,5 @@
 -- Where a reader stands in a file, of either container.
-use Rattle.std.specs.Prelude.{ℕ, Bool, true, false, Option}
+use Rattle.std.specs.Prelude.{ℕ, Option}
 use Rattle.ffv1_avi.specs.declared.place.Extent.{Extent}
 use Rattle.ffv1_avi.specs.declared.place.Extent.TheVariants.{FirstMovi, EveryRiff}
 use Rattle.ffv1_avi.specs.declared.place.Place.{Place as AviPlace}
@@ -28,20 +28,6 @@ amount (InMatroska segment track place) = matroska.amount place
 abbrev pub container_of : Place → Container
 container_of (InAvi place) = container.Avi
 container_of (InMatroska segment track place) = container.Matroska segment
-
--- the end of the input may be an answer: of an AVI of which every RIFF is read, and of a Segment
-abbrev pub ends_by : Extent → Bool
-ends_by FirstMovi = false
-ends_by EveryRiff = true
-
-abbrev pub may_end : Place → Bool
-may_end (InAvi place) = ends_by (avi.extent_of place)
-may_end (InMatroska segment track place) = true
-
--- and while a file is opened
-abbrev pub opening_may_end : Scope → Bool
-opening_may_end scope.FirstMovi = false
-opening_may_end scope.Whole = true
 
 -- how far an AVI is read
 abbrev pub extent_in : Scope → Extent

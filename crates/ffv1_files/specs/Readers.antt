@@ -34,6 +34,11 @@ StandsAfter old (Ok more) new = (old.fault ≡ None) × (new.fault ≡ None) × 
 StandsAfter old (Err f) new =
     (new.fault ≡ Some f) × (new.head ≡ old.head) × (new.place ≡ old.place)
 
+-- what is left if no frame was read to its end: a beginning of the one that was found, or nothing
+abbrev pub Leaves : Place → Option (List ℕ) → List ℕ → Type 0
+Leaves (InAvi place) old bytes = avi.Leaves place old bytes
+Leaves (InMatroska segment track place) old bytes = matroska.Leaves track place old bytes
+
 -- the faults that opening has, whatever the file
 abbrev pub is_opening_fault : Scope → FileFault → Bool
 is_opening_fault scope.FirstMovi f = avi.is_opening_fault f

@@ -14,10 +14,10 @@ ghost use Rattle.ffv1_files.specs.declared.container.Scope.TheVariants.{FirstMov
 ghost use Rattle.ffv1_files.specs.Answers.{FileAnswers};
 ghost use Rattle.ffv1_files.specs.Files.{frame_read, open_read};
 ghost use Rattle.ffv1_files.specs.Offsets.{LocatedNext, Reached, StopsAt};
-ghost use Rattle.ffv1_files.specs.Places.{amount, container_of, may_end, most_bytes, most_in};
-ghost use Rattle.ffv1_files.specs.Places.{opening_may_end};
+ghost use Rattle.ffv1_files.specs.Endings.{endings_from, opening_endings};
+ghost use Rattle.ffv1_files.specs.Places.{amount, container_of, most_bytes, most_in};
 ghost use Rattle.ffv1_files.specs.Readers.{StandsAfter, is_frame_fault, is_opening_fault, next_of};
-ghost use Rattle.ffv1_files.specs.Readers.{opened_at};
+ghost use Rattle.ffv1_files.specs.Readers.{Leaves, opened_at};
 
 use crate::container::{Container, Scope};
 use ffv1_avi::{AviReader, Extent};
@@ -63,7 +63,7 @@ impl<A: Allocator + Copy> FileReader<A> {
         scope: Scope,
         input: &mut R,
     ) -> Result<FileReader<A>, FileFault>
-        ensures answer { FileAnswers (opening_may_end scope) opened_at (open_read scope)
+        ensures answer { FileAnswers (opening_endings scope) opened_at (open_read scope)
             (passage R.remaining R.failures input.old input.new) result }
         ensures sound { IfOk result (λ r. r.fault ≡ None) }
         ensures avi { scope ≡ FirstMovi →
@@ -87,7 +87,7 @@ impl<A: Allocator + Copy> FileReader<A> {
         input: &mut R,
         offset: &mut u64,
     ) -> Result<FileReader<A>, FileFault>
-        ensures answer { FileAnswers (opening_may_end scope) opened_at (open_read scope)
+        ensures answer { FileAnswers (opening_endings scope) opened_at (open_read scope)
             (passage R.remaining R.failures input.old input.new) result }
         ensures sound { IfOk result (λ r. r.fault ≡ None) }
         ensures avi { scope ≡ FirstMovi →
@@ -130,7 +130,7 @@ fn open_whole<R: ByteIn, A: Allocator + Copy>(
     input: &mut R,
     offset: &mut u64,
 ) -> Result<FileReader<A>, FileFault>
-    ensures answer { FileAnswers true opened_at (open_read Whole)
+    ensures answer { FileAnswers (opening_endings Whole) opened_at (open_read Whole)
         (passage R.remaining R.failures input.old input.new) result }
     ensures sound { IfOk result (λ r. r.fault ≡ None) }
     ensures most { IfOk result (λ r. most_bytes r.place ≡ most_in Whole) }
@@ -204,7 +204,7 @@ impl<A: Allocator> FileReader<A> {
         input: &mut R,
         frame: &mut Vec<u8, A>,
     ) -> Result<bool, FileFault>
-        ensures answer { self.old.fault ≡ None → FileAnswers (may_end self.old.place)
+        ensures answer { self.old.fault ≡ None → FileAnswers (endings_from self.old.place)
             (λ (more : Bool). next_of more frame.new.items self.new.place)
             (frame_read self.old.place)
             (passage R.remaining R.failures input.old input.new) result }
@@ -218,6 +218,8 @@ impl<A: Allocator> FileReader<A> {
         ensures most { most_bytes self.new.place ≤ most_bytes self.old.place }
         ensures own { self.old.fault ≡ None →
             IfErr result (λ f. is_frame_fault self.old.place f ≡ true) }
+        ensures err { OnErr result (Leaves self.old.place (R.remaining input.old)
+            frame.new.items) }
         ensures room { HasRoom (vec_capacity frame.old) (vec_capacity frame.new)
             (length frame.new.items) result }
         ensures again { (f : FileFault) → self.old.fault ≡ Some f → (result ≡ Err f)

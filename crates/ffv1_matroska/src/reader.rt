@@ -4,7 +4,7 @@ ghost use Rattle.std.specs.Prelude.{◌≡◌, ◌<◌, ◌≤◌, Bool, List, [
 ghost use Rattle.std.specs.Prelude.{IfErr, IfOk, OnErr, Ok, Err, length};
 ghost use Rattle.std.specs.Vec.{vec_capacity};
 ghost use Rattle.ffv1_wire.specs.Passage.{passage};
-ghost use Rattle.ffv1_reads.specs.Ends.{AnswersOrEnds, AnswersOrFaults};
+ghost use Rattle.ffv1_reads.specs.Ends.{AnswersOrFaults, AnswersOrNone};
 ghost use Rattle.ffv1_reads.specs.First.{bytes_with, passage_with};
 ghost use Rattle.ffv1_reads.specs.Head.{head_of};
 ghost use Rattle.ffv1_reads.specs.Room.{HasRoom, RoomRead};
@@ -192,7 +192,7 @@ impl<A: Allocator> MatroskaReader<A> {
         input: &mut R,
         frame: &mut Vec<u8, A>,
     ) -> Result<bool, FileFault>
-        ensures answer { self.old.fault ≡ None → AnswersOrEnds
+        ensures answer { self.old.fault ≡ None → AnswersOrNone
             (λ (more : Bool). next_of more frame.new.items self.new.place)
             (frame_read self.old.track.numbers self.old.place)
             (passage R.remaining R.failures input.old input.new) result }

@@ -16,7 +16,7 @@ module _ {X : Type 0} (reading : avi.Reading X) where
   faults_known (Some text) (Some rest) f (inl (w, wants, over, is)) = inl (w, wants, over, ap of_avi is)
   faults_known (Some text) (Some rest) f (inr h) = inr (f, h, refl)
 
-  pub file_stops : (ends : Bool) (p : Passage) (f : FileFault) → files.StopsReading ends reading p f → FileStops ends reading p (of_avi f)
+  pub file_stops : (ends : files.Endings X) (p : Passage) (f : FileFault) → files.StopsReading ends reading p f → FileStops ends reading p (of_avi f)
   file_stops ends p avi_fault.OutOfMemory h = h
   file_stops ends p avi_fault.NotAvi h = (h.0, faults_known p.old p.new avi_fault.NotAvi h.1)
   file_stops ends p avi_fault.NoFfv1 h = (h.0, faults_known p.old p.new avi_fault.NoFfv1 h.1)

@@ -9,7 +9,8 @@ use Rattle.ffv1_record.specs.Accepted.{Accepted}
 use Rattle.ffv1_frame.specs.declared.fault.CodecFault.{CodecFault}
 use Rattle.ffv1_frame.specs.declared.fault.CodecFault.TheVariants as codec_fault
 use Rattle.ffv1_files.specs.Files.{frame_read}
-use Rattle.ffv1_files.specs.Places.{Place, may_end}
+use Rattle.ffv1_files.specs.Endings.{endings_from}
+use Rattle.ffv1_files.specs.Places.{Place}
 use Rattle.ffv1_files.specs.Readers.{Standing}
 use Rattle.ffv1_reads.specs.Known.{Known}
 use Rattle.ffv1_video.specs.declared.fault.Fault.{Fault}
@@ -238,7 +239,7 @@ module _ {X : Type 0} (Is : X → Type 0) (payload : X → List ℕ) (line : X �
   lacks from input h = known_map input.old input.new (NextPayloadLacks from) (NextLacks Is payload from) (λ bytes rest none. inl none) h
 
   -- there is none, and nothing was written
-  pub file_stops : (from to : Place) (input : Passage) (o : Option (List ℕ)) (n : ℕ) (f : Fault) (why : Cause) → FileStopsBy (may_end from) (frame_read from) input f why →
+  pub file_stops : (from to : Place) (input : Passage) (o : Option (List ℕ)) (n : ℕ) (f : Fault) (why : Cause) → FileStopsBy (endings_from from) (frame_read from) input f why →
       OneStopsBy Is payload line (λ g. Silent (between o o n n)) from to input (between o o n n) f why
   file_stops from to input o n f Reading stops = (silent o n, stops.0, stops.1)
   file_stops from to input o n f Writing stops = absurd stops
@@ -247,7 +248,7 @@ module _ {X : Type 0} (Is : X → Type 0) (payload : X → List ℕ) (line : X �
 
   -- or the line of that was
   pub file_refused : (byte : Bool) (i : ℕ) (from : Standing) (to : Place) (offset : ℕ) (input output : Passage) (f : Fault) (why : Cause) → cause_of f ≡ why →
-      FileStopsBy (may_end from.place) (frame_read from.place) input f why → LocatedAfter from input f offset → WritesLine [] (located_text byte i f offset) output →
+      FileStopsBy (endings_from from.place) (frame_read from.place) input f why → LocatedAfter from input f offset → WritesLine [] (located_text byte i f offset) output →
       OneStopsBy Is payload line (λ g. WritesLocated (LocatedAfter from input) byte i [] g output) from.place to input output f why
   file_refused byte i from to offset input output f Reading is h stops writes = (record { offset = offset; stops = stops; writes = writes }, h.0, h.1)
   file_refused byte i from to offset input output f Writing is h stops writes = absurd h

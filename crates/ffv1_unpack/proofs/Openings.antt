@@ -6,7 +6,7 @@ use Rattle.ffv1_record.specs.Reading.{IsRefused, ReachesSets}
 use Rattle.ffv1_record.specs.declared.fault.RecordFault.{RecordFault}
 use Rattle.ffv1_record.specs.declared.fault.RecordFault.TheVariants as record_fault
 use Rattle.ffv1_files.specs.Answers.{StopsReading}
-use Rattle.ffv1_files.specs.Places.{opening_may_end}
+use Rattle.ffv1_files.specs.Endings.{opening_endings}
 use Rattle.ffv1_files.specs.Places.{Place}
 use Rattle.ffv1_files.specs.Readers.{Standing}
 use Rattle.ffv1_files.specs.Files.{open_read}
@@ -60,15 +60,15 @@ lacks_read profile None new f faults = tt
 lacks_read profile (Some file) None f faults = absurd faults
 lacks_read profile (Some file) (Some rest) f faults = inl faults
 
-stops_opening : (profile : Profile) (p : Passage) (f : Fault) (why : Cause) → FileStopsBy (opening_may_end (scope_in profile)) (open_read (scope_in profile)) p f why → LacksOpeningBy profile p f why
+stops_opening : (profile : Profile) (p : Passage) (f : Fault) (why : Cause) → FileStopsBy (opening_endings (scope_in profile)) (open_read (scope_in profile)) p f why → LacksOpeningBy profile p f why
 stops_opening profile p f Reading h = h
 stops_opening profile p f Writing h = h
 stops_opening profile p f Memory h = (h.0, inl h.1)
 stops_opening profile p f Content h = (h.0, lacks_read profile p.old p.new f h.1)
 
 -- a file that is not read up to its frames
-pub lacks_file : (profile : Profile) (p : Passage) (f : FileFault) → StopsReading (opening_may_end (scope_in profile)) (open_read (scope_in profile)) p f → LacksOpening profile p (of_avi f)
-lacks_file profile p f h = stops_opening profile p (of_avi f) (cause_of (of_avi f)) (file_stops (open_read (scope_in profile)) (opening_may_end (scope_in profile)) p f h)
+pub lacks_file : (profile : Profile) (p : Passage) (f : FileFault) → StopsReading (opening_endings (scope_in profile)) (open_read (scope_in profile)) p f → LacksOpening profile p (of_avi f)
+lacks_file profile p f h = stops_opening profile p (of_avi f) (cause_of (of_avi f)) (file_stops (open_read (scope_in profile)) (opening_endings (scope_in profile)) p f h)
 
 pub lacks_record : (profile : Profile) (p : Passage) (head : Head) (place : Place) (r : RecordFault) → p.after ≡ p.before → OpensKnown profile p.old p.new head place →
     (r ≡ record_fault.OutOfMemory) ⊎ IsRefused (record_profile profile) (greatest_depth profile) head.config_record head.width head.height r → (r ≡ record_fault.OutOfMemory → ReachesSets (greatest_depth profile) head.config_record) → LacksOpening profile p (of_record r)

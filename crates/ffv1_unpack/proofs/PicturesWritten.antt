@@ -16,7 +16,7 @@ use Rattle.ffv1_y4m.specs.Pictures.{picture_text}
 use Rattle.ffv1_y4m.specs.declared.head.VideoHead.{VideoHead}
 use Rattle.ffv1_files.specs.Places.{Place}
 use Rattle.ffv1_files.specs.Files.{frame_read}
-use Rattle.ffv1_files.specs.Places.{may_end}
+use Rattle.ffv1_files.specs.Endings.{endings_from}
 use Rattle.ffv1_reads.specs.Head.{Head}
 use Rattle.ffv1_reads.specs.Known.{Known}
 use Rattle.ffv1_video.specs.declared.fault.Fault.{Fault}
@@ -223,7 +223,7 @@ module _ (a : Accepted) (h : VideoHead) (first : Option Said) (from to : Place) 
   ]
 
   -- there is none
-  pub file_stops : (o : Option (List ℕ)) (n : ℕ) (f : Fault) (why : Cause) → FileStopsBy (may_end from) (frame_read from) input f why → NextStopsBy a h first from to input (between o o n n) f why
+  pub file_stops : (o : Option (List ℕ)) (n : ℕ) (f : Fault) (why : Cause) → FileStopsBy (endings_from from) (frame_read from) input f why → NextStopsBy a h first from to input (between o o n n) f why
   file_stops o n f Reading stops = (silent o n, stops.0, stops.1)
   file_stops o n f Writing stops = absurd stops
   file_stops o n f Memory stops = (silent o n, stops.0, stops.1)

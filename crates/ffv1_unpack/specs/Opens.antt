@@ -8,7 +8,7 @@ use Rattle.ffv1_files.specs.Files.{open_read}
 use Rattle.ffv1_reads.specs.Head.{Head}
 use Rattle.ffv1_reads.specs.Reads.{Kept}
 use Rattle.ffv1_files.specs.Answers.{ReadFails, WantsMore}
-use Rattle.ffv1_files.specs.Places.{opening_may_end}
+use Rattle.ffv1_files.specs.Endings.{opening_endings}
 use Rattle.ffv1_reads.specs.Known.{Known}
 use Rattle.ffv1_video.specs.declared.profile.Profile.{Profile}
 use Rattle.ffv1_video.specs.Profiles.{greatest_depth, scope_in}
@@ -48,7 +48,7 @@ OpeningLacks profile old new =
 
 -- if a read failed
 abbrev pub OpeningWants : Profile → Option (List ℕ) → Option (List ℕ) → Type 0
-OpeningWants profile old new = Known old new (ReadFails (opening_may_end (scope_in profile))
+OpeningWants profile old new = Known old new (ReadFails (opening_endings (scope_in profile))
     (open_read (scope_in profile)))
 
 -- why it was not opened, by the cause: a read failed, which was counted; memory was refused; or the

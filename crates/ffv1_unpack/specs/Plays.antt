@@ -10,7 +10,8 @@ use Rattle.ffv1_wire.specs.Passage.{Passage}
 use Rattle.ffv1_record.specs.Accepted.{Accepted}
 use Rattle.ffv1_files.specs.Answers.{ReadFails, WantsMore}
 use Rattle.ffv1_files.specs.Files.{frame_read, open_read}
-use Rattle.ffv1_files.specs.Places.{Place, may_end}
+use Rattle.ffv1_files.specs.Endings.{endings_from}
+use Rattle.ffv1_files.specs.Places.{Place}
 use Rattle.ffv1_reads.specs.Head.{Head}
 use Rattle.ffv1_reads.specs.Known.{Known}
 use Rattle.ffv1_reads.specs.Reads.{Kept}
@@ -58,7 +59,7 @@ abbrev pub NextHasFault : Fault → Place → List ℕ → List ℕ → Type 0
 NextHasFault f to at rest = FaultsRead (frame_read to) at rest f
 
 abbrev pub NextReadFails : Place → List ℕ → List ℕ → Type 0
-NextReadFails to at rest = ReadFails (may_end to) (frame_read to) at rest
+NextReadFails to at rest = ReadFails (endings_from to) (frame_read to) at rest
 
 abbrev pub NextPayloadLacks : Place → List ℕ → List ℕ → Type 0
 NextPayloadLacks to at rest = WantsMore (frame_read to) Kept at rest

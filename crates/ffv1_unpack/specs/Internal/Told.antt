@@ -11,11 +11,11 @@ use Rattle.ffv1_record.specs.Accepted.{Accepted}
 use Rattle.ffv1_record.specs.Configuration.{Configuration}
 use Rattle.ffv1_codec.specs.Answer.{Answers}
 use Rattle.ffv1_codec.specs.SliceList.{Said}
-use Rattle.ffv1_files.specs.Answers.{ReadFails, WantsMore}
+use Rattle.ffv1_files.specs.Answers.{Endings, ReadFails, WantsMore}
 use Rattle.ffv1_files.specs.Places.{Place}
 use Rattle.ffv1_files.specs.declared.container.Container.{Container}
 use Rattle.ffv1_files.specs.Files.{frame_read}
-use Rattle.ffv1_files.specs.Places.{may_end}
+use Rattle.ffv1_files.specs.Endings.{endings_from}
 use Rattle.ffv1_files.specs.Readers.{Standing}
 use Rattle.ffv1_reads.specs.Reads as avi
 use Rattle.ffv1_reads.specs.Known.{Known}
@@ -44,10 +44,10 @@ abbrev pub FaultsKnown : {X : Type 0} → avi.Reading X → Option (List ℕ) �
     Type 0
 FaultsKnown reading old new f = Known old new (λ text rest. FaultsRead reading text rest f)
 
--- why a file is not read on, by whether the end of the input may be an answer and by the cause: a
--- read failed, which was counted; memory was refused for bytes that are kept, of which more were
--- wanted; or what was read has this fault
-abbrev pub FileStopsBy : {X : Type 0} → Bool → avi.Reading X → Passage → Fault → Cause → Type 0
+-- why a file is not read on, by what the end of the input may be and by the cause: a read failed,
+-- which was counted; memory was refused for bytes that are kept, of which more were wanted; or what
+-- was read has this fault
+abbrev pub FileStopsBy : {X : Type 0} → Endings X → avi.Reading X → Passage → Fault → Cause → Type 0
 FileStopsBy ends reading p f Reading =
     (p.after ≡ one_more p.before) × Known p.old p.new (ReadFails ends reading)
 FileStopsBy ends reading p f Writing = ⊥
@@ -56,12 +56,12 @@ FileStopsBy ends reading p f Memory =
 FileStopsBy ends reading p f Content =
     (p.after ≡ p.before) × FaultsKnown reading p.old p.new f
 
-abbrev pub FileStops : {X : Type 0} → Bool → avi.Reading X → Passage → Fault → Type 0
+abbrev pub FileStops : {X : Type 0} → Endings X → avi.Reading X → Passage → Fault → Type 0
 FileStops ends reading p f = FileStopsBy ends reading p f (cause_of f)
 
 -- the same of the next frame from a position on
 abbrev pub StopsFrom : Place → Passage → Fault → Type 0
-StopsFrom from p f = FileStops (may_end from) (frame_read from) p f
+StopsFrom from p f = FileStops (endings_from from) (frame_read from) p f
 
 -- a payload was read, and decoding answers so
 abbrev pub StepAnswers : {S : Type 0} → LineStep S → LineStep S → Accepted → Place → Place →

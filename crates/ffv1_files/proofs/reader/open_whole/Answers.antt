@@ -10,6 +10,7 @@ use Rattle.ffv1_matroska.specs.Opened as beginning
 use Rattle.ffv1_matroska.specs.Readers.{HasEnded}
 use Rattle.ffv1_files.specs.declared.container.Scope.TheVariants.{Whole}
 use Rattle.ffv1_files.specs.Answers.{StopsReading}
+use Rattle.ffv1_files.specs.Endings.{opening_endings}
 use Rattle.ffv1_files.specs.Files.{open_read}
 use Rattle.ffv1_files.proofs.FirstByte.{nothing_read, other_first, same_first}
 use Rattle.ffv1_files.proofs.Locations.{avi_reached, avi_stopped, first_stopped, matroska_reached}
@@ -22,7 +23,7 @@ use Rattle.ffv1_files.proofs.reader.open_whole.Goals as goal
 pub returns-in_default-clause-answer : goal.returns-in_default-clause-answer
 returns-in_default-clause-answer g c = (
   c.in_default.ensures.counted,
-  nothing_read (open_read Whole)
+  nothing_read (opening_endings Whole) (open_read Whole)
       Looked _ _ none_short c.in_default.ensures.err,
 )
 
@@ -58,7 +59,7 @@ returns-in-Err-clause-answer g c =
     let f = c.in-Err.fault in
     let answer = subst (λ b. RefusedOrFaults fault.NoTracks HasEnded beginning.open_read
     (bytes_with b mid) new before after f) first c.in-Err.ensures.answer in
-    subst (λ n. StopsReading true (open_read Whole) (between old new n after) f)
+    subst (λ n. StopsReading (opening_endings Whole) (open_read Whole) (between old new n after) f)
     c.in-Ok.ensures.counted
     (matroska_stops old mid new before after (subst (GivesByte old mid) first c.in-Ok.ensures.ok) f
     answer)
@@ -81,7 +82,7 @@ returns-in-Err-open_located-clause-answer g c =
     let new = g.R.ByteIn.remaining c.open_located-2.new.input in
     let after = g.R.ByteIn.failures c.open_located-2.new.input in
     let f = c.in-Err-open_located.fault in
-    subst (λ n. StopsReading true (open_read Whole) (between old new n after) f)
+    subst (λ n. StopsReading (opening_endings Whole) (open_read Whole) (between old new n after) f)
     c.in-Ok.ensures.counted
     (avi_stops c.in-Ok.first old (g.R.ByteIn.remaining c.read_byte.new.input) new
     (g.R.ByteIn.failures c.read_byte.new.input) after c.in-Ok.ensures.ok
