@@ -283,6 +283,7 @@ pub(crate) fn emit<A: Allocator>(bytes: &mut Vec<u8, A>, top: u32) -> Result<(),
         256 * value bytes.old.items (length bytes.old.items) + top) }
     ensures long { OnOk result (length bytes.new.items ≡ length bytes.old.items + 1) }
     ensures full { OnErr result (vec_capacity bytes.old ≤ vec_len bytes.old) }
+    ensures room { vec_capacity bytes.old ≤ vec_capacity bytes.new }
     ensures bytes_fit { OnOk result (AreBytes bytes.new.items) }
 {
     if top < 256 {

@@ -223,7 +223,9 @@ fn release<A: Allocator>(bytes: &mut Vec<u8, A>, holding: &mut Holding) -> Resul
     ensures holding { OnOk result (IsHolding bytes.new.items holding.new.low holding.new.width
         holding.new.held) }
     ensures less { OnOk result (holding.new.held + 1 ≡ holding.old.held) }
+    ensures long { OnOk result (length bytes.new.items ≡ length bytes.old.items + 1) }
     ensures full { OnErr result (vec_capacity bytes.old ≤ vec_len bytes.old) }
+    ensures room { vec_capacity bytes.old ≤ vec_capacity bytes.new }
 {
     let Holding { low, width, held } = *holding;
     let places = 8 * held + 8;
@@ -251,6 +253,7 @@ fn release_all<A: Allocator>(
         holding.new.held) }
     ensures none { OnOk result (holding.new.held ≡ 0) }
     ensures refused { OnErr result (0 < holding.old.held) }
+    ensures full { OnErr result (vec_capacity bytes.old < vec_len bytes.old + holding.old.held) }
 {
     'held: while holding.held > 0 {
         release(bytes, holding)?;
@@ -270,6 +273,8 @@ pub(crate) fn settle<A: Allocator>(
         interval_marked bytes.old.items marked.low marked.width) }
     ensures writing { IfOk result (λ span. IsWriting bytes.new.items span.low span.width) }
     ensures refused { OnErr result (0 < held_in marked.low) }
+    ensures full { OnErr result (vec_capacity bytes.old < vec_len bytes.old
+        + held_in marked.low) }
 {
     let mut holding = unmark(marked);
     release_all(bytes, &mut holding)?;

@@ -1,6 +1,8 @@
 //! What an encoder's interval has beside its bytes, and how a decision narrows it.
 
-ghost use Rattle.std.specs.Prelude.{◌≡◌, ℕ, ◌≤◌, ◌<◌, ◌/◌, ◌%◌, ◌*◌, List, length, OnOk, OnErr};
+ghost use Rattle.std.specs.Prelude.{◌≡◌, ℕ, ◌≤◌, ◌<◌, ◌+◌, ◌/◌, ◌%◌, ◌*◌, List, length, OnOk};
+ghost use Rattle.std.specs.Prelude.{OnErr};
+ghost use Rattle.std.specs.Vec.{vec_capacity, vec_len};
 ghost use Rattle.ffv1_range.specs.Interval.{Interval, narrow, part};
 ghost use Rattle.ffv1_range.specs.Internal.Registers.{interval_from, IsWriting, IsChosen};
 
@@ -30,6 +32,7 @@ pub(crate) trait Registers {
             narrow (interval bytes.old.items self.old) state bit) }
         ensures refused { OnErr result ((interval bytes.old.items self.old).count <
             (narrow (interval bytes.old.items self.old) state bit).count) }
+        ensures full { OnErr result (vec_capacity bytes.old < vec_len bytes.old + 4) }
         ensures sound { are_sound bytes.new.items self.new }
         ensures grown { OnOk result (length bytes.old.items ≤ length bytes.new.items) };
 }

@@ -31,5 +31,7 @@ returns g c =
           c.requires.holding _ number c.in_ok-emit.ensures.long
           c.in_ok-emit.ensures.bytes_fit);
       less = omega arith;
+      long = search rules;
       full = search rules;
+      room = search rules;
     }
