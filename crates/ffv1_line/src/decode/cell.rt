@@ -1,7 +1,7 @@
 //! Decodes the rows of a cell, one after the other.
 
-ghost use Rattle.std.specs.Prelude.{◌≡◌, ℕ, ℤ, ◌*◌, ◌<◌, List, IfErr, IsOk, OnOk, length};
-ghost use Rattle.std.specs.Prelude.{replicate};
+ghost use Rattle.std.specs.Prelude.{◌≡◌, ℕ, ℤ, ◌+◌, ◌*◌, ◌<◌, List, IfErr, IsOk, OnOk, length};
+ghost use Rattle.std.specs.Prelude.{replicate, vec_capacity};
 ghost use Rattle.ffv1_range.specs.Interval.{Decision};
 ghost use Rattle.ffv1_range.specs.Symbols.{AllHeld};
 ghost use Rattle.ffv1_plane.specs.Quantisation.{contexts_of};
@@ -36,9 +36,9 @@ pub trait RowSink {
 ///
 /// The cell has `height` rows of at least one sample of `coding.bits` bits. `rows` are three lines
 /// of its width, of which `two` and `one` are zeros, as `RollingRows::new` makes them; they turn
-/// after each row. `states` are those of the plane's class, 32 for each context of the set, all
-/// held by the table. It takes no memory itself. If the bytes code a cell of this size, its rows
-/// are handed over.
+/// after each row, and keep their memory. `states` are those of the plane's class, 32 for each
+/// context of the set, all held by the table. It takes no memory itself. If the bytes code a cell
+/// of this size, its rows are handed over.
 ///
 /// `TooLong { x }` if the symbol at place `x` of a row, the first such place of the cell, has 31
 /// exponent decisions 1: the rows above it were handed over, and the decoder stands after the last
@@ -70,6 +70,9 @@ pub fn decode_cell<B: Allocator, R: Allocator, T: RowSink>(
         c.width ≡ length rows.old.cur.items → length qs ≡ height →
         StandsAfter before coding.now states.old c qs 0 (decoder_by decoder.old states.old) →
         IsOk result × TakesCell T.takes c height sink.old sink.new }
+    ensures capacity { vec_capacity rows.new.two + vec_capacity rows.new.one
+        + vec_capacity rows.new.cur
+        ≡ vec_capacity rows.old.two + vec_capacity rows.old.one + vec_capacity rows.old.cur }
 {
     for _ in 0..height {
         let above = Above {

@@ -19,6 +19,7 @@ loop-init g c =
       held = c.requires.held;
       slots = c.requires.rows;
       cur_long = refl;
+      capacity = refl;
       taken = rw (c.requires.two, c.requires.one)
           (taken_none takes c.args.coding.now (decoder_by c.args.decoder.now c.args.states.now)
           (length c.args.rows.now.cur.items) c.args.sink.now);
@@ -98,6 +99,7 @@ loop-preserved g c =
       held = c.decode_line.ensures.held;
       slots = c.decode_line.auto.states ∙ kept.slots;
       cur_long = kept.taken.holds.2.two_long;
+      capacity = omega (arith, kept.capacity);
       taken = taken_next takes c.args.coding.now _ _ _ (length c.args.rows.now.cur.items)
           c.loop.counter over cur c.args.sink.now c.loop.sink c.row.new.self long kept.taken lined
           took;

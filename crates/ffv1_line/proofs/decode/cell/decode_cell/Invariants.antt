@@ -1,4 +1,5 @@
-use Rattle.std.proofs.Common.{◌≡◌, ◌*◌, ℤ, List, length}
+use Rattle.std.proofs.Common.{◌≡◌, ◌+◌, ◌*◌, ℤ, List, length}
+use Rattle.std.specs.Prelude.{vec_capacity}
 use Rattle.ffv1_range.specs.Interval.{Decision}
 use Rattle.ffv1_range.specs.Symbols.{AllHeld}
 use Rattle.ffv1_plane.specs.Quantisation.{contexts_of}
@@ -19,6 +20,8 @@ invariant-loop g l =
       held : AllHeld l.coding.table l.states;
       slots : length l.states ≡ contexts_of l.coding.set * 32;
       cur_long : length l.rows.cur.items ≡ width;
+      capacity : vec_capacity l.rows.two + vec_capacity l.rows.one + vec_capacity l.rows.cur
+          ≡ vec_capacity l.fn.rows.two + vec_capacity l.fn.rows.one + vec_capacity l.fn.rows.cur;
       taken : RowsTaken takes l.fn.sink l.sink width
           (λ count samples. (count ≡ l.counter) ×
           (RowsRead l.coding first now width samples l.counter) ×
