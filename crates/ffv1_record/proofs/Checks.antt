@@ -1,5 +1,5 @@
 -- What the checks of a configuration say of its numbers.
-use Rattle.std.proofs.Common.{◌≡◌, refl, sym, ◌⊎◌, ℕ, zero, suc, ◌<◌, ◌≤◌, inl, inr, Bool, true, false, ◌&&◌, ◌||◌, not, ◌==◌, nat_le, IsTrue, IsFalse, rules, arith, List, ap, ◌^◌, ℤ, pos, negsuc}
+use Rattle.std.proofs.Common.{◌≡◌, refl, sym, subst, ◌⊎◌, ℕ, zero, suc, ◌<◌, ◌≤◌, inl, inr, Bool, true, false, ◌&&◌, ◌||◌, not, ◌==◌, nat_le, IsTrue, IsFalse, rules, arith, List, ap, ◌^◌, ℤ, pos, negsuc}
 use Rattle.std.specs.Int.{w32}
 use mir.Val.{SFits}
 use Rattle.std.proofs.Math.IntN.{nat_abs}
@@ -11,6 +11,8 @@ use Rattle.ffv1_range.specs.Deltas.{IsTableOf, HaveNoTable}
 use Rattle.ffv1_record.specs.Configuration.{Configuration, is_rct}
 use Rattle.ffv1_record.specs.Record.{depth_of}
 use Rattle.ffv1_record.specs.Accepted.{is_sized, is_depth, deepest, is_subsampled, is_divided}
+use Rattle.ffv1_record.specs.Accepted.{has_depth, IsFirstUpTo, IsFirstWhere}
+use Rattle.ffv1_record.specs.declared.fault.RecordFault.TheVariants as fault
 use Rattle.ffv1_record.specs.declared.config.Profile.{Profile}
 use Rattle.ffv1_record.specs.declared.config.Profile.TheVariants as profile
 
@@ -139,3 +141,14 @@ pub counted : (n : ℕ) → IsTrue (nat_le 1 n && nat_le n 8) → (1 ≤ n) × (
 counted n h =
     let parts = both (nat_le 1 n) (nat_le n 8) h in
     (leb-true 1 n parts.0, leb-true n 8 parts.1)
+
+-- a size that is not accepted is the first fault, and then a depth
+pub first_size : (p : Profile) (most : ℕ) (c : Configuration) → IsFalse (is_sized c) → IsFirstUpTo p most c fault.Size
+first_size p most c none = by (has_depth most c)
+  where
+    by : (b : Bool) → IsFirstWhere p b c fault.Size
+    by true = inl (not_true (is_sized c) none, refl)
+    by false = inl (not_true (is_sized c) none, refl)
+
+pub first_depth : (p : Profile) (most : ℕ) (c : Configuration) → IsTrue (is_sized c) → IsFalse (has_depth most c) → IsFirstUpTo p most c fault.Depth
+first_depth p most c size none = subst (λ b. IsFirstWhere p b c fault.Depth) (sym none) (inr (size, refl))

@@ -1,9 +1,11 @@
 -- Edges of the parts of a size, and sizes over a chroma factor.
-use Rattle.std.proofs.Common.{◌≡◌, refl, ℕ, zero, suc, ◌+◌, ◌-◌, ◌*◌, ◌/◌, ◌%◌, ◌^◌, ◌<◌, ◌≤◌, ◌==◌, ◌&&◌, ◌↔◌, Bool, true, false, ap, sym, subst, ◌∙◌, arith, inl, inr, pow_pos, div-add-mod', rules}
+use Rattle.std.proofs.Common.{◌≡◌, refl, ℕ, zero, suc, ◌+◌, ◌-◌, ◌*◌, ◌/◌, ◌%◌, ◌^◌, ◌<◌, ◌≤◌, ◌==◌, ◌&&◌, Bool, true, false, ap, sym, subst, ◌∙◌, arith, inl, inr, pow_pos, div-add-mod', rules, List}
 use Rattle.std.specs.List.{list_all, range_with_len}
 use Rattle.std.proofs.lemmas.Nat.{div-mul-add, mod-mul-add, div_below, le-div}
 use Rattle.std.proofs.lemmas.Bool.{cases_eq, eq-eqb, eqb-true}
+use Rattle.ffv1_plane.specs.Quantisation.{Set}
 use Rattle.ffv1_record.specs.Configuration.{Configuration, at_depth}
+use Rattle.ffv1_record.specs.Internal.Outlines.{with_sets}
 use Rattle.ffv1_record.specs.declared.config.Profile.{Profile}
 use Rattle.ffv1_record.proofs.Checks.{divided, fits_grid}
 use Rattle.ffv1_record.specs.declared.config.Profile.TheVariants as profile
@@ -220,3 +222,12 @@ edges_at profile.Wide c depth edges = edges
 pub edges_of : (p : Profile) (c : Configuration) (depth : ℕ) → PassesEdges p (at_depth c depth) → PassesEdges p c
 edges_of profile.Strict c depth edges = edges
 edges_of profile.Wide c depth edges = edges
+
+-- and whatever the sets are
+pub edges_with : (p : Profile) (c : Configuration) (ss : List Set) → PassesEdges p c → PassesEdges p (with_sets c ss)
+edges_with profile.Strict c ss edges = edges
+edges_with profile.Wide c ss edges = edges
+
+pub edges_without : (p : Profile) (c : Configuration) (ss : List Set) → PassesEdges p (with_sets c ss) → PassesEdges p c
+edges_without profile.Strict c ss edges = edges
+edges_without profile.Wide c ss edges = edges

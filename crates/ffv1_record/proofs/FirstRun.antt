@@ -68,14 +68,14 @@ either_begun a c begun here = elim begun [
   | inr read ↦ read
 ]
 
--- a flag that is refused wants no memory
-unfoldable wants_memory : RecordFault → Bool
+-- whether a fault tells of memory
+abbrev pub wants_memory : RecordFault → Bool
 wants_memory fault.OutOfMemory = true
 wants_memory f = false
 
-pub not_memory : (f : RecordFault) → (f ≡ fault.Ec) ⊎ (f ≡ fault.SymbolTooLong) → f ≡ fault.OutOfMemory → ⊥
-unfolding wants_memory
-not_memory f refused memory = elim refused [
-  | inl e ↦ let same : true ≡ false = ap wants_memory (sym memory ∙ e) in search rules
+-- a number that is refused by its own fault wants no memory
+pub own_told : (own f : RecordFault) → wants_memory own ≡ false → (f ≡ own) ⊎ (f ≡ fault.SymbolTooLong) → f ≡ fault.OutOfMemory → ⊥
+own_told own f other refused memory = elim refused [
+  | inl e ↦ let same : true ≡ false = ap wants_memory (sym memory ∙ e) ∙ other in search rules
   | inr e ↦ let same : true ≡ false = ap wants_memory (sym memory ∙ e) in search rules
 ]

@@ -4,6 +4,7 @@ pub mod Checks
 pub mod Slots
 pub mod DecoderSpots
 pub mod CallsGive
+pub mod Judging
 pub mod ReadingLoops
 pub mod TableRuns
 pub mod FirstRun
@@ -20,6 +21,7 @@ pub mod ParityLaws
 pub mod Rows
 pub mod WrittenIsRecord
 pub mod OneOutcome
+pub mod Judged
 pub mod RoundTrip
 pub mod BeforeSets
 pub mod Parts

@@ -1,14 +1,16 @@
 //! Configurations, and which are accepted.
 
 ghost use Rattle.std.specs.Prelude.{◌≡◌, ◌≢◌, ℕ, ◌+◌, ◌*◌, ◌/◌, ◌^◌, ◌<◌, ◌≤◌, ◌↔◌, IsTrue};
-ghost use Rattle.std.specs.Prelude.{IsFalse, IfOk, IfErr, length};
+ghost use Rattle.std.specs.Prelude.{IsFalse, IfOk, IfErr, List, length, nat_le, ◌&&◌};
+ghost use Rattle.ffv1_plane.specs.Quantisation.{Set};
+ghost use Rattle.ffv1_record.specs.Internal.Outlines.{with_sets};
 ghost use Rattle.ffv1_range.specs.Table.{Table, IsTable};
 ghost use Rattle.ffv1_range.specs.Deltas.{IsTableOf, HaveNoTable};
 ghost use Rattle.ffv1_record.specs.Configuration.{configuration_of, at_depth, is_rct};
 ghost use Rattle.ffv1_record.specs.Held.{classes_of, kept_of};
 ghost use Rattle.ffv1_record.specs.Sets.{AreSets};
 ghost use Rattle.ffv1_record.specs.Writable.{AreDeltas, IsWritable};
-ghost use Rattle.ffv1_record.specs.Accepted.{is_sized, is_subsampled, is_transparent, are_counted};
+ghost use Rattle.ffv1_record.specs.Accepted.{is_sized, is_subsampled, is_transparent};
 ghost use Rattle.ffv1_record.specs.Accepted.{is_divided, IsTableFor, AreMultiples, AreReached};
 ghost use Rattle.ffv1_record.specs.Accepted.{are_multiples, IsFirst, PassesIn, PassesAll};
 ghost use Rattle.ffv1_record.specs.Accepted.{checks, IsAccepted, IsFirstUpTo, is_depth, has_depth};
@@ -201,6 +203,14 @@ pub(crate) fn deepest(profile: Profile, most: u32) -> u32
     }
 }
 
+/// Whether a configuration may have so many sets: 1 to 8.
+fn are_so_many(count: usize) -> bool
+    ensures { (ss : List Set) → length ss ≡ count →
+        result ≡ (nat_le 1 (length ss) && nat_le (length ss) 8) }
+{
+    1 <= count && count <= 8
+}
+
 impl Colour {
     /// Whether samples are red, green and blue.
     pub fn is_rct(self) -> bool
@@ -253,14 +263,6 @@ impl<A: Allocator> Config<A> {
         ensures { result ≡ is_transparent (configuration_of self.now) }
     {
         self.chroma_planes || !self.extra_plane
-    }
-
-    /// Whether there are 1 to 8 sets.
-    fn are_counted(&self) -> bool
-        ensures value { result ≡ are_counted (configuration_of self.now) }
-        ensures sets { AreSets self.now.sets }
-    {
-        1 <= self.sets.len() && self.sets.len() <= 8
     }
 
     /// Whether columns and rows are from 1 to 32, and each has a sample.
@@ -320,6 +322,33 @@ impl<A: Allocator> Config<A> {
             (λ f. IsFirstUpTo profile most (at_depth (configuration_of self.now) depth) f) }
         ensures memory { IfErr result (λ f. f ≢ RecordFault.OutOfMemory) }
     {
+        let _sets = self.sets.as_slice();
+        match self.judged_by(self.sets.len(), profile, depth, most) {
+            Ok(table) => Ok(table),
+            Err(fault) => Err(fault),
+        }
+    }
+
+    /// The same of a configuration with other sets, of which there are so many.
+    pub(crate) fn judged_by(
+        &self,
+        count: usize,
+        profile: Profile,
+        depth: u32,
+        most: u32,
+    ) -> Result<StateTable, RecordFault>
+        ensures depth { IfOk result
+            (λ _. IsTrue (has_depth most (at_depth (configuration_of self.now) depth))) }
+        ensures coder { IfOk result (λ t. IsTableFor self.now.coder t) }
+        ensures closed { IfOk result (λ t. IsTable t.floor t.one) }
+        ensures writable { IfOk result (λ _. IsWritable self.now.coder) }
+        ensures passes { IfOk result (λ _. (ss : List Set) → length ss ≡ count →
+            PassesAll profile checks (with_sets (at_depth (configuration_of self.now) depth) ss)) }
+        ensures refused { IfErr result (λ f. (ss : List Set) → length ss ≡ count →
+            IsFirstUpTo profile most (with_sets (at_depth (configuration_of self.now) depth) ss)
+            f) }
+        ensures memory { IfErr result (λ f. f ≢ RecordFault.OutOfMemory) }
+    {
         if !self.is_sized() {
             return Err(RecordFault::Size);
         }
@@ -332,7 +361,7 @@ impl<A: Allocator> Config<A> {
         if !self.is_transparent() {
             return Err(RecordFault::ExtraPlane);
         }
-        if !self.are_counted() {
+        if !are_so_many(count) {
             return Err(RecordFault::Sets);
         }
         let Ok(table) = self.coder.table() else {

@@ -27,6 +27,7 @@ pub mod checked;
 pub mod config;
 mod equal;
 pub mod fault;
+mod judge;
 pub mod laws;
 mod planes;
 pub mod read;

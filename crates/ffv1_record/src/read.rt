@@ -11,6 +11,7 @@ ghost use Rattle.ffv1_record.specs.Record.{IsRecord, depth_of};
 ghost use Rattle.ffv1_record.specs.Reader.{truth, number_within};
 ghost use Rattle.ffv1_record.specs.Reading.{deltas_onto, opening, depth, colour_of, planes};
 ghost use Rattle.ffv1_record.specs.Reading.{count_of, table, set, sets_onto, uncoded, tables, flag};
+ghost use Rattle.ffv1_record.specs.declared.fault.RecordFault.{RecordFault};
 ghost use Rattle.ffv1_record.specs.Reading.{before_sets, parameters, IsRefused, ReachesSets};
 ghost use Rattle.ffv1_record.specs.Reading.{first_run, first_sets_run, up_to_run, ReachesRun};
 ghost use Rattle.ffv1_record.specs.Internal.Given.{Gives, IsRead};
@@ -20,6 +21,7 @@ ghost use Rattle.ffv1_plane.specs.Quantisation.{is_filled, are_filled, contexts_
 use crate::checked::Checked;
 use crate::config::{Coder, Colour, Config, Profile, deepest, is_depth};
 use crate::fault::RecordFault;
+use crate::judge::judge_record;
 use crate::laws;
 use crate::planes::Planes;
 use crate::reader::RecordReader;
@@ -42,7 +44,7 @@ fn read_deltas(reader: &mut RecordReader<'_>) -> Result<[i32; 255], RecordFault>
 }
 
 /// Version, micro_version, coder_type and deltas.
-fn read_opening(reader: &mut RecordReader<'_>) -> Result<Coder, RecordFault>
+pub(crate) fn read_opening(reader: &mut RecordReader<'_>) -> Result<Coder, RecordFault>
     ensures gives { Gives (λ c. c) opening reader.old reader.new result }
     ensures told { IfErr result (λ f. f ≢ fault.OutOfMemory) }
 {
@@ -99,7 +101,7 @@ fn suits(chroma_planes: bool, extra_plane: bool) -> bool
 }
 
 /// Colour, bits and chroma.
-fn read_planes(reader: &mut RecordReader<'_>, most: u32) -> Result<Planes, RecordFault>
+pub(crate) fn read_planes(reader: &mut RecordReader<'_>, most: u32) -> Result<Planes, RecordFault>
     ensures gives { Gives (λ p. p) (planes most) reader.old reader.new result }
     ensures told { IfErr result (λ f. f ≢ fault.OutOfMemory) }
 {
@@ -124,7 +126,7 @@ fn read_planes(reader: &mut RecordReader<'_>, most: u32) -> Result<Planes, Recor
 }
 
 /// A count that is coded less 1.
-fn read_count(reader: &mut RecordReader<'_>) -> Result<u32, RecordFault>
+pub(crate) fn read_count(reader: &mut RecordReader<'_>) -> Result<u32, RecordFault>
     ensures gives { Gives (λ n. n) count_of reader.old reader.new result }
     ensures told { IfErr result (λ f. f ≢ fault.OutOfMemory) }
 {
@@ -213,7 +215,7 @@ fn read_sets<A: Allocator + Copy>(
 }
 
 /// That no set's initial states are coded.
-fn read_uncoded(reader: &mut RecordReader<'_>, count: u32) -> Result<(), RecordFault>
+pub(crate) fn read_uncoded(reader: &mut RecordReader<'_>, count: u32) -> Result<(), RecordFault>
     ensures gives { Gives (λ _. true) (uncoded count) reader.old reader.new result }
     ensures told { IfErr result (λ f. f ≢ fault.OutOfMemory) }
 {
@@ -242,7 +244,10 @@ fn read_tables<A: Allocator + Copy>(
 }
 
 /// A truth value that is coded as a number.
-fn read_flag(reader: &mut RecordReader<'_>, fault: RecordFault) -> Result<bool, RecordFault>
+pub(crate) fn read_flag(
+    reader: &mut RecordReader<'_>,
+    fault: RecordFault,
+) -> Result<bool, RecordFault>
     ensures gives { Gives (λ b. b) (flag fault) reader.old reader.new result }
     ensures refused { IfErr result (λ f. (f ≡ fault) ⊎ (f ≡ RecordFault.SymbolTooLong)) }
 {
@@ -312,6 +317,8 @@ pub fn read_record<A: Allocator + Copy>(
         (λ f. (f ≡ fault.OutOfMemory) ⊎ IsRefused Profile.Strict 8 bytes.now width height f) }
     ensures memory { IfErr result (λ f. f ≡ fault.OutOfMemory → ReachesSets 8 bytes.now) }
     ensures run { IfErr result (λ f. f ≡ fault.OutOfMemory → ReachesRun 8 bytes.now) }
+    ensures sound { IfErr result (λ f. f ≡ fault.OutOfMemory → (g : RecordFault) →
+        IsRefused Profile.Strict 8 bytes.now width height g → ⊥) }
 {
     match read_record_in(alloc, bytes, width, height, Profile::Strict, 8) {
         Ok(checked) => Ok(checked),
@@ -319,23 +326,9 @@ pub fn read_record<A: Allocator + Copy>(
     }
 }
 
-/// The configuration of a record (RFC 9043, 4.3), for pictures of a size that the container tells,
-/// checked in a profile, which it keeps. `most` is the greatest depth that the profile `Wide`
-/// accepts, in bits a sample.
-///
-/// Refuses with `Short` if there are fewer than 5 bytes; else with `Parity` if their
-/// remainder is not 0; else with `BadStart` if the first two are 65280 or more; else with the
-/// first in the order of the bytes of `SymbolTooLong`, `Version` to `ExtraPlane`, `StateTable`,
-/// `Runs`, `Contexts` and `Sets`, each judged when its symbol has been read, the deltas after
-/// their last; else with the first that `Config::check_in` finds. `Depth` comes in `Strict` if
-/// the bits of a sample are not 0 or 8, and in `Wide` if they are not 0, 8, 9, 10, 12, 14 or 16,
-/// or are above `most`. `ChromaEdge` comes in `Strict` if an inner edge of the slices is no
-/// multiple of its chroma factor, and in `Wide` if a column or a line of chroma lies in no slice.
-/// `OutOfMemory` if a growth was refused before another fault was met: no
-/// memory is taken before the first run of the first set was read, so a fault that stands before
-/// that comes first. Bytes between the parameters and the parity are ignored, and 0 bits of a
-/// sample mean 8. After a refusal the bytes are as they were, and may be read again.
-pub fn read_record_in<A: Allocator + Copy>(
+/// The configuration of a record, whose sets are stored as they are read. Refuses as
+/// `read_record_in` does, but for `OutOfMemory`, which may come from the first run on.
+fn read_whole<A: Allocator + Copy>(
     alloc: A,
     bytes: &[u8],
     width: u32,
@@ -374,6 +367,59 @@ pub fn read_record_in<A: Allocator + Copy>(
     let (config, depth) = read;
     // Both arms are written out, so that the clauses are proved by arm.
     match config.check_in(profile, depth, most) {
+        Ok(checked) => Ok(checked),
+        Err(fault) => Err(fault),
+    }
+}
+
+/// The configuration of a record (RFC 9043, 4.3), for pictures of a size that the container tells,
+/// checked in a profile, which it keeps. `most` is the greatest depth that the profile `Wide`
+/// accepts, in bits a sample.
+///
+/// Refuses with `Short` if there are fewer than 5 bytes; else with `Parity` if their remainder is
+/// not 0; else with `BadStart` if the first two are 65280 or more; else with the first in the order
+/// of the bytes of `SymbolTooLong`, `Version` to `ExtraPlane`, `StateTable`, `Runs`, `Contexts` and
+/// `Sets`, each judged when its symbol has been read, the deltas after their last; else with the
+/// first that `Config::check_in` finds. `Depth` comes in `Strict` if the bits of a sample are not 0
+/// or 8, and in `Wide` if they are not 0, 8, 9, 10, 12, 14 or 16, or are above `most`. `ChromaEdge`
+/// comes in `Strict` if an inner edge of the slices is no multiple of its chroma factor, and in
+/// `Wide` if a column or a line of chroma lies in no slice. `OutOfMemory` if a growth was refused,
+/// which comes last: a record is judged as a whole before any memory is taken for its sets, so no
+/// record that has another fault is refused for want of memory. Bytes between the parameters and
+/// the parity are ignored, and 0 bits of a sample mean 8. After a refusal the bytes are as they
+/// were, and may be read again.
+pub fn read_record_in<A: Allocator + Copy>(
+    alloc: A,
+    bytes: &[u8],
+    width: u32,
+    height: u32,
+    profile: Profile,
+    most: u32,
+) -> Result<Checked<A>, RecordFault>
+    ensures found { IfOk result (λ c. IsRecord bytes.now c.configuration) }
+    ensures width { IfOk result (λ c. c.configuration.width ≡ width) }
+    ensures height { IfOk result (λ c. c.configuration.height ≡ height) }
+    ensures depth { IfOk result (λ c. IsTrue (has_depth (deepest profile most) c.configuration)) }
+    ensures profile { IfOk result (λ c. c.profile ≡ profile) }
+    ensures accepted { IfOk result (λ c. IsAccepted c.configuration c.table) }
+    ensures passes { IfOk result (λ c. PassesAll profile checks c.configuration) }
+    ensures only { (c : Configuration) (t : Table) → c.width ≡ width → c.height ≡ height →
+        c.depth ≤ deepest profile most → IsAccepted c t → PassesAll profile checks c →
+        IsRecord bytes.now c →
+        MatchResult result (λ r. r.configuration ≡ c) (λ f. f ≡ fault.OutOfMemory) }
+    ensures exact { IfErr result (λ f. (f ≡ fault.OutOfMemory)
+        ⊎ IsRefused profile (deepest profile most) bytes.now width height f) }
+    ensures memory { IfErr result
+        (λ f. f ≡ fault.OutOfMemory → ReachesSets (deepest profile most) bytes.now) }
+    ensures run { IfErr result
+        (λ f. f ≡ fault.OutOfMemory → ReachesRun (deepest profile most) bytes.now) }
+    ensures sound { IfErr result (λ f. f ≡ fault.OutOfMemory → (g : RecordFault) →
+        IsRefused profile (deepest profile most) bytes.now width height g → ⊥) }
+{
+    laws::bytes_are_refused_for_one_reason();
+    judge_record(alloc, bytes, width, height, profile, most)?;
+    // Both arms are written out, so that the clauses are proved by arm.
+    match read_whole(alloc, bytes, width, height, profile, most) {
         Ok(checked) => Ok(checked),
         Err(fault) => Err(fault),
     }

@@ -38,6 +38,18 @@ pub record Gives {X Y : Type 0} (view : Y →
     X) (r : Reader X) (before after : Source) (result : Result Y RecordFault) : Type 0 where
   pub gives : (b : List ℕ) (s : Spot) → Stands before b s → Tells view r after b s result
 
+-- a call that judges tells the fault that reading meets; else reading gives a value, of which this
+-- holds with what the call answers
+abbrev pub Finds : {X Y : Type 0} → (X → Y → Type 0) → Reader X → Source → List ℕ → Spot →
+    Result Y RecordFault → Type 0
+Finds {X = X} holds r after b s (Ok y) =
+    (x : X) × (t : Spot) × r b s (Ok (x, t)) × Stands after b t × holds x y
+Finds holds r after b s (Err f) = r b s (Err f)
+
+pub record Judges {X Y : Type 0} (holds : X → Y → Type 0) (r : Reader X) (before after : Source)
+    (result : Result Y RecordFault) : Type 0 where
+  pub judges : (b : List ℕ) (s : Spot) → Stands before b s → Finds holds r after b s result
+
 -- the same of a call that reads by the states of a table
 abbrev pub TellsIn : {X : Type 0} → (ℕ → Reader X) → Source → List ℕ → List ℕ → ℕ → Spot →
     Result X RecordFault → Type 0

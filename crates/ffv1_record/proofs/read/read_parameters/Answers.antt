@@ -2,7 +2,9 @@
 use Rattle.ffv1_record.specs.Configuration.{configuration_of, at_depth}
 use Rattle.ffv1_record.proofs.CallsGive.{and_then, handed, stop, gives_done, told, read_first}
 use Rattle.ffv1_record.proofs.CallsGive.{read_then}
-use Rattle.ffv1_record.proofs.FirstRun.{not_memory}
+use Rattle.std.proofs.Common.{refl}
+use Rattle.ffv1_record.specs.declared.fault.RecordFault.TheVariants as fault
+use Rattle.ffv1_record.proofs.FirstRun.{own_told}
 use Rattle.ffv1_record.proofs.read.read_parameters.Goals as goal
 
 pub returns-in_err-coder-clause-gives : goal.returns-in_err-coder-clause-gives
@@ -87,4 +89,4 @@ returns-in_err-sets-clause-run g c = told _ c.from_residual-in_err-sets.result
 pub returns-in_err-ec-clause-run : goal.returns-in_err-ec-clause-run
 returns-in_err-ec-clause-run g c = told _ c.from_residual-in_err-ec.result
     c.from_residual-in_err-ec.ensures.1 (λ memory.
-    absurd (not_memory _ c.in_err-ec.ensures.refused memory))
+    absurd (own_told fault.Ec _ refl c.in_err-ec.ensures.refused memory))
