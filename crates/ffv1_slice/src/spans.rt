@@ -1,11 +1,11 @@
 //! Where the slices of a payload lie.
 
-ghost use Rattle.std.specs.Prelude.{◌≡◌, IfOk, IfErr, []};
+ghost use Rattle.std.specs.Prelude.{◌≡◌, IfOk, IfErr, [], length, vec_capacity};
 ghost use Rattle.ffv1_slice.specs.Cutting.{span_of, IsCut};
 
 use crate::fault::SliceFault;
 use ffv1_record::OFFSETS;
-use std::alloc::{Allocator, Global};
+use std::alloc::{AllocError, Allocator, Global};
 use std::marker::Model;
 
 /// Where the coded bytes of each slice of a payload begin and end, once `cut` found them. It has
@@ -42,8 +42,21 @@ impl<A: Allocator> Model for Spans<A> {
         }) };
 }
 
+/// So many offsets, all 0, in memory for exactly as many.
+fn fresh_offsets<A: Allocator>(alloc: A, count: usize) -> Result<Vec<usize, A>, AllocError>
+    ensures long { IfOk result (λ v. length v.items ≡ count) }
+    ensures capacity { IfOk result (λ v. vec_capacity v ≡ count) }
+{
+    let mut offsets = Vec::with_capacity(alloc, count)?;
+    for _ in 0..count {
+        offsets.push_reserved(0);
+    }
+    Ok(offsets)
+}
+
 impl<A: Allocator> Spans<A> {
-    /// No slices, and room for 1025 offsets. Answers `OutOfMemory` if that was refused.
+    /// No slices, and room for 1025 offsets, in memory for exactly as many. Answers `OutOfMemory`
+    /// if that was refused.
     pub fn new(alloc: A) -> Result<Spans<A>, SliceFault>
         ensures ok { IfOk result (λ s. s ≡ record {
           offsets = [];
@@ -51,9 +64,10 @@ impl<A: Allocator> Spans<A> {
           room = 1025;
           capacity = s.capacity;
         }) }
+        ensures capacity { IfOk result (λ s. s.capacity ≡ 1025) }
         ensures err { IfErr result (λ f. f ≡ SliceFault.OutOfMemory) }
     {
-        let offsets = vec![in alloc; 0usize; OFFSETS]?;
+        let offsets = fresh_offsets(alloc, OFFSETS)?;
         Ok(Spans {
             offsets,
             held: 0,
