@@ -6,7 +6,7 @@ ghost use Rattle.std.proofs.Common.{rules};
 ghost use Rattle.ffv1_range.specs.Symbols.{AllHeld};
 ghost use Rattle.ffv1_plane.specs.Quantisation.{contexts_of};
 ghost use Rattle.ffv1_line.specs.Decoded.{Lined, LinedToRefusal};
-ghost use Rattle.ffv1_line.specs.Encoded.{Written};
+ghost use Rattle.ffv1_line.specs.Encoded.{FailsForGood, Written, MayBeRefusedRow, CountsFirst};
 ghost use Rattle.ffv1_line.specs.Coding.{coding_by};
 ghost use Rattle.ffv1_line.specs.Coder.{decoder_by, encoder_by};
 ghost use Rattle.ffv1_line.specs.Above.{rows_above};
@@ -93,7 +93,16 @@ pub trait LineWord: Word {
             coding.now.bits) (encoder_by encoder.old states.old) (encoder_by encoder.new states.new)
             (rows_above (Self.samples above.now.two.now) (Self.samples above.now.one.now))
             (Self.samples cur.now) (length (Self.samples cur.now))) }
-        ensures held { AllHeld coding.now.table.now states.new };
+        ensures refused { OnErr result (MayBeRefusedRow (coding_by coding.now.table.now
+            coding.now.set.now coding.now.bits) (encoder_by encoder.old states.old)
+            (rows_above (Self.samples above.now.two.now) (Self.samples above.now.one.now))
+            (Self.samples cur.now) (length (Self.samples cur.now))) }
+        ensures held { AllHeld coding.now.table.now states.new }
+        ensures err { FailsForGood result encoder.new }
+        ensures kept { OnErr result (CountsFirst (coding_by coding.now.table.now coding.now.set.now
+            coding.now.bits) encoder.old.counts encoder.new.counts
+            (rows_above (Self.samples above.now.two.now) (Self.samples above.now.one.now))
+            (Self.samples cur.now)) };
 
     /// Sets each sample of some lines to 0.
     fn clear(lines: &mut [Self])
