@@ -1,6 +1,6 @@
 //! The rows of a slice's cells, read from its picture.
 
-ghost use Rattle.std.specs.Prelude.{vec_capacity};
+ghost use Rattle.std.specs.Prelude.{vec_capacity, OnErr, ◌⊎◌};
 ghost use Rattle.std.specs.Prelude.{◌≡◌, ◌+◌, ◌*◌, ◌^◌, ◌<◌, ◌≤◌, ℕ, length, replicate, OnOk, true};
 ghost use Rattle.ffv1_samples.specs.Samples.{AreBelow, numbers_of_pairs, sample_bytes, samples_of};
 ghost use Rattle.ffv1_rct.specs.Lines.{AreCoded, AreCodedIn};
@@ -82,6 +82,8 @@ pub(crate) fn restart<W: LineWord, A: Allocator>(
     ensures two_room { vec_capacity rows.old.two ≤ vec_capacity rows.new.two }
     ensures one_room { vec_capacity rows.old.one ≤ vec_capacity rows.new.one }
     ensures cur_room { vec_capacity rows.old.cur ≤ vec_capacity rows.new.cur }
+    ensures full { OnErr result ((vec_capacity rows.old.two < width)
+        ⊎ (vec_capacity rows.old.one < width) ⊎ (vec_capacity rows.old.cur < width)) }
 {
     W::renew(&mut rows.two, width)?;
     W::renew(&mut rows.one, width)?;

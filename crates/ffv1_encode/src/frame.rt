@@ -1,7 +1,7 @@
 //! Encodes pictures.
 
 ghost use Rattle.std.specs.Prelude.{◌≡◌, ◌⊎◌, ◌+◌, ◌*◌, ◌<◌, ◌≤◌, ◌++◌, ℕ, IfOk, IfErr, OnOk};
-ghost use Rattle.std.specs.Prelude.{OnErr, Err, [], length, vec_capacity};
+ghost use Rattle.std.specs.Prelude.{OnErr, Err, [], length, vec_capacity, ◌≢◌};
 ghost use Rattle.ffv1_slice.specs.Footer.{footer_of, foot_length};
 ghost use Rattle.ffv1_frame.specs.declared.fault.CodecFault.TheVariants as fault;
 ghost use Rattle.ffv1_frame.specs.Picture.{Fits};
@@ -10,7 +10,8 @@ ghost use Rattle.ffv1_frame.specs.Length.{slice_counts, slice_renormalisations, 
 ghost use Rattle.ffv1_frame.specs.Length.{frame_most, uncounted};
 ghost use Rattle.ffv1_frame.specs.Length.{KeepsCapacities, no_capacities};
 ghost use Rattle.ffv1_frame.specs.Frame.{sealed_slice};
-ghost use Rattle.ffv1_encode.specs.Internal.Scratch.{capacities_of};
+ghost use Rattle.ffv1_frame.specs.SliceList.{bits_of};
+ghost use Rattle.ffv1_encode.specs.Internal.Scratch.{capacities_of, capacity_of_planes};
 
 use crate::slice::Slice;
 use crate::slice_bytes::{Scratch, code_slice};
@@ -68,6 +69,10 @@ fn add_slice<R: Allocator + Copy, A: Allocator, B: Allocator>(
         slice.now.picture.now slice.now.info slice.now.number)))) }
     ensures room { vec_capacity scratch.old.states ≤ vec_capacity scratch.new.states }
     ensures capacity { KeepsCapacities (capacities_of scratch.old) (capacities_of scratch.new) }
+    ensures wide_alone { bits_of slice.now.checked.now.configuration ≡ 17 →
+        capacity_of_planes scratch.new.rows.narrow ≡ capacity_of_planes scratch.old.rows.narrow }
+    ensures narrow_alone { bits_of slice.now.checked.now.configuration ≢ 17 →
+        capacity_of_planes scratch.new.rows.wide ≡ capacity_of_planes scratch.old.rows.wide }
 {
     let coded = code_slice(alloc, scratch, slice)?;
     let bytes = coded.bytes.as_slice();
@@ -96,6 +101,10 @@ fn put_slices<R: Allocator + Copy, A: Allocator, B: Allocator>(
         ⊎ ((f ≡ fault.SliceTooLong) × HasLongSlice checked.now picture.now info)) }
     ensures room { vec_capacity scratch.old.states ≤ vec_capacity scratch.new.states }
     ensures capacity { KeepsCapacities (capacities_of scratch.old) (capacities_of scratch.new) }
+    ensures wide_alone { bits_of checked.now.configuration ≡ 17 →
+        capacity_of_planes scratch.new.rows.narrow ≡ capacity_of_planes scratch.old.rows.narrow }
+    ensures narrow_alone { bits_of checked.now.configuration ≢ 17 →
+        capacity_of_planes scratch.new.rows.wide ≡ capacity_of_planes scratch.old.rows.wide }
 {
     laws::slice_length_follows_from_residuals();
     let _table = checked.table();
@@ -192,7 +201,8 @@ impl<A: Allocator + Copy> FrameEncoder<A> {
     /// `Ok`; else `OutOfMemory`, if memory was refused: each frame takes some. Either leaves the
     /// counts. Whatever was answered, the next frame is as a new encoder's, and what was taken for
     /// states, and for rows of words of 16 bits and of 32, is kept for it: of none of the three
-    /// there is less than before.
+    /// there is less than before. Rows of 32 bits take memory only if a coded sample has 17 bits,
+    /// and rows of 16 only if it has fewer.
     pub fn encode<B: Allocator>(
         &mut self,
         picture: &Picture<B>,
@@ -211,6 +221,10 @@ impl<A: Allocator + Copy> FrameEncoder<A> {
             frame_counts self.old.accepted picture.now info) }
         ensures kept { OnErr result (self.new.counts ≡ self.old.counts) }
         ensures capacity { KeepsCapacities self.old.capacities self.new.capacities }
+        ensures wide_alone { bits_of self.old.accepted.configuration ≡ 17 →
+            self.new.capacities.narrow ≡ self.old.capacities.narrow }
+        ensures narrow_alone { bits_of self.old.accepted.configuration ≢ 17 →
+            self.new.capacities.wide ≡ self.old.capacities.wide }
         ensures coded { OnOk result ((n : ℕ) →
             length (slice_bytes self.old.accepted picture.now info n) ≡
             slice_renormalisations self.old.accepted picture.now info n + 1) }

@@ -1,7 +1,7 @@
 //! Puts the decisions of a slice.
 
 ghost use Rattle.std.specs.Prelude.{◌≡◌, ◌⊎◌, ◌+◌, ◌*◌, ◌<◌, ◌≤◌, ℕ, IfErr, OnOk, length, true};
-ghost use Rattle.std.specs.Prelude.{false, replicate};
+ghost use Rattle.std.specs.Prelude.{false, replicate, ◌≢◌};
 ghost use Rattle.ffv1_range.specs.Symbols.{AllHeld, shifted};
 ghost use Rattle.ffv1_plane.specs.Quantisation.{contexts_of};
 ghost use Rattle.ffv1_line.specs.Row.{row_steps, chosen_row, cell_steps, chosen_rows};
@@ -332,6 +332,10 @@ fn put_transformed<R: Allocator, A: Allocator, B: Allocator>(
     ensures err { IfErr result (λ f. f ≡ fault.OutOfMemory) }
     ensures narrow { capacity_of_planes rows.old.narrow ≤ capacity_of_planes rows.new.narrow }
     ensures wide { capacity_of_planes rows.old.wide ≤ capacity_of_planes rows.new.wide }
+    ensures wide_alone { bits_of slice.now.checked.now.configuration ≡ 17 →
+        capacity_of_planes rows.new.narrow ≡ capacity_of_planes rows.old.narrow }
+    ensures narrow_alone { bits_of slice.now.checked.now.configuration ≢ 17 →
+        capacity_of_planes rows.new.wide ≡ capacity_of_planes rows.old.wide }
 {
     if bits_of(slice.checked) == 17 {
         put_lines(encoder, states, &mut rows.wide, slice)?;
@@ -355,7 +359,12 @@ pub(crate) fn put_body<R: Allocator, A: Allocator, B: Allocator>(
     ensures err { IfErr result (λ f. f ≡ fault.OutOfMemory) }
     ensures narrow { capacity_of_planes rows.old.narrow ≤ capacity_of_planes rows.new.narrow }
     ensures wide { capacity_of_planes rows.old.wide ≤ capacity_of_planes rows.new.wide }
+    ensures wide_alone { bits_of slice.now.checked.now.configuration ≡ 17 →
+        capacity_of_planes rows.new.narrow ≡ capacity_of_planes rows.old.narrow }
+    ensures narrow_alone { bits_of slice.now.checked.now.configuration ≢ 17 →
+        capacity_of_planes rows.new.wide ≡ capacity_of_planes rows.old.wide }
 {
+    let _depth = slice.checked.depth();
     if slice.checked.config().colour.is_rct() {
         put_transformed(encoder, states, rows, slice)?;
         return Ok(());

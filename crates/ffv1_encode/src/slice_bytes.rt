@@ -1,12 +1,12 @@
 //! The coded bytes of a slice.
 
 ghost use Rattle.std.specs.Prelude.{◌≡◌, ◌+◌, ◌^◌, ◌<◌, ◌≤◌, ◌++◌, ℕ, IfOk, IfErr, OnOk, length};
-ghost use Rattle.std.specs.Prelude.{OnErr, replicate, vec_capacity};
+ghost use Rattle.std.specs.Prelude.{OnErr, replicate, vec_capacity, ◌≢◌};
 ghost use Rattle.ffv1_range.specs.Writing.{unwritten};
 ghost use Rattle.ffv1_line.specs.Length.{row_decisions};
 ghost use Rattle.ffv1_slice.specs.Head.{key_steps, head_steps};
 ghost use Rattle.ffv1_frame.specs.declared.fault.CodecFault.TheVariants as fault;
-ghost use Rattle.ffv1_frame.specs.SliceList.{chosen_head, chosen_slice};
+ghost use Rattle.ffv1_frame.specs.SliceList.{bits_of, chosen_head, chosen_slice};
 ghost use Rattle.ffv1_frame.specs.Frame.{slice_bytes};
 ghost use Rattle.ffv1_frame.specs.Length.{slice_residuals, slice_renormalisations};
 ghost use Rattle.ffv1_frame.specs.Length.{KeepsCapacities, no_capacities};
@@ -120,6 +120,10 @@ fn put_slice<R: Allocator, A: Allocator, B: Allocator>(
     ensures err { IfErr result (λ f. f ≡ fault.OutOfMemory) }
     ensures narrow { capacity_of_planes rows.old.narrow ≤ capacity_of_planes rows.new.narrow }
     ensures wide { capacity_of_planes rows.old.wide ≤ capacity_of_planes rows.new.wide }
+    ensures wide_alone { bits_of slice.now.checked.now.configuration ≡ 17 →
+        capacity_of_planes rows.new.narrow ≡ capacity_of_planes rows.old.narrow }
+    ensures narrow_alone { bits_of slice.now.checked.now.configuration ≢ 17 →
+        capacity_of_planes rows.new.wide ≡ capacity_of_planes rows.old.wide }
 {
     range_laws::each_decision_has_a_state();
     range_laws::counters_from_zero_show_all_steps();
@@ -149,6 +153,10 @@ pub(crate) fn code_slice<R: Allocator + Copy, A: Allocator, B: Allocator>(
     ensures err { IfErr result (λ f. f ≡ fault.OutOfMemory) }
     ensures room { vec_capacity scratch.old.states ≤ vec_capacity scratch.new.states }
     ensures capacity { KeepsCapacities (capacities_of scratch.old) (capacities_of scratch.new) }
+    ensures wide_alone { bits_of slice.now.checked.now.configuration ≡ 17 →
+        capacity_of_planes scratch.new.rows.narrow ≡ capacity_of_planes scratch.old.rows.narrow }
+    ensures narrow_alone { bits_of slice.now.checked.now.configuration ≢ 17 →
+        capacity_of_planes scratch.new.rows.wide ≡ capacity_of_planes scratch.old.rows.wide }
 {
     renew(&mut scratch.states, states_in(slice.checked))?;
     let mut encoder = RangeEncoder::new(alloc);

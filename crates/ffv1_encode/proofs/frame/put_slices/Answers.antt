@@ -31,6 +31,8 @@ loop-number-init g c = record {
   renormalisations_few = omega arith;
   room = omega arith;
   capacity = kept_at_first _;
+  wide_alone = λ _. refl;
+  narrow_alone = λ _. refl;
 }
 
 pub returns-in_err-counts-clause-err : goal.returns-in_err-counts-clause-err
@@ -100,6 +102,10 @@ loop-number-preserved g c =
       );
       room = omega (arith, c.loop-number.invariant.room, c.add_slice.ensures.room);
       capacity = kept_then c.loop-number.invariant.capacity c.add_slice.ensures.capacity;
+      wide_alone = λ bits. c.add_slice.ensures.wide_alone bits
+          ∙ c.loop-number.invariant.wide_alone bits;
+      narrow_alone = λ bits. c.add_slice.ensures.narrow_alone bits
+          ∙ c.loop-number.invariant.narrow_alone bits;
     }
 
 pub returns-clause-ok : goal.returns-clause-ok

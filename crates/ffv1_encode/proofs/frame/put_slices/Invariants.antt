@@ -1,11 +1,12 @@
 use Rattle.std.proofs.Common.{◌≡◌, ℕ, ◌*◌, ◌^◌, ◌<◌, ◌≤◌, length, map}
-use Rattle.std.specs.Prelude.{sum, vec_capacity}
+use Rattle.std.specs.Prelude.{◌≢◌, sum, vec_capacity}
 use Rattle.std.specs.List.{flat_map, range_with_len}
 use Rattle.ffv1_line.specs.Length.{row_decisions}
 use Rattle.ffv1_slice.specs.Cutting.{joined_of}
 use Rattle.ffv1_frame.specs.Frame.{slice_bytes}
 use Rattle.ffv1_frame.specs.Length.{KeepsCapacities, slice_residuals, slice_renormalisations}
-use Rattle.ffv1_encode.specs.Internal.Scratch.{capacities_of}
+use Rattle.ffv1_frame.specs.SliceList.{bits_of}
+use Rattle.ffv1_encode.specs.Internal.Scratch.{capacities_of, capacity_of_planes}
 use Rattle.ffv1_encode.proofs.frame.put_slices.Given as goal
 
 abbrev pub invariant-loop-number : goal.invariant-loop-number
@@ -23,4 +24,8 @@ invariant-loop-number g l =
       renormalisations_few : l.renormalisations ≤ l.number * 16777215;
       room : vec_capacity l.fn.scratch.states ≤ vec_capacity l.scratch.states;
       capacity : KeepsCapacities (capacities_of l.fn.scratch) (capacities_of l.scratch);
+      wide_alone : bits_of a.configuration ≡ 17 → capacity_of_planes l.scratch.rows.narrow
+          ≡ capacity_of_planes l.fn.scratch.rows.narrow;
+      narrow_alone : bits_of a.configuration ≢ 17 → capacity_of_planes l.scratch.rows.wide
+          ≡ capacity_of_planes l.fn.scratch.rows.wide;
     }
