@@ -145,7 +145,7 @@ module _ {A : Type 0} (d : Division) (items : List (Vec ℕ A)) (begun : AreBegu
     pub plane_kept : (q : ℕ) → q ≢ p → plane (planes_of (slice_set items p v)) q ≡ plane (planes_of items) q
     plane_kept q other = ap (λ z. plane z q) set_is ∙ plane_other (planes_of items) p q v.items other
 
-    pub still_begun : length v.items ≤ plane_size d p → plane_size d p ≤ vec_capacity v → AreBegun d (slice_set items p v)
+    pub still_begun : length v.items ≤ plane_size d p → vec_capacity v ≡ plane_size d p → AreBegun d (slice_set items p v)
     still_begun few room = record {
       division = begun.division;
       count = length-set items p v ∙ begun.count;
@@ -154,8 +154,8 @@ module _ {A : Type 0} (d : Division) (items : List (Vec ℕ A)) (begun : AreBegu
         | inr other ↦ subst (λ (z : List ℕ). length z ≤ plane_size d q) (sym (plane_kept q other)) (begun.few q h)
       ];
       room = λ q w h. elim (cases_eq q p) [
-        | inl here ↦ subst (λ k. plane_size d k ≤ vec_capacity (get_or (slice_set items p v) k w)) (sym here) (subst (λ (z : Vec ℕ A). plane_size d p ≤ vec_capacity z) (sym (get_or-set_same items p v w at_items)) room)
-        | inr other ↦ subst (λ (z : Vec ℕ A). plane_size d q ≤ vec_capacity z) (sym (get_or-set_other items p q v w other)) (begun.room q w h)
+        | inl here ↦ subst (λ k. vec_capacity (get_or (slice_set items p v) k w) ≡ plane_size d k) (sym here) (subst (λ (z : Vec ℕ A). vec_capacity z ≡ plane_size d p) (sym (get_or-set_same items p v w at_items)) room)
+        | inr other ↦ subst (λ (z : Vec ℕ A). vec_capacity z ≡ plane_size d q) (sym (get_or-set_other items p q v w other)) (begun.room q w h)
       ];
     }
 

@@ -1,6 +1,7 @@
 //! Decodes frames.
 
 ghost use Rattle.std.specs.Prelude.{◌≡◌, ℕ, List, Ok, Err, OnOk, IfOk, IfErr, length};
+ghost use Rattle.std.specs.Prelude.{vec_capacity};
 ghost use Rattle.ffv1_record.specs.Held.{held_of};
 ghost use Rattle.ffv1_slice.specs.Cutting.{CutsTo, IsRefused};
 ghost use Rattle.ffv1_slice.specs.declared.cutting.CutFault.{CutFault};
@@ -10,6 +11,7 @@ ghost use Rattle.ffv1_frame.specs.Answer.{decided_by};
 ghost use Rattle.ffv1_frame.specs.Cost.{HasCost};
 ghost use Rattle.ffv1_frame.specs.Handed.{HandsFinishes};
 ghost use Rattle.ffv1_decode.specs.Internal.Buffers.{HoldBits, KeepsLengths, length_of_lines};
+ghost use Rattle.ffv1_decode.specs.Internal.Buffers.{capacity_of_lines};
 ghost use Rattle.ffv1_frame.specs.SliceList.{bits_of};
 ghost use Rattle.ffv1_frame.specs.Headline.{Headline};
 ghost use Rattle.ffv1_frame.specs.Damage.{HasBurst, IsDamaged};
@@ -86,20 +88,37 @@ impl<A: Allocator> Model for FrameDecoder<A> {
     }) × HoldBits d.buffers.lines (bits_of d.checked.configuration) };
 }
 
-/// Columns of which none is open.
+/// Columns of which none is open, in memory for exactly as many.
 fn fresh_columns<A: Allocator>(alloc: A, count: usize) -> Result<Vec<Column, A>, AllocError>
-    ensures { IfOk result (λ v. length v.items ≡ count) }
+    ensures long { IfOk result (λ v. length v.items ≡ count) }
+    ensures capacity { IfOk result (λ v. vec_capacity v ≡ count) }
 {
     let mut columns = Vec::with_capacity(alloc, count)?;
     for k in 0..count {
-        columns.push(Column {
+        columns.push_reserved(Column {
             parked: None,
             first: 0,
             last: 0,
             indexes: [0; 3],
-        })?;
+        });
     }
     Ok(columns)
+}
+
+/// So many copies of a number, in memory for exactly as many.
+fn copies<T: Copy + Drop, A: Allocator>(
+    alloc: A,
+    number: T,
+    count: usize,
+) -> Result<Vec<T, A>, AllocError>
+    ensures long { IfOk result (λ v. length v.items ≡ count) }
+    ensures capacity { IfOk result (λ v. vec_capacity v ≡ count) }
+{
+    let mut copies = Vec::with_capacity(alloc, count)?;
+    for _ in 0..count {
+        copies.push_reserved(number);
+    }
+    Ok(copies)
 }
 
 /// Lines of so many samples, for pictures of a configuration: in words of 32 bits if a coded
@@ -111,12 +130,13 @@ fn fresh_lines<A: Allocator, B: Allocator>(
 ) -> Result<Lines<A>, AllocError>
     ensures long { IfOk result (λ v. length_of_lines v ≡ samples) }
     ensures bits { IfOk result (λ v. HoldBits v (bits_of checked.now.configuration)) }
+    ensures capacity { IfOk result (λ v. capacity_of_lines v ≡ samples) }
 {
     if bits_of(checked) == 17 {
-        let wide = vec![in alloc; 0u32; samples]?;
+        let wide = copies(alloc, 0u32, samples)?;
         return Ok(Lines::Wide(wide));
     }
-    let narrow = vec![in alloc; 0u16; samples]?;
+    let narrow = copies(alloc, 0u16, samples)?;
     Ok(Lines::Narrow(narrow))
 }
 
@@ -191,9 +211,9 @@ fn cut_payload<A: Allocator, B: Allocator>(
 
 impl<A: Allocator + Copy> FrameDecoder<A> {
     /// A decoder of pictures of this configuration, in its profile. All the memory that it ever
-    /// takes is taken here, in five vectors as long as `Checked::held` says: the pictures' height
-    /// says only whether two lines of chroma are kept. Answers `OutOfMemory` if one of them was
-    /// refused.
+    /// takes is taken here, in five vectors as long as `Checked::held` says, each in memory for
+    /// exactly as many: the pictures' height says only whether two lines of chroma are kept.
+    /// Answers `OutOfMemory` if one of them was refused.
     pub fn new(alloc: A, checked: Checked<A>) -> Result<FrameDecoder<A>, CodecFault>
         ensures ok { IfOk result (λ d. d ≡ record {
           accepted = checked;
@@ -201,12 +221,13 @@ impl<A: Allocator + Copy> FrameDecoder<A> {
           held = held_of checked.configuration;
           capacities = d.capacities;
         }) }
+        ensures capacities { IfOk result (λ d. d.capacities ≡ held_of checked.configuration) }
         ensures err { IfErr result (λ f. f ≡ fault.OutOfMemory) }
     {
         let held = checked.held();
-        let states = vec![in alloc; 128u8; held.states]?;
+        let states = copies(alloc, 128u8, held.states)?;
         let lines = fresh_lines(alloc, &checked, held.samples)?;
-        let out = vec![in alloc; 0u8; held.output]?;
+        let out = copies(alloc, 0u8, held.output)?;
         let columns = fresh_columns(alloc, held.columns)?;
         let Ok(spans) = Spans::new(alloc) else {
             return Err(CodecFault::OutOfMemory);

@@ -9,7 +9,7 @@ ghost use Rattle.std.specs.Vec.{vec_capacity};
 ghost use Rattle.std.specs.Borrow.{sem};
 ghost use Rattle.std.specs.Io.BufRead.{Rests};
 ghost use Rattle.ffv1_decode.specs.contracts.sinks.KeepLines.{the_row};
-ghost use Rattle.ffv1_decode.specs.Filled.{filled, filled_planes};
+ghost use Rattle.ffv1_decode.specs.Filled.{AreRooms, filled, filled_planes};
 ghost use Rattle.ffv1_decode.specs.Internal.Begun.{AreBegun};
 ghost use Rattle.ffv1_frame.specs.Picture.{AreOf, plane, planes_of};
 ghost use Rattle.ffv1_frame.specs.Kept.{IsLine, with_samples, Keeps, KeepsNot, Drops, DropsNot};
@@ -75,8 +75,8 @@ fn keep<A: Allocator>(plane: &mut Vec<u8, A>, y: usize, line: &[u8])
 /// Keeps the lines of a picture, each in its place. It refuses exactly the lines that are not of
 /// its configuration, and counts them modulo 2^64.
 ///
-/// Room for all planes is set aside at once, and first written as the lines come: a picture that is
-/// refused early costs the lines that it had.
+/// Room for all planes is set aside at once, for exactly their bytes, and first written as the
+/// lines come: a picture that is refused early costs the lines that it had.
 #[derive(Drop)]
 pub struct KeepLines<A: Allocator = Global> {
     grid: Grid,
@@ -148,10 +148,12 @@ impl<A: Allocator + Copy> KeepLines<A> {
 }
 
 impl<A: Allocator> KeepLines<A> {
-    /// The planes: each accepted line in its place, and 0 where there was none.
+    /// The planes: each accepted line in its place, and 0 where there was none. Each has memory for
+    /// exactly its bytes, as it had from the beginning.
     pub fn planes(&mut self) -> &[Vec<u8, A>]
         ensures value { self.old.planes ≡ planes_of result.now }
         ensures sizes { AreOf self.old.grid self.old.planes }
+        ensures rooms { AreRooms self.old.grid result.now }
         ensures* same { sem 𝓛 (Rests (the_row A.row A.Allocator) self.entry
             (λ new. new ≡ self.old)) }
     {

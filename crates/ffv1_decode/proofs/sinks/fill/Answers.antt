@@ -31,8 +31,8 @@ loop-plane-preserved g c =
     old in
     let long : length v.items ≡ plane_size d k = ap (λ (z : List ℕ). length z) made ∙ filled_long
     (plane_size d k) (plane (planes_of items) k) (begun.few k low) in
-    let room : plane_size d k ≤ vec_capacity entry = begun.room k c.index-planes-plane.result low in
-    let room_now : plane_size d k ≤ vec_capacity v = let same = c.fill_up.ensures.capacity in
+    let room : vec_capacity entry ≡ plane_size d k = begun.room k c.index-planes-plane.result low in
+    let room_now : vec_capacity v ≡ plane_size d k = let same = c.fill_up.ensures.capacity in
     omega (arith, room, same) in
     let still = still_begun d items begun k v low (omega (arith, long)) room_now in
     let same : filled_planes d (planes_of (slice_set items k v)) ≡ filled_planes d
@@ -57,6 +57,17 @@ returns-clause-planes g c =
     all_whole d (planes_of items) (planes_long items ∙ begun.count)
     (λ p h. c.loop-plane.invariant.2 p (omega (arith, h, end)))
     ∙ c.loop-plane.invariant.1
+
+pub fill_up-requires : goal.fill_up-requires
+fill_up-requires g c =
+    let d = c.args.grid.now in
+    let k = c.loop-plane.plane in
+    let begun = c.loop-plane.invariant.0 in
+    let low : k < d.planes = let test = c.loop-plane-test.true in let end =
+    c.planes-plane-end.ensures in omega (arith, test, end) in
+    let room = begun.room k c.index-planes-plane.result low in
+    let size = c.plane_bytes.ensures in
+    omega (arith, room, size)
 
 pub offset_bounds-planes-plane : goal.offset_bounds-planes-plane
 offset_bounds-planes-plane g c = grind (arith, common_steps)

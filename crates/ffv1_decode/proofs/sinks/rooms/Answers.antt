@@ -18,7 +18,7 @@ loop-plane-preserved g c =
     let v = c.in_ok-with_capacity.field-0 in
     let count : length items ≡ n = c.loop-plane.invariant.0 in
     let pushed : c.push.new.self.items ≡ items ++ (v ∷ []) = c.in_ok-push.ensures.items in
-    let room : plane_size d n ≤ vec_capacity v = let exact = c.in_ok-with_capacity.ensures.exact in
+    let room : vec_capacity v ≡ plane_size d n = let exact = c.in_ok-with_capacity.ensures.exact in
     let size = c.plane_bytes.ensures in omega (arith, exact, size) in (
       ap (λ (z : List (Vec ℕ _)). length z) pushed ∙ length_more items v ∙ ap (λ k. k + 1) count,
       λ p h. ap (λ z. plane (planes_of z) p) pushed ∙ elim (cases_lt p n) [
@@ -27,16 +27,16 @@ loop-plane-preserved g c =
         | inr over ↦ let here : p ≡ length items = omega (arith, h, over, count) in last_plane items
             v p here ∙ c.in_ok-with_capacity.ensures.items
       ],
-      λ p w h. subst (λ z. plane_size d p ≤ vec_capacity (get_or z p w)) (sym pushed)
+      λ p w h. subst (λ z. vec_capacity (get_or z p w) ≡ plane_size d p) (sym pushed)
           (elim (cases_lt p n) [
-            | inl less ↦ subst (λ z. plane_size d p ≤ vec_capacity z)
+            | inl less ↦ subst (λ z. vec_capacity z ≡ plane_size d p)
                 (sym (other_item items v p w (omega (arith, less, count))))
                 (c.loop-plane.invariant.2 p w less)
             | inr over ↦
                 let here : p ≡ length items = omega (arith, h, over, count) in
                 let is_n : p ≡ n = omega (arith, here, count) in
-                subst (λ z. plane_size d p ≤ vec_capacity z) (sym (last_item items v p w here))
-                (subst (λ k. plane_size d k ≤ vec_capacity v) (sym is_n) room)
+                subst (λ z. vec_capacity z ≡ plane_size d p) (sym (last_item items v p w here))
+                (subst (λ k. vec_capacity v ≡ plane_size d k) (sym is_n) room)
           ]),
     )
 

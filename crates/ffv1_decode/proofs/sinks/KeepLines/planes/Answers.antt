@@ -4,7 +4,7 @@ use Rattle.std.specs.Vec.{with_items}
 use Rattle.std.specs.declared.vec.Vec.{Vec}
 use Rattle.std.proofs.lemmas.List.{with_items_is}
 use Rattle.std.proofs.lemmas.Grind.{common_steps}
-use Rattle.ffv1_decode.specs.Filled.{filled_planes}
+use Rattle.ffv1_decode.specs.Filled.{AreRooms, filled_planes}
 use Rattle.ffv1_frame.specs.Kept.{Kept}
 use Rattle.ffv1_frame.specs.Picture.{AreOf, Planes, planes_of}
 use Rattle.ffv1_decode.proofs.Filling.{are_of, filled_again}
@@ -41,6 +41,9 @@ returns g c =
         value = sym (ap (λ (k : Kept). k.planes) c.self.view_is) ∙ sym lent;
         sizes = subst (λ (k : Kept). AreOf k.grid k.planes) c.self.view_is
             (are_of d items c.self.invariant);
+        rooms = subst (λ (k : Kept). AreRooms k.grid c.as_slice.result.now) c.self.view_is
+            (subst (λ (z : List (Vec ℕ _)). AreRooms d z)
+            (sym (c.as_slice.ensures.value ∙ held)) c.fill.ensures.begun.room);
         same = tt;
       },
     )

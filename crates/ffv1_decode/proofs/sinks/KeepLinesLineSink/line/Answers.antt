@@ -37,7 +37,7 @@ keep-requires g c =
     let line : IsLine d p c.args.y c.args.samples.now = c.if-not-is_line.ensures.yes refl in
     let fits = line_within d c.self.inside.planes.items c.self.invariant p c.args.y
     c.args.samples.now line in
-    let room = subst (λ (v : Vec ℕ _). plane_size d p ≤ vec_capacity v)
+    let room = subst (λ (v : Vec ℕ _). vec_capacity v ≡ plane_size d p)
     (sym c.index_mut.ensures.value) (c.self.invariant.room p c.index_mut.result.now
     line.in_plane) in
     record { room = omega (arith, fits, room) }
@@ -56,9 +56,9 @@ invariant_of-self-2 g c =
     (sym (made g (goal.at.invariant_of-self-2 g c).After-keep))
     (line_few (plane_size d p) y (plane (planes_of items) p) samples (begun.few p line.in_plane)
     fits) in
-    let room = subst (λ (v : Vec ℕ _). plane_size d p ≤ vec_capacity v)
+    let room = subst (λ (v : Vec ℕ _). vec_capacity v ≡ plane_size d p)
     (sym c.index_mut.ensures.value) (begun.room p c.index_mut.result.now line.in_plane) in
-    let room_now : plane_size d p ≤ vec_capacity c.keep.new.plane = let same =
+    let room_now : vec_capacity c.keep.new.plane ≡ plane_size d p = let same =
     c.keep.ensures.capacity in omega (arith, room, same) in
     still_begun d items begun p c.keep.new.plane line.in_plane few room_now
 
