@@ -2,7 +2,8 @@
 use Rattle.std.specs.Prelude.{◌≡◌, ◌⊎◌, ℕ, Bool, true, false, List, Option, Ok}
 use Rattle.ffv1_wire.specs.Failures.{one_more}
 use Rattle.ffv1_wire.specs.Passage.{Passage}
-use Rattle.ffv1_record.specs.Reading.{ReachesSets}
+use Rattle.ffv1_record.specs.Reading.{IsRefused, ReachesSets}
+use Rattle.ffv1_record.specs.declared.fault.RecordFault.{RecordFault}
 use Rattle.ffv1_files.specs.Places.{Place}
 use Rattle.ffv1_files.specs.Files.{open_read}
 use Rattle.ffv1_reads.specs.Head.{Head}
@@ -11,7 +12,7 @@ use Rattle.ffv1_files.specs.Answers.{ReadFails, WantsMore}
 use Rattle.ffv1_files.specs.Endings.{opening_endings}
 use Rattle.ffv1_reads.specs.Known.{Known}
 use Rattle.ffv1_video.specs.declared.profile.Profile.{Profile}
-use Rattle.ffv1_video.specs.Profiles.{greatest_depth, scope_in}
+use Rattle.ffv1_video.specs.Profiles.{greatest_depth, record_profile, scope_in}
 use Rattle.ffv1_video.specs.declared.fault.Fault.{Fault}
 use Rattle.ffv1_video.specs.declared.fault.Fault.TheVariants as fault
 use Rattle.ffv1_video.specs.Faults.{Cause, cause_of}
@@ -24,13 +25,19 @@ abbrev pub OpensKnown : Profile → Option (List ℕ) → Option (List ℕ) → 
 OpensKnown profile old new head place = Known old new (λ file rest.
     open_read (scope_in profile) file ≡ Ok ((head, place), rest))
 
--- if the text is known, it begins with a head whose record has no fault before its first set:
--- from there on memory is taken
+-- the record of a head has no fault
+abbrev pub HasSoundRecord : Profile → Head → Type 0
+HasSoundRecord profile head = (r : RecordFault) → IsRefused (record_profile profile)
+    (greatest_depth profile) head.config_record head.width head.height r → ⊥
+
+-- if the text is known, it begins with a head whose record has no fault: memory is taken for its
+-- sets, from the first one on
 pub record OpensRecord (profile : Profile) (old new : Option (List ℕ)) : Type 0 where
   pub head : Head
   pub place : Place
   pub known : OpensKnown profile old new head place
   pub reaches : ReachesSets (greatest_depth profile) head.config_record
+  pub sound : HasSoundRecord profile head
 
 -- or with one whose record is accepted: the decoder, and the lines of the stream, take memory
 pub record OpensAccepted (profile : Profile) (old new : Option (List ℕ)) : Type 0 where

@@ -6,6 +6,7 @@ ghost use Rattle.ffv1_reads.specs.Head.{head_of};
 ghost use Rattle.ffv1_files.specs.Offsets.{Reached};
 ghost use Rattle.ffv1_files.specs.Places.{amount, container_of};
 ghost use Rattle.ffv1_record.specs.Reading.{IsRefused, ReachesSets};
+ghost use Rattle.ffv1_record.specs.declared.fault.RecordFault.{RecordFault};
 ghost use Rattle.ffv1_record.specs.declared.fault.RecordFault.TheVariants as record_fault;
 ghost use Rattle.ffv1_video.specs.declared.fault.Fault.TheVariants as fault;
 ghost use Rattle.ffv1_unpack.specs.Containers.{is_profile_fault};
@@ -47,6 +48,9 @@ fn read_head<A: Allocator + Copy>(
         head.now.config_record.items head.now.width head.now.height f) }
     ensures memory { IfErr result (λ f. f ≡ record_fault.OutOfMemory →
         ReachesSets (greatest_depth profile) head.now.config_record.items) }
+    ensures sound { IfErr result (λ f. f ≡ record_fault.OutOfMemory → (g : RecordFault) →
+        IsRefused (record_profile profile) (greatest_depth profile)
+        head.now.config_record.items head.now.width head.now.height g → ⊥) }
 {
     // Both arms are written out, so that the clauses are proved by arm.
     match read_record_in(

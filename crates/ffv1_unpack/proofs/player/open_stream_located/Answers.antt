@@ -6,6 +6,7 @@ use Rattle.ffv1_record.specs.Reading.{IsRefused, ReachesSets}
 use Rattle.ffv1_record.specs.declared.fault.RecordFault.TheVariants as record_fault
 use Rattle.ffv1_reads.specs.Head.{Head}
 use Rattle.ffv1_video.specs.Profiles.{greatest_depth, record_profile, scope_in}
+use Rattle.ffv1_unpack.specs.Opens.{HasSoundRecord}
 use Rattle.ffv1_unpack.specs.Stream.{IsStream}
 use Rattle.ffv1_unpack.proofs.FaultsLocated.{record_located}
 use Rattle.ffv1_unpack.proofs.Openings.{lacks_file, lacks_record}
@@ -24,7 +25,9 @@ returns-in_err-checked-clause-err g c =
     (subst (λ (z : Head). (f ≡ record_fault.OutOfMemory) ⊎ IsRefused (record_profile
     c.args.profile) (greatest_depth c.args.profile) z.config_record z.width z.height f) c.head.ensures.value c.in_err-checked.ensures.err)
     (λ memory. subst (λ (z : Head). ReachesSets (greatest_depth c.args.profile) z.config_record)
-    c.head.ensures.value (c.in_err-checked.ensures.memory memory)))
+    c.head.ensures.value (c.in_err-checked.ensures.memory memory))
+    (λ memory. subst (λ (z : Head). HasSoundRecord c.args.profile z)
+    c.head.ensures.value (c.in_err-checked.ensures.sound memory)))
 
 pub returns-in_err-reader-clause-err : goal.returns-in_err-reader-clause-err
 returns-in_err-reader-clause-err g c =

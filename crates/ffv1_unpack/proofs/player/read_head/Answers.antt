@@ -23,3 +23,7 @@ returns-in-Err-clause-err g c = rw (c.deref.ensures.value, c.of_record.ensures) 
 pub returns-in-Err-clause-memory : goal.returns-in-Err-clause-memory
 returns-in-Err-clause-memory g c = rw (c.deref.ensures.value, c.of_record.ensures) at
     c.in-Err.ensures.memory
+
+pub returns-in-Err-clause-sound : goal.returns-in-Err-clause-sound
+returns-in-Err-clause-sound g c = rw (c.deref.ensures.value, c.of_record.ensures) at
+    c.in-Err.ensures.sound
