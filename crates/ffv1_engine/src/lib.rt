@@ -7,9 +7,10 @@
 //! displays as its number and name. `pack` codes a video into an AVI, and `pack_matroska` into
 //! Matroska, frame by frame; `unpack` decodes a file into a text again; `check` decodes all its
 //! frames up to the first that is refused, and `check_all` all of them; `framemd5` writes the MD5
-//! of each picture as FFmpeg does, and `framemd5_text` of a text; `show` prints what a file says;
-//! and `trial` codes the first picture of a text and decodes it again; `code_plane` is its first
-//! half, over samples. The test `trials::example` of `ffv1_tests` runs these lines:
+//! of each picture as FFmpeg does, and `framemd5_text` of a text; `check_against` compares them
+//! with those of a list, which `read_list` reads; `show` prints what a file says; and `trial` codes
+//! the first picture of a text and decodes it again; `code_plane` is its first half, over samples.
+//! The test `trials::example` of `ffv1_tests` runs these lines:
 //!
 //! ```text
 //! if let Order::Trial { .. } = words(alloc, &["ffv1", "trial", "disc.y4m"])? {
@@ -23,7 +24,10 @@ pub mod round_trip;
 pub use ffv1_pack::{
     Coded, Packed, PackedMatroska, code_plane, framemd5_text, laws, pack, pack_matroska, trial,
 };
-pub use ffv1_unpack::{check, check_all, frame_line, framemd5, player, show, unpack};
+pub use ffv1_unpack::{
+    ListFault, Unlike, check, check_against, check_all, frame_line, framemd5, player, read_list,
+    show, unpack,
+};
 pub use ffv1_video::{Fault, Profile};
 pub use ffv1_words::{
     Choice, CodecIdChoice, CoderChoice, ColourChoice, ContainerChoice, Order, RangeChoice,

@@ -21,3 +21,6 @@ mod FileSteps
 mod LineParts
 mod OwnFaults
 mod Md5sSoFar
+mod Md5Numbers
+mod Md5Lists
+mod FramesCompared

@@ -1,10 +1,12 @@
 -- What ties calls within the crate to the definitions. No public clause cites it.
+pub mod Compared
 pub mod Containers
 pub mod FrameLines
 pub mod FrameMd5
 pub mod ImagesOut
 pub mod Judged
 pub mod Located
+pub mod Md5List
 pub mod Opens
 pub mod PicturesOut
 pub mod Play

@@ -15,5 +15,8 @@ pub mod Unpacking
 pub mod Unpack
 pub mod StreamLines
 pub mod FrameMd5
+pub mod Compared
+pub mod Md5Line
+pub mod Md5List
 pub mod Show
 pub mod Internal

@@ -2,16 +2,20 @@
 //! The commands that read a file, an AVI or Matroska, as calls over any reader and writer of bytes.
 //!
 //! `unpack` decodes a file into a text; `check` decodes all its frames up to the first that is
-//! refused, and `check_all` all of them; `framemd5` writes the MD5 of each picture as FFmpeg does;
-//! and `show` prints what a file says. Each is a loop over a `Player`, which reads and decodes a
-//! frame at a time.
+//! refused, and `check_all` all of them; `framemd5` writes the MD5 of each picture as FFmpeg does,
+//! and `check_against` compares them with those of a list, which `read_list` reads; and `show`
+//! prints what a file says. Each is a loop over a `Player`, which reads and decodes a frame at a
+//! time.
 #![tactic(auto)]
 
 mod checking;
+mod comparing;
 pub mod frame_line;
 mod hashing;
 mod images_out;
 mod judging;
+mod md5_line;
+mod md5_list;
 mod pictures_out;
 pub mod player;
 mod showing;
@@ -20,6 +24,8 @@ mod telling;
 mod unpacking;
 
 pub use checking::{check, check_all};
+pub use comparing::{Unlike, check_against};
 pub use hashing::framemd5;
+pub use md5_list::{ListFault, read_list};
 pub use showing::show;
 pub use unpacking::unpack;

@@ -97,11 +97,7 @@ fn hashed_picture<A: Allocator>(rct: bool, depth: u32, planes: &[Vec<u8, A>]) ->
 }
 
 /// How many bytes a picture has, at most 2^64 - 1, and their MD5.
-pub(crate) fn picture_md5<A: Allocator>(
-    rct: bool,
-    depth: u32,
-    planes: &[Vec<u8, A>],
-) -> (u64, [u8; 16])
+pub fn picture_md5<A: Allocator>(rct: bool, depth: u32, planes: &[Vec<u8, A>]) -> (u64, [u8; 16])
     requires { rct ≡ true → AreEven (planes_of planes.now) }
     ensures size { result.0 ≡ saturated (length (raw_bytes rct depth (planes_of planes.now))) }
     ensures hash { result.1 ≡ md5 (raw_bytes rct depth (planes_of planes.now)) }
