@@ -18,6 +18,7 @@ _ffv1() {
         --range) words="auto limited full" ;;
         --siting) words="auto left centre topleft" ;;
         --ec) words="0 1" ;;
+        --against) mapfile -t COMPREPLY < <(compgen -f -- "$word"); return ;;
         --columns | --rows | --rate | --scale | --primaries | --transfer | --matrix) return ;;
     esac
     if [ -z "$words" ]; then
@@ -30,7 +31,7 @@ _ffv1() {
                 words="$words --verify --no-clobber --progress --help"
                 ;;
             unpack) words="--no-clobber --progress --help" ;;
-            check) words="--all --place --quiet --progress --help" ;;
+            check) words="--all --place --quiet --against --progress --help" ;;
             show) words="--cost --help" ;;
             framemd5 | trial) words="--help" ;;
         esac

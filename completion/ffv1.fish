@@ -36,5 +36,6 @@ complete -c ffv1 -n "__fish_seen_subcommand_from unpack" -l progress -d "Say how
 complete -c ffv1 -n "__fish_seen_subcommand_from check" -l all -d "Go on after a frame that is refused"
 complete -c ffv1 -n "__fish_seen_subcommand_from check" -l place -d "Say where in a frame or a file"
 complete -c ffv1 -n "__fish_seen_subcommand_from check" -l quiet -d "Print one line of each file"
+complete -c ffv1 -n "__fish_seen_subcommand_from check" -l against -r -d "Compare with a list of MD5s"
 complete -c ffv1 -n "__fish_seen_subcommand_from check" -l progress -d "Say how much is read"
 complete -c ffv1 -n "__fish_seen_subcommand_from show" -l cost -d "Tell what each frame costs"

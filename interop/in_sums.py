@@ -62,4 +62,17 @@ def of_texts(results):
                 results.same(f"{kind.name} {container}: FFmpeg's lines", theirs(file, kind.name), lines[0])
 
 
-PARTS = [of_eight, of_depths, of_texts]
+def of_lists(results):
+    """Files against FFmpeg's list of them and of sound before them."""
+    for name, pixels in [("yuv422p", "yuv422p"), ("bgr0", "rgb24")]:
+        file = encoded("listed.mkv", name, 64, 48, "-slices", "4", filters="null", rate="25")
+        listed = ffmpeg("-f", "lavfi", "-i", "sine=d=1", "-i", file, "-map", "0:a", "-map", "1:v:0",
+                        "-pix_fmt", pixels, "-f", "framemd5", "-")
+        frames = sum(line.startswith(b"1,") for line in listed.splitlines())
+        save("listed.framemd5", listed)
+        results.same(f"{name}: check --against FFmpeg's list",
+                     ffv1("check", "--against", "listed.framemd5", file),
+                     (0, f"frames {frames}\n".encode(), ""))
+
+
+PARTS = [of_eight, of_depths, of_texts, of_lists]

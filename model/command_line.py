@@ -63,7 +63,7 @@ COMMANDS = {
         "matrix": (number(0, 255), 2),
     }, flags=["verify", "no-clobber", "progress"]),
     "unpack": Level(2, flags=["no-clobber", "progress"]),
-    "check": Level(1, flags=["all", "place", "quiet", "progress"], most=math.inf),
+    "check": Level(1, {"against": (str, None)}, ["all", "place", "quiet", "progress"], math.inf),
     "show": Level(1, flags=["cost"], most=math.inf),
     "framemd5": Level(1, most=math.inf),
     "trial": Level(1),
@@ -130,6 +130,14 @@ def taken(level, words):
     return paths, found
 
 
+def is_list_refused(found, paths):
+    """Whether a list of MD5s does not go with the other words: it is of one file, whose first fault
+    ends it and whose place is not told; and standard input is read once."""
+    if "against" not in found:
+        return False
+    return bool({"all", "place"} & set(found)) or len(paths) != 1 or found["against"] == paths[0] == "-"
+
+
 def is_topic(word):
     """Whether help knows a word: the faults, or the number of one; 2 is no fault of the model's."""
     is_number = re.fullmatch("[+]?[0-9]+", word, re.ASCII)
@@ -153,6 +161,8 @@ def words(line):
         raise Refused(paths[1])
     if level.most > 2 and paths.count("-") > 1:
         raise Refused("-")
+    if name == "check" and is_list_refused(found, paths):
+        raise Refused(found["against"])
     choice = {name: default for name, (_, default) in level.options.items()}
     order = Order(name, paths, {**choice, **dict.fromkeys(level.flags, False), **found})
     if order.choice.get("container") == "auto" and paths[1].lower().endswith(OTHERS):

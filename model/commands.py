@@ -7,8 +7,6 @@
 The words, the printed lines, the faults on standard error, the exit status and what is left in OUT
 are those of the program; the text of clap, for help and for a line that is refused, is not.
 """
-import hashlib
-import math
 import os
 import stat
 import sys
@@ -19,8 +17,10 @@ import ebml
 import ffv1
 import files
 import matroska
+import md5_lists
 from command_line import COMMANDS, Help, Kept, Refused, number, words
 from ffv1 import Fault
+from md5_lists import md5_header, md5_line, raw_bytes
 from packing import is_matroska, pack, pack_matroska, said_in
 from quiet import quietly
 from record import are_multiples
@@ -233,37 +233,6 @@ def show(source, out, cost):
 
 # ----------------------------------------------------------------------------------------- framemd5
 
-def raw_bytes(planes, rct, depth):
-    """The bytes of a picture whose MD5 is printed: as FFmpeg has it as rawvideo, of RGB of 8 bits as
-    rgb24 or rgba, a sample of each colour at a time, and of more bits as planes of green, blue and
-    red. Samples of more than 8 bits have two bytes, the low one first."""
-    if rct and depth == 8:
-        rows = zip(*planes)
-        return bytes(sample for row in rows for place in zip(*row) for sample in place)
-    if rct:
-        red, green, blue, *extra = planes
-        planes = [green, blue, red, *extra]
-    return b"".join(files.bytes_of(line, depth, "little") for plane in planes for line in plane)
-
-
-def md5_header(head, aspect):
-    """The lines before those of the frames. The rate is in lowest terms, as FFmpeg has it. Own: where
-    none is known it is 25, as FFmpeg has it, and where no aspect is known it is 0/1."""
-    common = math.gcd(head.rate, head.scale) or 1
-    rate, scale = (head.rate // common, head.scale // common) if head.rate else (25, 1)
-    num, den = aspect if aspect[0] else (0, 1)
-    return (f"#format: frame checksums\n#version: 2\n#hash: MD5\n#software: ffv1\n"
-            f"#tb 0: {scale}/{rate}\n#media_type 0: video\n#codec_id 0: rawvideo\n"
-            f"#dimensions 0: {head.width}x{head.height}\n#sar 0: {num}/{den}\n"
-            "#stream#, dts,        pts, duration,     size, hash\n")
-
-
-def md5_line(number, data):
-    """The line of a picture."""
-    return (f"0, {number:10}, {number:10}, {1:8}, {len(data):8}, "
-            f"{hashlib.md5(data).hexdigest()}\n")
-
-
 def told_pictures(source):
     """The head of a file or of a text, and its pictures, each with its aspect."""
     first = source.some(1)
@@ -407,15 +376,35 @@ def make(order, source, descriptors, output):
     return told
 
 
+def list_of(path, standard_input):
+    """The MD5s of a list, if there is one."""
+    if path is None:
+        return None
+    try:
+        with open(os.dup(standard_input) if path == "-" else path, "rb") as file:
+            return md5_lists.md5s_of(file, path)
+    except OSError:
+        raise md5_lists.Unlike(56, "", path)
+
+
+def compare(md5s, source, out):
+    """Compares all pictures of a file with MD5s."""
+    _, config, frames, _ = opened(source)
+    pictures = decoded_pictures(config, frames)
+    md5_lists.compare(md5s, (raw_bytes(p, config.rct, config.depth) for p, _ in pictures), out)
+
+
 @quietly
 def perform(order, path, output, standard_input):
     """Does what a line asks for with this IN, opened before OUT. It answers what standard error has."""
-    told = ""
+    told, md5s = "", list_of(order.choice.get("against"), standard_input)
     descriptors = [os.dup(standard_input) if path == "-" else opened_file(path, os.O_RDONLY, 56)]
     try:
         source = files.Source(lambda count: os.read(descriptors[0], count))
         if order.command in ("pack", "unpack"):
             told = make(order, source, descriptors, output)
+        elif md5s:
+            compare(md5s, source, output)
         elif order.command == "check":
             check(source, output, order.choice["place"], order.choice["all"])
         elif order.command == "show":

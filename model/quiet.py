@@ -25,7 +25,8 @@ def verdict(lines, fault, every):
         first = next(line for line in lines if line.startswith("fault"))
         _, frames, _, faults = last.split()
         return f"{faults} of {frames} frames refused, the first {fault}{place_of(first)}"
-    return f"{fault}{'' if every and ' slice ' in last else place_of(last)}"
+    where = getattr(fault, "where", "")
+    return f"{fault}{where}{'' if every and ' slice ' in last else place_of(last)}"
 
 
 def quietly(perform):
@@ -40,6 +41,7 @@ def quietly(perform):
                     lines.append, standard_input)
         except Fault as fault:
             met = fault
+        path = getattr(met, "path", None) or path
         name = "standard input" if path == "-" else path
         output(f"{name}: {verdict(lines, met, order.choice['all'])}\n")
         if met:

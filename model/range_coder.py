@@ -14,9 +14,10 @@ FAULTS = {
     37: "SliceParity", 38: "SliceStatus", 39: "Overlap", 40: "SliceTooLong", 41: "InfoDiffers",
     42: "Sink", 50: "NotAvi", 51: "NoFfv1", 52: "Truncated", 53: "ChunkTooLong", 54: "EmptyFrame",
     55: "TooLarge", 56: "Read", 57: "Write", 60: "Header", 61: "Tag", 62: "Unsupported",
-    63: "FrameLine", 64: "FrameTruncated", 65: "SampleTooLarge", 70: "NoFrames", 71: "FormatChanged", 72: "NoY4mName",
-    73: "NoPpm", 80: "NotMatroska", 81: "BadElement", 82: "NoTracks", 83: "Encoded", 84: "Laced",
-    85: "Checksum", 86: "Rate", 87: "NotSame",
+    63: "FrameLine", 64: "FrameTruncated", 65: "SampleTooLarge", 66: "List", 70: "NoFrames",
+    71: "FormatChanged", 72: "NoY4mName", 73: "NoPpm", 80: "NotMatroska", 81: "BadElement",
+    82: "NoTracks", 83: "Encoded", 84: "Laced", 85: "Checksum", 86: "Rate", 87: "NotSame",
+    89: "Differs",
 }
 
 

@@ -307,6 +307,7 @@ SOME_WORDS = [
     "-x", "-1",
     "pack", "check", "--place=1", "---", "\u00e9", "in/x", "--progress", "--version", "-V",
     "--no-clobber", "--verify", "--container", "--container=mkv", "out.mkv", "--quiet",
+    "--against", "--against=in",
 ]
 OUTPUTS = ["out"] * 24 + ["out.mkv"] * 16 + ["in", "./in", "no/out", "/dev/full", "-", "out.MKV",
                                              "out.mk3d", "out.Mov", "out.ppm"]
@@ -352,6 +353,8 @@ def file_line(dice):
         words = [words[0], "--all", *words[1:]]
     if words[0] == "check" and dice.random() < 0.2:
         words = [words[0], "--quiet", *words[1:]]
+    if words[0] == "check" and dice.random() < 0.2:
+        words = [words[0], "--against", dice.choice(["list", "list", "out", "in"]), *words[1:]]
     if words[0] in ("unpack", "check") and dice.random() < 0.1:
         words = [words[0], "--progress", *words[1:]]
     if words[0] == "unpack" and dice.random() < 0.1:
@@ -359,11 +362,19 @@ def file_line(dice):
     return words if dice.random() < 0.95 else changed(dice, words)
 
 
+def list_of(dice):
+    """A list of MD5s, most often of other pictures."""
+    rows = [f"{dice.choice([0, 0, 0, 1])}, 0, {place}, 1, 1, {md5}\n" for place, md5 in enumerate(
+        dice.choices(["93b885adfe0da089cdf634904fd59f71", "0" * 32, "0" * 31], [8, 4, 1], k=3))]
+    return "".join(rows[:dice.randrange(4)]).encode()
+
+
 def random_case(seed, number):
     """A case by its number."""
     dice = random.Random(f"{seed} {number}")
     kind = dice.random()
     given = {"out": b"what was there"} if dice.random() < 0.5 else {}
+    given.update({"list": list_of(dice)} if dice.random() < 0.3 else {})
     if kind < 0.34:
         return RandomCase(pack_line(dice), {"in": text_of(dice), **given})
     if kind < 0.84:

@@ -6,18 +6,22 @@ use Rattle.ffv1_words.specs.declared.order.Order.TheVariants as order
 use Rattle.ffv1.specs.declared.refusal.Refusal.{Refusal}
 use Rattle.ffv1.specs.declared.refusal.Refusal.TheVariants as refusal
 
--- 0 if it was done, 1 for a fault, 2 if its files are refused
+-- 0 if it was done, 1 for a fault, or if a list or a frame of it is refused, 2 if its files are
 abbrev pub status_of : Result (Unit {0}) Refusal → ℕ
 status_of (Ok done) = 0
 status_of (Err (refusal.Fault f)) = 1
 status_of (Err refusal.OneFile) = 2
 status_of (Err refusal.Exists) = 2
+status_of (Err (refusal.Differs frame)) = 1
+status_of (Err (refusal.List line)) = 1
 
 -- a refusal that is a fault of the engine, of this kind
 abbrev pub IsFault : (Fault → Type 0) → Refusal → Type 0
 IsFault are (refusal.Fault f) = are f
 IsFault are refusal.OneFile = ⊥
 IsFault are refusal.Exists = ⊥
+IsFault are (refusal.Differs frame) = ⊥
+IsFault are (refusal.List line) = ⊥
 
 -- a refusal that is a fault, of any kind
 abbrev pub IsAnyFault : Refusal → Type 0
@@ -29,6 +33,16 @@ abbrev pub IsMakingRefusal : Bool → Refusal → Type 0
 IsMakingRefusal no_clobber (refusal.Fault f) = Unit {0}
 IsMakingRefusal no_clobber refusal.OneFile = Unit {0}
 IsMakingRefusal no_clobber refusal.Exists = no_clobber ≡ true
+IsMakingRefusal no_clobber (refusal.Differs frame) = ⊥
+IsMakingRefusal no_clobber (refusal.List line) = ⊥
+
+-- the refusals of a file that is compared with a list: a fault, a frame or a line of the list
+abbrev pub IsComparingRefusal : Refusal → Type 0
+IsComparingRefusal (refusal.Fault f) = Unit {0}
+IsComparingRefusal refusal.OneFile = ⊥
+IsComparingRefusal refusal.Exists = ⊥
+IsComparingRefusal (refusal.Differs frame) = Unit {0}
+IsComparingRefusal (refusal.List line) = Unit {0}
 
 -- whether an order makes a file
 abbrev pub makes_file : Order → Bool

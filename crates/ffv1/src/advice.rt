@@ -1,9 +1,10 @@
 //! What the program says of each fault. `man/faults` writes this file from the tables of
 //! `docs/FAULTS.md`.
 
-/// Of each fault, in the order of its type: its number and name, when it comes, and what to do, a
-/// line each. If more lines say that, what was met says which.
-pub static ROWS: [&str; 64] = [
+/// Of each fault, those of the engine in the order of its type and then those of the program: its
+/// number and name, when it comes, and what to do, a line each. If more lines say that, what was
+/// met says which.
+pub static ROWS: [&str; 66] = [
     "1 StateTable\n  A state transition table leads a state out of its range.\n  Not read. Use \
      another program, such as FFmpeg.",
     "2 OutOfMemory\n  Memory was refused.\n  Free some, or give more slices: a decoder holds one \
@@ -158,4 +159,10 @@ pub static ROWS: [&str; 64] = [
      or thousandths, as 24975:1000 for 999:40; or pack into AVI.",
     "87 NotSame\n  pack --verify: a frame does not decode to its picture. The proofs exclude it, \
      so memory or a processor failed.\n  Test the machine, and pack again on another one.",
+    "89 Differs\n  The picture of the frame has another MD5 than the list, or the list or the \
+     file has no such frame.\n  See whether the list is of this file, and of its pixel format; if \
+     it is, fetch another copy of the file.",
+    "66 List\n  The line is none of a list, or names another hash than MD5; or the list has no \
+     MD5 of its stream of video, and then the line is its last one, or 0.\n  Write it anew: \
+     ffmpeg -i TAPE -map 0:v:0 -pix_fmt FORMAT -f framemd5 LIST.",
 ];

@@ -3,7 +3,7 @@
 //! `ffv1_engine`.
 #![tactic(auto)]
 
-ghost use Rattle.std.specs.Prelude.{◌≡◌, ◌≢◌, ◌⊎◌, ◌≤◌, Err, IfErr, IfOk, IsOk};
+ghost use Rattle.std.specs.Prelude.{◌≡◌, ◌≢◌, ◌⊎◌, ◌≤◌, ℕ, Err, IfErr, IfOk, IsOk};
 ghost use Rattle.std.specs.Process.{exit_status};
 ghost use Rattle.clap.specs.Words.{kind_of};
 ghost use Rattle.clap.specs.declared.error.kind.ErrorKind.TheVariants as kind;
@@ -16,6 +16,7 @@ ghost use Rattle.ffv1_video.specs.declared.fault.Fault.{Fault};
 ghost use Rattle.ffv1_video.specs.declared.fault.Fault.TheVariants as fault;
 
 mod advice;
+mod against;
 mod arguments;
 mod checking;
 mod input;
@@ -29,6 +30,7 @@ mod refusal;
 mod several;
 mod told;
 
+use against::{Comparing, run_against};
 use arguments::{looks, other_words};
 use checking::{Checking, run_check};
 use clap::Error;
@@ -212,17 +214,21 @@ fn run_trial(
     Ok(())
 }
 
-/// The exit status of an order: 0 if it was done, 1 for a fault, 2 if its files are refused.
+/// The exit status of an order: 0 if it was done, 1 for a fault, or if a list of MD5s or a frame of
+/// it is refused, 2 if its files are.
 fn status_of(done: Result<(), Refusal>) -> u8
     ensures ok { IsOk done → result ≡ 0 }
     ensures fault { (f : Fault) → done ≡ Err (refusal.Fault f) → result ≡ 1 }
     ensures one_file { done ≡ Err refusal.OneFile → result ≡ 2 }
     ensures exists { done ≡ Err refusal.Exists → result ≡ 2 }
+    ensures differs { (n : ℕ) → done ≡ Err (refusal.Differs n) → result ≡ 1 }
+    ensures list { (n : ℕ) → done ≡ Err (refusal.List n) → result ≡ 1 }
     ensures value { result ≡ status_of done }
 {
     match done {
         Ok(()) => 0,
         Err(Refusal::Fault(_)) => 1,
+        Err(Refusal::Differs(_) | Refusal::List(_)) => 1,
         Err(Refusal::OneFile | Refusal::Exists) => 2,
     }
 }
@@ -319,6 +325,25 @@ fn look_all(
     several::look_all(rt, met, &mut looker, paths)
 }
 
+/// Checks one file or several, or compares one with a list of MD5s. Answers the exit status.
+fn check_files(
+    rt: &(impl Files + Input + Print + Eprint + Clock),
+    alloc: Global,
+    inputs: &[&str],
+    checking: Checking,
+    against: Option<&str>,
+    met: &Met,
+) -> io::Result<u8>
+    ensures { IfOk result (λ status. status ≤ 1) }
+{
+    if let (Some(list), Some(input)) = (against, inputs.first()) {
+        let comparing = Comparing::new(input, list, checking.quiet, checking.progress);
+        let (paths, done) = run_against(rt, alloc, comparing, met);
+        return tell(rt, met, paths, done);
+    }
+    look_all(rt, alloc, inputs, Looking::Check(checking))
+}
+
 /// Does what an order asks for. Answers the exit status.
 fn run(
     rt: &(impl Files + Input + Print + Eprint + Clock),
@@ -356,9 +381,10 @@ fn run(
             place,
             quiet,
             progress,
+            against,
         } => {
             let checking = Checking::new(all, place, quiet, progress);
-            look_all(rt, alloc, inputs, Looking::Check(checking))
+            check_files(rt, alloc, inputs, checking, against, met)
         }
         Order::Show { inputs, cost } => look_all(rt, alloc, inputs, Looking::Show { cost }),
         Order::FrameMd5 { inputs } => look_all(rt, alloc, inputs, Looking::FrameMd5),

@@ -20,6 +20,13 @@ pub enum Refusal {
     /// A file is there, which `--no-clobber` keeps.
     #[error("OUT exists")]
     Exists,
+    /// The frame with this number, counted from 0, has another MD5 than a list, or the list or the
+    /// file has no such frame.
+    #[error("89 Differs")]
+    Differs(u64),
+    /// A list of MD5s is none from this line on, counted from 1.
+    #[error("66 List")]
+    List(u64),
 }
 
 impl From<Fault> for Refusal {

@@ -33,6 +33,15 @@ fn row_of(fault: Fault) -> &'static str {
     }
 }
 
+/// Which frame or line a refusal is of, and its number.
+fn told_place(refusal: Refusal) -> Option<(u32, &'static str, u64)> {
+    match refusal {
+        Refusal::Differs(frame) => Some((89, "frame", frame)),
+        Refusal::List(line) => Some((66, "line", line)),
+        Refusal::Fault(_) | Refusal::OneFile | Refusal::Exists => None,
+    }
+}
+
 /// What is known of the fault of a number.
 fn row_numbered(number: u32) -> Option<&'static str> {
     for row in &ROWS {
@@ -96,6 +105,11 @@ fn advice_place(fault: Fault, met: &Met) -> usize {
     }
 }
 
+/// A path, or the stream that a hyphen names.
+fn named<'a>(path: &'a str, stream: &'a str) -> &'a str {
+    if is_hyphen(path) { stream } else { path }
+}
+
 /// The file that a fault is of.
 fn path_of<'a>(paths: Paths<'a>, fault: Fault) -> &'a str {
     let (path, stream) = if fault == Fault::Write {
@@ -103,12 +117,25 @@ fn path_of<'a>(paths: Paths<'a>, fault: Fault) -> &'a str {
     } else {
         (paths.input, "standard input")
     };
-    if is_hyphen(path) { stream } else { path }
+    named(path, stream)
+}
+
+/// Says what to do, in this line of what is known of a fault.
+fn tell_advice(rt: &impl Eprint, row: &str, line: usize) -> io::Result<()> {
+    match row.lines().nth(line) {
+        Some(advice) => eprintln!(rt; "{advice}"),
+        None => Ok(()),
+    }
 }
 
 /// Says on standard error, in two lines, which file a refusal is of, with the system's reason if it
-/// refused a call, and what to do.
+/// refused a call, or the number of a frame or of a line, and what to do.
 pub fn advise(rt: &impl Eprint, met: &Met, paths: Paths<'_>, refusal: Refusal) -> io::Result<()> {
+    if let Some((number, kind, place)) = told_place(refusal) {
+        let path = named(paths.input, "standard input");
+        eprintln!(rt; "  {path}: {kind} {place}")?;
+        return tell_advice(rt, row_numbered(number).unwrap_or(""), 2);
+    }
     let Refusal::Fault(fault) = refusal else {
         return Ok(());
     };
@@ -118,11 +145,11 @@ pub fn advise(rt: &impl Eprint, met: &Met, paths: Paths<'_>, refusal: Refusal) -
         Some(error) if is_system => eprintln!(rt; "  {path}: {error}")?,
         _ => eprintln!(rt; "  {path}")?,
     }
-    let line = advice_place(fault, met).saturating_add(2);
-    match row_of(fault).lines().nth(line) {
-        Some(advice) => eprintln!(rt; "{advice}"),
-        None => Ok(()),
-    }
+    tell_advice(
+        rt,
+        row_of(fault),
+        advice_place(fault, met).saturating_add(2),
+    )
 }
 
 /// Prints on standard error what is known of a topic. Answers the exit status, 2 if no fault has

@@ -12,6 +12,7 @@ mod frames;
 mod judged;
 mod lanes;
 mod line;
+mod lists;
 mod made;
 mod matroska;
 mod orders;

@@ -1,12 +1,12 @@
 -- A line that clap takes names an order.
-use Rattle.std.proofs.Common.{◌≡◌, ◌∙◌, ◌⊎◌, inl, inr, subst, ℕ, refl, sym, ap, map, List, [], ◌∷◌, Bool, true, false, Some, true≢false, codes}
+use Rattle.std.proofs.Common.{◌≡◌, ◌∙◌, ◌⊎◌, inl, inr, subst, ℕ, refl, sym, ap, map, List, [], ◌∷◌, Bool, true, false, Option, Some, None, option_map, true≢false, codes}
 use Rattle.std.specs.Prelude.{find}
 use Rattle.std.specs.List.{slice_index_or}
 use Rattle.std.specs.Str.{bytes_eq}
 use Rattle.std.specs.Borrow.{Bor}
 use Rattle.std.proofs.lemmas.Slice.Eq.{bytes_eq-Decides}
 use Rattle.clap.proofs.OnLiterals.{clap_on_literals}
-use Rattle.clap.specs.Walk.{Rule, Text, answers_to, nothing_held, rows_after}
+use Rattle.clap.specs.Walk.{Rule, Text, answers_to, first_of, nothing_held, rows_after}
 use Rattle.clap.specs.Simple.{Shape, built, label_of, new_rule, subcommand_of}
 use Rattle.clap.specs.Takes.{level_passes, takes}
 use Rattle.ffv1_words.specs.CommandLine.{AreOptionWords, line_app}
@@ -47,6 +47,10 @@ paths ts = record { ref_ptr = (0, 0); now = map path ts }
 texts_of : (ts : List Text) → ts ≡ map (λ (p : Bor Text). p.now) (map path ts)
 texts_of [] = refl
 texts_of (t ∷ ts) = ap (λ z. t ∷ z) (texts_of ts)
+
+text_of : (o : Option Text) → option_map (λ (p : Bor Text). p.now) (option_map path o) ≡ o
+text_of None = refl
+text_of (Some t) = refl
 
 -- what passes as this command names an order
 abbrev NamesOrder : Shape → Type 0
@@ -189,9 +193,12 @@ module _ (lists : OptionWords) (are : AreOptionWords lists) where
       let flag = flag_named (rows_after check.rules [] rest) (codes "place") place.text place.is place.passes in
       let short = value_left check rest (rule_at check 3) refl refl (inr (inr (inr (inl refl)))) refl e in
       let quiet = flag_named (rows_after check.rules [] rest) (codes "quiet") short.text short.is short.passes in
-      let told = value_left check rest (rule_at check 4) refl refl (inr (inr (inr (inr (inl refl))))) refl e in
+      let told = value_left check rest (rule_at check 5) refl refl (inr (inr (inr (inr (inr (inl refl)))))) refl e in
       let progress = flag_named (rows_after check.rules [] rest) (codes "progress") told.text told.is told.passes in
-      (order.Check (paths input.texts) all.0 flag.0 quiet.0 progress.0, (refl, input.all ∙ ap Some (texts_of input.texts), all.1, flag.1, quiet.1, progress.1))
+      let list = first_of (codes "against") (rows_after check.rules [] rest) in (
+        order.Check (paths input.texts) all.0 flag.0 quiet.0 progress.0 (option_map path list),
+        (refl, input.all ∙ ap Some (texts_of input.texts), all.1, flag.1, quiet.1, progress.1, text_of list),
+      )
 
   abbrev show : Shape
   show = command 3

@@ -34,6 +34,10 @@ word_rule name words text = record (new_rule name) {
   defaults = text ∷ [];
 }
 
+-- an option of a path, and no default
+abbrev pub path_rule : Text → Rule
+path_rule name = record (new_rule name) { long = Some name }
+
 -- a flag
 abbrev pub flag_rule : Text → Rule
 flag_rule name = record (new_rule name) { long = Some name; action = Some SetTrue }
@@ -106,8 +110,9 @@ abbrev pub unpack_app : App
 unpack_app = with_progress (with_no_clobber (two_files (codes "unpack")))
 
 abbrev pub check_app : App
-check_app = with_progress (with_rule (with_rule (with_rule (some_files (codes "check"))
+check_app = with_progress (with_rule (with_rule (with_rule (with_rule (some_files (codes "check"))
     (flag_rule (codes "all"))) (flag_rule (codes "place"))) (flag_rule (codes "quiet")))
+    (path_rule (codes "against")))
 
 abbrev pub show_app : App
 show_app = with_rule (some_files (codes "show")) (flag_rule (codes "cost"))

@@ -36,6 +36,10 @@ NamesFile rows id path = first_of id rows ≡ Some path
 abbrev pub NamesFiles : List Row → Text → List Text → Type 0
 NamesFiles rows id paths = all_of id rows ≡ Some paths
 
+-- the path of an option, if the words give it
+abbrev pub NamesList : List Row → Text → Option (Bor Text) → Type 0
+NamesList rows id list = option_map (λ t. t.now) list ≡ first_of id rows
+
 -- these references are what an argument has, or it has none
 abbrev pub ArePaths : Option (Bor (List (Bor Text))) → Option (List Text) → Type 0
 ArePaths paths found = option_map (λ p. map (λ i. i.now) p.now) paths ≡ found
@@ -138,10 +142,10 @@ Names (order.Pack i w c holder no_clobber progress) (Some p) = (p.0 ≡ codes "p
 Names (order.Unpack i w no_clobber progress) (Some p) = (p.0 ≡ codes "unpack")
     × NamesFile p.1 (codes "IN") i.now × NamesFile p.1 (codes "OUT") w.now
     × NamesFlag p.1 (codes "no-clobber") no_clobber × NamesFlag p.1 (codes "progress") progress
-Names (order.Check is all place quiet progress) (Some p) = (p.0 ≡ codes "check")
+Names (order.Check is all place quiet progress against) (Some p) = (p.0 ≡ codes "check")
     × NamesFiles p.1 (codes "IN") (map (λ i. i.now) is.now) × NamesFlag p.1 (codes "all") all
     × NamesFlag p.1 (codes "place") place × NamesFlag p.1 (codes "quiet") quiet
-    × NamesFlag p.1 (codes "progress") progress
+    × NamesFlag p.1 (codes "progress") progress × NamesList p.1 (codes "against") against
 Names (order.Show is cost) (Some p) = (p.0 ≡ codes "show")
     × NamesFiles p.1 (codes "IN") (map (λ i. i.now) is.now) × NamesFlag p.1 (codes "cost") cost
 Names (order.FrameMd5 is) (Some p) = (p.0 ≡ codes "framemd5")
@@ -228,12 +232,24 @@ hyphens (path ∷ paths) = bit_number (is_hyphen path) + hyphens paths
 abbrev pub are_in_conflict : List Text → Bool
 are_in_conflict paths = nat_lt 1 (hyphens paths)
 
+-- a list of MD5s is of one file, which ends at its first fault, and no place in a frame is told;
+-- standard input is read once
+abbrev pub opposes_list : Text → Bool → Bool → List Text → Bool
+opposes_list list all place paths =
+    (all || place) || (not (length paths == 1) || (is_hyphen list && nat_lt 0 (hyphens paths)))
+
+abbrev pub is_list_in_conflict : Option (Bor Text) → Bool → Bool → List Text → Bool
+is_list_in_conflict None all place paths = false
+is_list_in_conflict (Some list) all place paths = opposes_list list.now all place paths
+
 abbrev pub is_in_conflict : Order → Bool
 is_in_conflict (order.Pack i w c holder no_clobber progress) =
     is_conflict i.now w.now || (is_misnamed holder w.now
     || (lacks_codec_id c holder w.now || lacks_colour c holder w.now))
 is_in_conflict (order.Unpack i w no_clobber progress) = is_conflict i.now w.now
-is_in_conflict (order.Check is all place quiet progress) = are_in_conflict (map (λ i. i.now) is.now)
+is_in_conflict (order.Check is all place quiet progress against) =
+    are_in_conflict (map (λ i. i.now) is.now)
+    || is_list_in_conflict against all place (map (λ i. i.now) is.now)
 is_in_conflict (order.Show is cost) = are_in_conflict (map (λ i. i.now) is.now)
 is_in_conflict (order.FrameMd5 is) = are_in_conflict (map (λ i. i.now) is.now)
 is_in_conflict (order.Trial i) = false

@@ -10,7 +10,8 @@ ghost use Rattle.ffv1_words.specs.CommandLine.{with_codec_id, with_colour, with_
 ghost use Rattle.ffv1_words.specs.CommandLine.{with_no_clobber, with_pace, with_progress};
 ghost use Rattle.ffv1_words.specs.CommandLine.{with_slices, with_verify, word_rule};
 ghost use Rattle.ffv1_words.specs.CommandLine.{pack_app, unpack_app, check_app, show_app, top_app};
-ghost use Rattle.ffv1_words.specs.CommandLine.{files_app, looks_app, line_app, AreOptionWords};
+ghost use Rattle.ffv1_words.specs.CommandLine.{files_app, looks_app, line_app, path_rule};
+ghost use Rattle.ffv1_words.specs.CommandLine.{AreOptionWords};
 ghost use Rattle.ffv1_words.specs.CommandLine.{OnLine};
 ghost use Rattle.ffv1_words.specs.Order.{IsOrder, IsRefused, IsRefusedIfTaken, is_in_conflict};
 
@@ -81,6 +82,13 @@ fn flag_arg<'a>(alloc: Global, id: &'a str, help: &'a str) -> Arg<'a>
         .long(id)
         .action(ArgAction::SetTrue)
         .help(help)
+}
+
+fn path_arg<'a>(alloc: Global, id: &'a str, help: &'a str) -> Arg<'a>
+    ensures rule { rule_of result ≡ path_rule id.entry.now }
+    ensures own { result.global ≡ false }
+{
+    Arg::new(alloc, id).long(id).help(help)
 }
 
 fn number_arg<'a>(
@@ -330,10 +338,12 @@ fn check_command<'a>(alloc: Global) -> Result<Command<'a>, AllocError>
     let all = "Go on after a frame that is refused, and count those";
     let place = "Say where: slice, plane, line and column of a frame, or the byte of the file";
     let quiet = "Print one line of each file: that it is sound, or its first fault and the place";
+    let against = "Compare each picture's MD5 with this list, of FFmpeg's framemd5";
     some_files_command(alloc, "check", about, CODED_FILES)?
         .arg(flag_arg(alloc, "all", all))?
         .arg(flag_arg(alloc, "place", place))?
         .arg(flag_arg(alloc, "quiet", quiet))?
+        .arg(path_arg(alloc, "against", against))?
         .arg(progress_arg(alloc))
 }
 
@@ -471,8 +481,9 @@ fn read<'a>(alloc: Global, lists: OptionWords<'a>, words: &'a [&'a str]) -> Resu
 /// `/proc/self/fd/1`, if `pack` without a container writes to a name that ends in `.mov`,
 /// `.mp4`, `.mxf`, `.y4m` or `.ppm`, in letters of either case, if `pack` is given a codec ID, or
 /// something to say of colours, and does not write Matroska, or `check`, `show` or `framemd5` have
-/// `-` more than once; or memory was refused. A line that clap takes names an order, and fails
-/// for want of memory and for such a conflict alone.
+/// `-` more than once, the list of `check` among them, or `check` has a list and also `--all`,
+/// `--place` or other than one file; or memory was refused. A line that clap takes names an order,
+/// and fails for want of memory and for such a conflict alone.
 ///
 /// The list of the files of `check`, `show` and `framemd5` is kept until the program ends.
 pub fn words<'a>(alloc: Global, words: &'a [&'a str]) -> Result<Order<'a>, Error>

@@ -334,6 +334,7 @@ fn check_order<'a>(rows: &ArgMatches<'a>, inputs: Option<&'a [&'a str]>) -> Opti
         place,
         quiet,
         progress,
+        against: path(rows, "against"),
     })
 }
 

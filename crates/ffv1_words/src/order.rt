@@ -3,8 +3,8 @@
 ghost use Rattle.std.specs.Prelude.{◌≡◌, ◌||◌, is_some, map};
 ghost use Rattle.ffv1_words.specs.Order.{are_in_conflict, has_ending, is_another_name, is_conflict};
 ghost use Rattle.ffv1_words.specs.Order.{is_hyphen, is_in_conflict, is_matroska, is_matroska_name};
-ghost use Rattle.ffv1_words.specs.Order.{is_misnamed, is_standard_output, lacks_codec_id};
-ghost use Rattle.ffv1_words.specs.Order.{lacks_colour, says_colour};
+ghost use Rattle.ffv1_words.specs.Order.{is_list_in_conflict, is_misnamed, is_standard_output};
+ghost use Rattle.ffv1_words.specs.Order.{lacks_codec_id, lacks_colour, opposes_list, says_colour};
 
 /// Which state transition table `pack` codes with.
 #[derive(Clone, Copy, Debug, PartialEq, Eq)]
@@ -179,6 +179,8 @@ pub enum Order<'a> {
         quiet: bool,
         /// Whether to say how much of the file is read.
         progress: bool,
+        /// The path of a list of MD5s, if the frames of the file are compared with one.
+        against: Option<&'a str>,
     },
     /// Prints the configuration of each file.
     Show {
@@ -198,6 +200,8 @@ pub enum Order<'a> {
         input: &'a str,
     },
 }
+
+const READ_ONCE: &str = "standard input, -, is read once";
 
 fn is_standard_output(path: &str) -> bool
     ensures { result ≡ is_standard_output path.now }
@@ -323,6 +327,40 @@ fn has_hyphens(paths: &[&str]) -> bool
     false
 }
 
+/// Why a list of MD5s does not go with these files, or with options, if it does not.
+fn list_conflict(list: &str, all: bool, place: bool, inputs: &[&str]) -> Option<&'static str>
+    ensures { is_some result ≡ opposes_list list.now all place (map (λ p. p.now) inputs.now) }
+{
+    if all || place {
+        return Some("--against tells the first frame that differs: without --all and --place");
+    }
+    if inputs.len() != 1 {
+        return Some("--against has the MD5s of one IN");
+    }
+    if is_hyphen(list) && is_hyphen(inputs[0]) {
+        return Some(READ_ONCE);
+    }
+    None
+}
+
+fn check_conflict(
+    inputs: &[&str],
+    all: bool,
+    place: bool,
+    against: Option<&str>,
+) -> Option<&'static str>
+    ensures { is_some result ≡ (are_in_conflict (map (λ p. p.now) inputs.now)
+        || is_list_in_conflict against.entry all place (map (λ p. p.now) inputs.now)) }
+{
+    if has_hyphens(inputs) {
+        return Some(READ_ONCE);
+    }
+    match against {
+        Some(list) => list_conflict(list, all, place, inputs),
+        None => None,
+    }
+}
+
 impl<'a> Order<'a> {
     /// Why its files are in conflict, or with its options, if they are.
     pub(crate) fn conflict(self) -> Option<&'static str>
@@ -337,13 +375,19 @@ impl<'a> Order<'a> {
                 ..
             } => pack_conflict(input, output, &choice, container),
             Order::Unpack { input, output, .. } => conflict_of(input, output),
-            Order::Check { inputs, .. } | Order::Show { inputs, .. } | Order::FrameMd5 { inputs } =>
-                {
-                    if has_hyphens(inputs) {
-                        return Some("standard input, -, is read once");
-                    }
-                    None
+            Order::Check {
+                inputs,
+                all,
+                place,
+                against,
+                ..
+            } => check_conflict(inputs, all, place, against),
+            Order::Show { inputs, .. } | Order::FrameMd5 { inputs } => {
+                if has_hyphens(inputs) {
+                    return Some(READ_ONCE);
                 }
+                None
+            }
             Order::Trial { .. } => None,
         }
     }

@@ -80,6 +80,7 @@ static COMMANDS: [(&[&str], Order<'static>); 6] = [
             place: false,
             quiet: false,
             progress: false,
+            against: None,
         },
     ),
     (

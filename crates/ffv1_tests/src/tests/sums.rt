@@ -34,7 +34,7 @@ const PLAIN: Choice = Choice {
 };
 
 /// The file of a text.
-fn file_of(alloc: Global, text: &[u8]) -> Result<Vec<u8>, Fault> {
+pub(super) fn file_of(alloc: Global, text: &[u8]) -> Result<Vec<u8>, Fault> {
     let mut output = ToWrite::new(Vec::new(alloc));
     let mut input = FromRead::new(text);
     pack(alloc, Profile::Wide, &mut input, &mut output, &PLAIN)?;
@@ -72,7 +72,7 @@ const FIRST: &[u8] = b"#format: frame checksums\n#version: 2\n#hash: MD5\n#softw
 const LAST: &[u8] = b"#stream#, dts,        pts, duration,     size, hash\n";
 
 /// A text of two pictures of 2 by 2, and what is written of its file.
-const PAIR: (&[u8], &[u8], &[u8]) = (
+pub(super) const PAIR: (&[u8], &[u8], &[u8]) = (
     b"YUV4MPEG2 W2 H2 F50:2 It A2:2 C420jpeg
 FRAME
 \x01\x02\x03\x04\x05\x06FRAME

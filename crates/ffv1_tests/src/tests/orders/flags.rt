@@ -4,7 +4,7 @@ use super::{DEFAULTS, names_each};
 use ffv1_engine::{ContainerChoice, Order};
 
 /// Flags, and words that are files after two hyphens.
-static FLAGS: [(&[&str], Order<'static>); 10] = [
+static FLAGS: [(&[&str], Order<'static>); 12] = [
     (
         &["ffv1", "pack", "a", "--no-clobber", "b"],
         Order::Pack {
@@ -53,6 +53,7 @@ static FLAGS: [(&[&str], Order<'static>); 10] = [
             place: true,
             quiet: false,
             progress: false,
+            against: None,
         },
     ),
     (
@@ -63,6 +64,7 @@ static FLAGS: [(&[&str], Order<'static>); 10] = [
             place: false,
             quiet: false,
             progress: true,
+            against: None,
         },
     ),
     (
@@ -83,6 +85,29 @@ static FLAGS: [(&[&str], Order<'static>); 10] = [
             place: true,
             quiet: true,
             progress: true,
+            against: None,
+        },
+    ),
+    (
+        &["ffv1", "check", "--against", "b", "--quiet", "a"],
+        Order::Check {
+            inputs: &["a"],
+            all: false,
+            place: false,
+            quiet: true,
+            progress: false,
+            against: Some("b"),
+        },
+    ),
+    (
+        &["ffv1", "check", "a", "--against=-"],
+        Order::Check {
+            inputs: &["a"],
+            all: false,
+            place: false,
+            quiet: false,
+            progress: false,
+            against: Some("-"),
         },
     ),
     (
@@ -100,6 +125,7 @@ static FLAGS: [(&[&str], Order<'static>); 10] = [
             place: false,
             quiet: false,
             progress: false,
+            against: None,
         },
     ),
     (

@@ -126,9 +126,9 @@ fn calls_for_help(rt: HostRuntime) {
     refuses(&rt, rt.alloc(), &version, ErrorKind::DisplayVersion);
 }
 
-/// Options that are given twice, or that the file has not, and files that are one, or are standard
-/// output.
-static CONFLICTS: [&[&str]; 25] = [
+/// Options that are given twice, or that the file has not, files that are one, or are standard
+/// output, and a list of MD5s beside what it does not go with.
+static CONFLICTS: [&[&str]; 29] = [
     &["ffv1", "pack", "a", "b", "--ec=1", "--ec=1"],
     &["ffv1", "pack", "--codec-id=vfw", "a", "b"],
     &[
@@ -168,6 +168,10 @@ static CONFLICTS: [&[&str]; 25] = [
     &["ffv1", "unpack", "a", "/dev/fd/1"],
     &["ffv1", "unpack", "a", "/proc/self/fd/1"],
     &["ffv1", "unpack", "-", "/dev/stdout"],
+    &["ffv1", "check", "--against", "a", "b", "c"],
+    &["ffv1", "check", "--against", "a", "b", "--all"],
+    &["ffv1", "check", "--place", "--against", "a", "b"],
+    &["ffv1", "check", "--against", "-", "-"],
 ];
 
 #[test]

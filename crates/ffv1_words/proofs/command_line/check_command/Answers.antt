@@ -10,5 +10,7 @@ returns c =
     c.flag_arg-2.ensures.own in
     let quiet = added _ _ _ _ _ c.in_ok-arg-3.ensures place c.flag_arg-3.ensures.rule
     c.flag_arg-3.ensures.own in
-    added_last _ _ _ _ _ c.arg-4.ensures quiet c.progress_arg.ensures.rule
+    let against = added _ _ _ _ _ c.in_ok-arg-4.ensures quiet c.path_arg.ensures.rule
+    c.path_arg.ensures.own in
+    added_last _ _ _ _ _ c.arg-5.ensures against c.progress_arg.ensures.rule
     c.progress_arg.ensures.own
