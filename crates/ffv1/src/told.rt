@@ -25,6 +25,9 @@ impl<'a> Paths<'a> {
     }
 }
 
+/// The greatest number that a fault has is at most this.
+const LAST: u32 = 99;
+
 /// What is known of a fault.
 fn row_of(fault: Fault) -> &'static str {
     match ROWS.get(fault as usize) {
@@ -159,9 +162,11 @@ pub fn help(rt: &impl Eprint, topic: Topic) -> io::Result<u8>
 {
     match topic {
         Topic::Faults => {
-            for row in &ROWS {
-                let name = row.lines().next().unwrap_or("");
-                eprintln!(rt; "{name}")?;
+            for number in 0..=LAST {
+                if let Some(row) = row_numbered(number) {
+                    let name = row.lines().next().unwrap_or("");
+                    eprintln!(rt; "{name}")?;
+                }
             }
             Ok(0)
         }

@@ -28,10 +28,11 @@ const WITH_SOUND: &[u8] = b"#format: frame checksums
 ";
 
 /// The two MD5s, each as a number.
-const PAIR_MD5S: [u128; 2] = [
-    0x6AC1E56BC78F031059BE7BE854522C4C,
-    0x06E22BC66691496DD92C04669B3703CC,
-];
+const FIRST: u128 = 0x6AC1E56BC78F031059BE7BE854522C4C;
+
+const SECOND: u128 = 0x06E22BC66691496DD92C04669B3703CC;
+
+static PAIR_MD5S: [u128; 2] = [FIRST, SECOND];
 
 /// A list comes to these MD5s, or to this fault.
 fn comes_to(rt: &impl Abort, alloc: Global, list: &[u8], wanted: Result<&[u128], ListFault>) {
@@ -42,10 +43,9 @@ fn comes_to(rt: &impl Abort, alloc: Global, list: &[u8], wanted: Result<&[u128],
     }
 }
 
-/// Lists of the two MD5s.
-static PAIRS: [&[u8]; 4] = [
+/// Lists of the two MD5s, beside FFmpeg's of a file without sound.
+static PAIRS: [&[u8]; 3] = [
     WITH_SOUND,
-    PAIR.2,
     b"0,0,0,1,6,6AC1E56BC78F031059BE7BE854522C4C\r\n0,1,1,1,6,06E22BC66691496DD92C04669B3703CC",
     b"#media_type 7: video
 7, -9223372036854775808, -1, 1, 6, 6ac1e56bc78f031059be7be854522c4c, S=1, 4, 00
@@ -56,6 +56,7 @@ static PAIRS: [&[u8]; 4] = [
 
 #[test]
 fn pairs(rt: HostRuntime) {
+    comes_to(&rt, rt.alloc(), PAIR.2, Ok(&PAIR_MD5S));
     for list in &PAIRS {
         comes_to(&rt, rt.alloc(), list, Ok(&PAIR_MD5S));
     }
@@ -73,7 +74,7 @@ fn fails_after(rt: &impl Abort, alloc: Global, before: usize) {
 fn is_scarce(rt: &impl Abort, alloc: Global, before: u64) -> bool {
     let heap = Scarce::new(alloc, before);
     match read_list(&heap, &mut FromRead::new(PAIR.2)) {
-        Ok(md5s) => assert!(rt; md5s.as_slice() == PAIR_MD5S),
+        Ok(md5s) => assert!(rt; md5s.as_slice() == PAIR_MD5S.as_slice()),
         Err(fault) => {
             assert!(rt; fault == ListFault::OutOfMemory);
             return true;
@@ -112,11 +113,11 @@ fn no_lists(rt: HostRuntime) {
 
 /// MD5s, and what the file of `PAIR` is against them.
 static COMPARED: [(&[u128], Result<(), Unlike>); 5] = [
-    (&PAIR_MD5S, Ok(())),
-    (&[PAIR_MD5S[0]], Err(Unlike::Differs(1))),
-    (&[PAIR_MD5S[1], PAIR_MD5S[1]], Err(Unlike::Differs(0))),
-    (&[PAIR_MD5S[0], PAIR_MD5S[0]], Err(Unlike::Differs(1))),
-    (&[PAIR_MD5S[0], PAIR_MD5S[1], 0], Err(Unlike::Differs(2))),
+    (&[FIRST, SECOND], Ok(())),
+    (&[FIRST], Err(Unlike::Differs(1))),
+    (&[SECOND, SECOND], Err(Unlike::Differs(0))),
+    (&[FIRST, FIRST], Err(Unlike::Differs(1))),
+    (&[FIRST, SECOND, 0], Err(Unlike::Differs(2))),
 ];
 
 /// A file is so against these MD5s.
