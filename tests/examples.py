@@ -33,13 +33,14 @@ PACKED = r"frames 3 bytes \d+\n"
 CHECKED = r"(frame \d: \d+ bytes, \d+ slices, \d+ decisions\n){3}frames 3\n"
 BROKEN = r"ffv1: broken\.mkv: 52 Truncated\n  broken\.mkv\n  The file is not whole.*\n"
 # Several processes, whose lines come in any order; xargs ends with 123 if one of them has status 1.
-MANY = (r"(\w+\.mkv: sound, 3 frames\n|broken\.mkv: 52 Truncated at byte \d\n|ffv1: 52 Truncated\n"
-        r"|  broken\.mkv\n|  The file is not whole.*\n)+")
+MANY = (r"(\./\w+\.mkv: sound, 3 frames\n|\./broken\.mkv: 52 Truncated at byte \d\n"
+        r"|ffv1: 52 Truncated\n|  \./broken\.mkv\n|  The file is not whole.*\n)+")
 README = [
     PACKED + CHECKED + r"frames 3\n",
     MANY,
 ]
-MANUAL = [PACKED + CHECKED, r"yuv422p10le\n", "", r"frames 3\n", CHECKED, BROKEN, MANY]
+MANUAL = [PACKED + CHECKED, r"yuv422p10le\n", "", r"frames 3\n", r"frames 3\n", CHECKED, BROKEN,
+          MANY]
 STATUSES = {BROKEN: 1, MANY: 123}
 
 
