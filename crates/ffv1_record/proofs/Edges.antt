@@ -4,8 +4,7 @@ use Rattle.std.specs.List.{list_all, range_with_len}
 use Rattle.std.proofs.lemmas.Nat.{div-mul-add, mod-mul-add, div_below, le-div}
 use Rattle.std.proofs.lemmas.Bool.{cases_eq, eq-eqb, eqb-true}
 use Rattle.ffv1_plane.specs.Quantisation.{Set}
-use Rattle.ffv1_record.specs.Configuration.{Configuration, at_depth}
-use Rattle.ffv1_record.specs.Internal.Outlines.{with_sets}
+use Rattle.ffv1_record.specs.Configuration.{Configuration, at_depth, with_sets}
 use Rattle.ffv1_record.specs.declared.config.Profile.{Profile}
 use Rattle.ffv1_record.proofs.Checks.{divided, fits_grid}
 use Rattle.ffv1_record.specs.declared.config.Profile.TheVariants as profile

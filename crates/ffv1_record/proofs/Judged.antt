@@ -4,14 +4,14 @@ use Rattle.ffv1_range.specs.Codes.{AreBytes, value}
 use Rattle.ffv1_record.specs.declared.fault.RecordFault.{RecordFault}
 use Rattle.ffv1_record.specs.declared.config.Profile.{Profile}
 use Rattle.ffv1_record.specs.declared.judge.Outline.{Outline}
-use Rattle.ffv1_record.specs.Configuration.{Configuration, configuration_of, at_depth}
+use Rattle.ffv1_record.specs.Configuration.{Configuration, configuration_of, at_depth, with_sets}
 use Rattle.ffv1_record.specs.Accepted.{IsFirstIn, IsFirstUpTo, PassesAll, checks}
 use Rattle.ffv1_record.specs.Parity.{remainder_of}
 use Rattle.ffv1_record.specs.Record.{body_of}
 use Rattle.ffv1_record.specs.Reader.{Spot}
 use Rattle.ffv1_record.specs.Reading.{parameters, beginning, IsRefused}
 use Rattle.ffv1_record.specs.Internal.Given.{Source, Stands, Judges}
-use Rattle.ffv1_record.specs.Internal.Outlines.{Outlines, with_sets}
+use Rattle.ffv1_record.specs.Internal.Outlines.{Outlines}
 use Rattle.ffv1_record.proofs.ReadIsCoded.{ok_same, not_both, parameters_ok}
 use Rattle.ffv1_record.proofs.ReadIsRecord.{first_of}
 use Rattle.ffv1_record.proofs.RecordIsRead.{none_stands}

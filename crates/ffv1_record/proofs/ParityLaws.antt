@@ -10,9 +10,9 @@ use Rattle.std.proofs.lemmas.Bool.{cases_eq, cases_lt}
 use Rattle.std.proofs.lemmas.Nat.{pow-add, pow_pos, xor_lt}
 use Rattle.std.proofs.lemmas.Nat.Bits.{bit_at_xor}
 use Rattle.ffv1_range.specs.Codes.{value, digits, AreBytes}
-use Rattle.ffv1_record.specs.Parity.{generator, struck, divided, remainder_of, parity_of}
+use Rattle.ffv1_record.specs.Parity.{generator, struck, divided, remainder_of, parity_of, remainder_behind}
 use Rattle.ffv1_record.proofs.Division.{divided-suc, divided-zero, divided_xor, divided_small, divided_scaled, divided_below, struck_below, struck_scaled, struck_one, struck_none, bit_is}
-use Rattle.ffv1_record.proofs.Numbers.{value_in_parts, value_taken, value_below}
+use Rattle.ffv1_record.proofs.Numbers.{value_in_parts, value_taken, value_below, behind}
 
 -- ---- no remainder but 0 becomes 0 by bits 0 after it
 
@@ -182,6 +182,20 @@ joined_value xs ys =
     sym (value_taken (xs ++ ys) m m (le_refl m)) ∙ ap (λ (l : List ℕ). value l m) (take-append_seam xs ys) in
     let last : value (drop m (xs ++ ys)) n ≡ value ys n = ap (λ (l : List ℕ). value l n) (drop-append_seam xs ys) in
     all ∙ ap (λ x. x * 256 ^ n + value (drop m (xs ++ ys)) n) first ∙ ap (λ x. value xs m * 256 ^ n + x) last ∙ ap (λ w. value xs m * w + value ys n) (wide_as n)
+
+-- the parity of bytes and of more behind them, by that of the bytes
+pub parity_goes_on : (xs ys : List ℕ) → AreBytes ys → parity_of (xs ++ ys) ≡ remainder_behind (8 * length ys) (parity_of xs) (value ys (length ys))
+unfolding parity_of
+parity_goes_on xs ys are =
+    let m = length xs in
+    let n = length ys in
+    let long : length (xs ++ ys) ≡ m + n = length-append xs ys in
+    let below : value ys n < 2 ^ (8 * n) = omega (arith, value_below ys are n, wide_as n) in
+    let places : 8 * (m + n) ≡ 8 * m + 8 * n = omega arith in
+    ap (λ c. divided (8 * c) (value (xs ++ ys) c * 2 ^ 32)) long
+    ∙ ap (λ v. divided (8 * (m + n)) (v * 2 ^ 32)) (joined_value xs ys)
+    ∙ ap (λ k. divided k ((value xs m * 2 ^ (8 * n) + value ys n) * 2 ^ 32)) places
+    ∙ behind (8 * m) (8 * n) (value xs m) (value ys n) below
 
 pub sound_in_a_row : (xs ys : List ℕ) → AreBytes ys → 4 ≤ length xs → 4 ≤ length ys → remainder_of xs ≡ 0 → remainder_of ys ≡ 0 → remainder_of (xs ++ ys) ≡ 0
 unfolding remainder_of

@@ -47,6 +47,10 @@ configuration_of c = record {
 abbrev pub at_depth : Configuration → ℕ → Configuration
 at_depth c depth = record c { depth = depth }
 
+-- the same with other sets
+abbrev pub with_sets : Configuration → List Set → Configuration
+with_sets c ss = record c { sets = ss }
+
 abbrev pub is_rct : Colour → Bool
 is_rct colour.YCbCr = false
 is_rct colour.Rct = true

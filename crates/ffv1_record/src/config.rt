@@ -3,10 +3,9 @@
 ghost use Rattle.std.specs.Prelude.{◌≡◌, ◌≢◌, ℕ, ◌+◌, ◌*◌, ◌/◌, ◌^◌, ◌<◌, ◌≤◌, ◌↔◌, IsTrue};
 ghost use Rattle.std.specs.Prelude.{IsFalse, IfOk, IfErr, List, length, nat_le, ◌&&◌};
 ghost use Rattle.ffv1_plane.specs.Quantisation.{Set};
-ghost use Rattle.ffv1_record.specs.Internal.Outlines.{with_sets};
 ghost use Rattle.ffv1_range.specs.Table.{Table, IsTable};
 ghost use Rattle.ffv1_range.specs.Deltas.{IsTableOf, HaveNoTable};
-ghost use Rattle.ffv1_record.specs.Configuration.{configuration_of, at_depth, is_rct};
+ghost use Rattle.ffv1_record.specs.Configuration.{configuration_of, at_depth, is_rct, with_sets};
 ghost use Rattle.ffv1_record.specs.Held.{classes_of, kept_of};
 ghost use Rattle.ffv1_record.specs.Sets.{AreSets};
 ghost use Rattle.ffv1_record.specs.Writable.{AreDeltas, IsWritable};
@@ -329,8 +328,11 @@ impl<A: Allocator> Config<A> {
         }
     }
 
-    /// The same of a configuration with other sets, of which there are so many.
-    pub(crate) fn judged_by(
+    /// The state transition table of the configuration with `count` sets in place of its own, in a
+    /// profile, for samples of `depth` bits, if it is accepted with a depth of at most `most`. Else
+    /// it refuses with the first of the faults of `check_in` that stands. So a configuration is
+    /// judged before its sets are stored: it takes no memory.
+    pub fn judged_by(
         &self,
         count: usize,
         profile: Profile,

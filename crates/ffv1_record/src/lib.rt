@@ -42,6 +42,6 @@ pub use checked::{Checked, Held, OFFSETS};
 pub use config::{Coder, Colour, Config, Profile, reduced};
 pub use fault::RecordFault;
 pub use read::{read_record, read_record_in};
-pub use remainder::parity;
+pub use remainder::{parity, parity_behind};
 pub use sets::Sets;
 pub use write::write_record;

@@ -1,6 +1,6 @@
 //! The remainder that guards configuration records and slices.
 
-ghost use Rattle.std.specs.Prelude.{◌≡◌, ◌<◌};
+ghost use Rattle.std.specs.Prelude.{◌≡◌, ◌<◌, ◌++◌, List, ℕ};
 ghost use Rattle.ffv1_record.specs.Parity.{parity_of, byte_remainder, remainder_behind};
 ghost use Rattle.ffv1_range.specs.Codes.{value};
 
@@ -64,6 +64,17 @@ pub fn parity(bytes: &[u8]) -> u32
         remainder = after_block(remainder, block);
     }
     for byte in rest {
+        remainder = after_byte(remainder, *byte);
+    }
+    remainder
+}
+
+/// The parity of some bytes and of more behind them, from the parity of the bytes.
+pub fn parity_behind(parity: u32, more: &[u8]) -> u32
+    ensures { (bytes : List ℕ) → parity ≡ parity_of bytes → result ≡ parity_of (bytes ++ more.now) }
+{
+    let mut remainder = parity;
+    for byte in more {
         remainder = after_byte(remainder, *byte);
     }
     remainder

@@ -1,12 +1,7 @@
 -- What is known of a record's configuration before its sets are stored.
-use Rattle.std.specs.Prelude.{◌≡◌, List, length}
-use Rattle.ffv1_plane.specs.Quantisation.{Set}
+use Rattle.std.specs.Prelude.{◌≡◌, length}
 use Rattle.ffv1_record.specs.declared.judge.Outline.{Outline}
-use Rattle.ffv1_record.specs.Configuration.{Configuration, configuration_of, at_depth}
-
--- a configuration with other sets
-abbrev pub with_sets : Configuration → List Set → Configuration
-with_sets c ss = record c { sets = ss }
+use Rattle.ffv1_record.specs.Configuration.{Configuration, configuration_of, at_depth, with_sets}
 
 -- the configuration is what the outline says, with so many sets
 pub record Outlines {A : Type 0} (c : Configuration) (o : Outline A) : Type 0 where

@@ -1,7 +1,6 @@
 -- The state transition table of a configuration with other sets, of which there are so many.
 use Rattle.std.proofs.Common.{sym, subst, refl, inl, inr, IsTrue, IsFalse}
-use Rattle.ffv1_record.specs.Configuration.{configuration_of, at_depth}
-use Rattle.ffv1_record.specs.Internal.Outlines.{with_sets}
+use Rattle.ffv1_record.specs.Configuration.{configuration_of, at_depth, with_sets}
 use Rattle.ffv1_record.specs.declared.fault.RecordFault.TheVariants as fault
 use Rattle.ffv1_record.specs.Accepted.{is_depth, is_subsampled, is_transparent}
 use Rattle.ffv1_record.specs.Accepted.{are_counted, is_divided, IsFirstWhere, PassesEdges}
