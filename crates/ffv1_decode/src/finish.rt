@@ -149,7 +149,7 @@ fn finish_wide_colours<A: Allocator>(
 ) -> Result<(), usize>
     requires frame { IsFrame frame.now }
     requires rct { is_rct frame.now.checked.now.configuration.colour ≡ true }
-    requires deep { frame.now.checked.now.configuration.depth ≡ 16 }
+    requires sixteen { frame.now.checked.now.configuration.depth ≡ 16 }
     requires samples { length samples.now ≡ plane_count frame.now.checked.now.configuration
         * frame.now.checked.now.configuration.width }
     requires out { length out.old ≡ plane_count frame.now.checked.now.configuration

@@ -21,17 +21,12 @@ use ffv1_frame::info::Info;
 use ffv1_frame::laws;
 use ffv1_frame::picture::Picture;
 use ffv1_record::Checked;
-use ffv1_slice::{Grid, SliceFault, footer};
+use ffv1_slice::{Grid, footer};
 use std::alloc::{Allocator, Global};
 use std::marker::Model;
 
 /// Puts coded bytes and their footer after what a frame has.
-fn append<A: Allocator>(
-    alloc: A,
-    frame: &mut Vec<u8, A>,
-    coded: &[u8],
-    ec: bool,
-) -> Result<(), CodecFault>
+fn append<A: Allocator>(frame: &mut Vec<u8, A>, coded: &[u8], ec: bool) -> Result<(), CodecFault>
     ensures ok { OnOk result (frame.new.items ≡
         frame.old.items ++ (coded.now ++ footer_of ec coded.now)) }
     ensures few { OnOk result (length coded.now ≤ 16777215) }
@@ -39,15 +34,12 @@ fn append<A: Allocator>(
         ⊎ ((f ≡ fault.SliceTooLong) × (16777215 < length coded.now))) }
     ensures too_long { 16777215 < length coded.now → result ≡ Err fault.SliceTooLong }
 {
-    match footer(alloc, coded, ec) {
-        Ok(footer) => {
-            frame.extend_from_slice(coded)?;
-            frame.extend_from_slice(footer.bytes())?;
-            Ok(())
-        }
-        Err(SliceFault::SliceTooLong) => Err(CodecFault::SliceTooLong),
-        Err(_) => Err(CodecFault::OutOfMemory),
-    }
+    let Ok(footer) = footer(coded, ec) else {
+        return Err(CodecFault::SliceTooLong);
+    };
+    frame.extend_from_slice(coded)?;
+    frame.extend_from_slice(footer.bytes())?;
+    Ok(())
 }
 
 /// Codes a slice, puts it after what a frame has, and answers what was counted of it.
@@ -76,7 +68,7 @@ fn add_slice<R: Allocator + Copy, A: Allocator, B: Allocator>(
 {
     let coded = code_slice(alloc, scratch, slice)?;
     let bytes = coded.bytes.as_slice();
-    append(alloc, frame, bytes, slice.checked.config().ec)?;
+    append(frame, bytes, slice.checked.config().ec)?;
     Ok(FrameCounts {
         decisions: coded.decisions,
         renormalisations: bytes.len() as u64 - 1,
@@ -108,11 +100,13 @@ fn put_slices<R: Allocator + Copy, A: Allocator, B: Allocator>(
 {
     laws::slice_length_follows_from_residuals();
     let _table = checked.table();
+    let grid = Grid::of(checked);
     let mut decisions = 0;
     let mut renormalisations = 0;
-    for number in 0..Grid::of(checked).slices() {
+    for number in 0..grid.slices() {
         let slice = Slice {
             checked,
+            grid: &grid,
             picture,
             info,
             number,

@@ -3,6 +3,7 @@
 ghost use Rattle.std.specs.Prelude.{◌≡◌, ◌+◌, ◌-◌, ◌*◌, min, ◌<◌, ◌≤◌, ◌^◌, length, take, drop};
 ghost use Rattle.ffv1_samples.specs.Samples.{AreBelow, samples_of};
 ghost use Rattle.ffv1_slice.specs.Coding.{IsSlice};
+ghost use Rattle.ffv1_slice.specs.Grid.{IsDivision, division_of};
 ghost use Rattle.ffv1_frame.specs.Picture.{Fits, plane_count, cell_in, cell_height};
 ghost use Rattle.ffv1_slice.specs.Head.{IsHead};
 ghost use Rattle.ffv1_frame.specs.SliceList.{chosen_head};
@@ -36,14 +37,17 @@ fn line_of(samples: &[u8], bytes: usize, width: u32, cell: Cell, y: u32) -> &[u8
     &samples[start..start + bytes * cell.width as usize]
 }
 
-/// A slice that is to be coded: its picture, which fits the configuration, what is said of it, and
-/// its number in raster order.
+/// A slice that is to be coded: how pictures are divided, its picture, which fits the
+/// configuration, what is said of it, and its number in raster order.
 #[derive(Drop)]
 pub(crate) struct Slice<'a, A: Allocator, B: Allocator> {
     pub(crate) checked: &'a Checked<A>,
+    pub(crate) grid: &'a Grid,
     pub(crate) picture: &'a Picture<B>,
     pub(crate) info: Info,
     pub(crate) number: u32,
+    ghost divided: { grid.now ≡ division_of checked.now.configuration },
+    ghost division: { IsDivision grid.now },
     ghost inside: { IsSlice checked.now number },
     ghost fits: { Fits checked.now.configuration picture.now },
 }
@@ -57,10 +61,9 @@ impl<'a, A: Allocator, B: Allocator> Slice<'a, A, B> {
             cell_height self.now.checked.now.configuration self.now.number plane }
         ensures some { 0 < result.width }
     {
-        slice_laws::accepted_pictures_are_divided();
         slice_laws::cells_tile_their_plane();
         slice_laws::parts_follow_one_another();
-        Grid::of(self.checked).cell(plane, self.number)
+        self.grid.cell(plane, self.number)
     }
 
     /// Its head: class k has set k, or the last one.
@@ -100,12 +103,16 @@ impl<'a, A: Allocator, B: Allocator> Slice<'a, A, B> {
         ensures small { AreBelow (2 ^ self.now.checked.now.configuration.depth)
             (samples_of self.now.checked.now.configuration.depth result.now) }
     {
-        slice_laws::accepted_pictures_are_divided();
         slice_laws::cells_tile_their_plane();
         slice_laws::parts_follow_one_another();
-        let grid = Grid::of(self.checked);
-        let cell = grid.cell(plane, self.number);
+        let cell = self.grid.cell(plane, self.number);
         let samples = self.picture.planes()[plane as usize].as_slice();
-        line_of(samples, grid.sample_bytes(), grid.width(plane), cell, y)
+        line_of(
+            samples,
+            self.grid.sample_bytes(),
+            self.grid.width(plane),
+            cell,
+            y,
+        )
     }
 }

@@ -25,7 +25,6 @@ use ffv1_frame::line_word::{Above, LineCoding, LineWord, bits_of};
 use ffv1_line::{CellRows, Coding, RollingRows, encode_cell, laws as line_laws};
 use ffv1_range::{RangeEncoder, laws as range_laws};
 use ffv1_record::laws as record_laws;
-use ffv1_slice::Grid;
 use std::alloc::Allocator;
 
 /// Codes a row of a cell, by the states of its class, which begin at this offset of all states.
@@ -211,7 +210,7 @@ fn put_planes<R: Allocator, A: Allocator, B: Allocator>(
     ensures err { IfErr result (λ f. f ≡ fault.OutOfMemory) }
     ensures capacity { capacity_of_rows rows.old ≤ capacity_of_rows rows.new }
 {
-    for plane in 0..Grid::of(slice.checked).planes() {
+    for plane in 0..slice.grid.planes() {
         put_plane(encoder, states, rows, slice, plane)?;
     }
     Ok(())

@@ -8,20 +8,20 @@ ghost use Rattle.ffv1_line.specs.Coder.{decoder_by};
 
 mod block;
 mod cell;
-mod deep;
 mod equal;
 pub(crate) mod places;
 mod plain;
 mod row;
 mod run;
 mod sample;
+mod sixteen;
 mod wide;
 mod zeros;
 
 use crate::cell::above::Above;
 use crate::coding::Coding;
-use crate::decode::deep::decode_deep;
 use crate::decode::row::decode_row;
+use crate::decode::sixteen::decode_sixteen;
 use crate::fault::TooLong;
 pub use cell::{RowSink, decode_cell};
 use ffv1_range::RangeDecoder;
@@ -65,9 +65,9 @@ pub fn decode_line<'a, B: Allocator>(
     let three_tables = set.has_three_tables();
     if *bits == 16 {
         if three_tables {
-            return decode_deep::<B, true>(decoder, coding, states, above, cur);
+            return decode_sixteen::<B, true>(decoder, coding, states, above, cur);
         }
-        return decode_deep::<B, false>(decoder, coding, states, above, cur);
+        return decode_sixteen::<B, false>(decoder, coding, states, above, cur);
     }
     if *bits == 8 {
         if three_tables {

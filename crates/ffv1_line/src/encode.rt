@@ -13,10 +13,10 @@ ghost use Rattle.ffv1_line.specs.Coder.{encoder_by};
 
 mod block;
 mod cell;
-mod deep;
-mod deep_row;
 pub(crate) mod part;
 mod plain;
+mod row_of_bits;
+mod sixteen;
 mod wide;
 
 use crate::cell::above::Above;
@@ -24,9 +24,9 @@ use crate::coding::{Coding, fixed_bits};
 use crate::encode::block::{
     Block, LIST, PLACES, list_places, number_places, prepare, residual_from,
 };
-use crate::encode::deep::encode_deep;
-use crate::encode::deep_row::encode_deep_row;
 use crate::encode::part::Part;
+use crate::encode::row_of_bits::encode_row_of_bits;
+use crate::encode::sixteen::encode_sixteen;
 pub use cell::{CellRows, encode_cell};
 use ffv1_range::{Fault, RangeEncoder, StateTable};
 use std::alloc::Allocator;
@@ -312,9 +312,9 @@ pub fn encode_line<A: Allocator, B: Allocator>(
     let three_tables = set.has_three_tables();
     if *bits > 15 {
         if three_tables {
-            return encode_deep::<A, B, true>(encoder, coding, states, above, cur);
+            return encode_sixteen::<A, B, true>(encoder, coding, states, above, cur);
         }
-        return encode_deep::<A, B, false>(encoder, coding, states, above, cur);
+        return encode_sixteen::<A, B, false>(encoder, coding, states, above, cur);
     }
     if *bits == 8 {
         if three_tables {
@@ -329,7 +329,7 @@ pub fn encode_line<A: Allocator, B: Allocator>(
         return encode_row::<A, B, 9, false>(encoder, coding, states, above, cur);
     }
     if three_tables {
-        return encode_deep_row::<A, B, true>(encoder, coding, states, above, cur);
+        return encode_row_of_bits::<A, B, true>(encoder, coding, states, above, cur);
     }
-    encode_deep_row::<A, B, false>(encoder, coding, states, above, cur)
+    encode_row_of_bits::<A, B, false>(encoder, coding, states, above, cur)
 }

@@ -146,7 +146,7 @@ pub fn choose_lanes<A: Allocator>(
 /// makes it a number from 0 to `2^bits - 1`.
 // Not inlined: what calls both, for some depth or other, would grow too large to be inlined itself.
 #[inline(never)]
-pub fn choose_deep_lanes<A: Allocator>(
+pub fn choose_lanes_of_bits<A: Allocator>(
     set: &QuantSet<A>,
     lanes: &SetLanes,
     around: &AroundLanes,

@@ -14,7 +14,7 @@
 //! ```
 //!
 //! Samples of more than 9 bits have `predict_in`, since 16 bits are predicted by signed numbers,
-//! `deep_residual` and `deep_sample`.
+//! `residual_of_bits` and `sample_of_bits`.
 //!
 //! Samples of up to 17 bits lie in a `WideAround`: `wide_residual` and `wide_sample` have the
 //! prediction in themselves, and `low_around` gives what has the context of the place.
@@ -22,21 +22,21 @@
 //! The test `plane::example` runs these lines. `laws` has what follows from the definitions.
 #![tactic(auto)]
 
-pub mod deep;
 pub mod early;
 pub mod fault;
 pub mod lanes;
 pub mod laws;
+pub mod of_bits;
 pub mod prediction;
 pub mod quantisation;
 pub mod residual;
 mod table;
 pub mod wide;
 
-pub use deep::{deep_residual, deep_sample};
 pub use early::{BLOCK, BlockRows, Early, sample_signed};
 pub use fault::Fault;
-pub use lanes::{AroundLanes, choose_deep_lanes, choose_lanes};
+pub use lanes::{AroundLanes, choose_lanes, choose_lanes_of_bits};
+pub use of_bits::{residual_of_bits, sample_of_bits};
 pub use prediction::{Around, predict, predict_in, predict_late, predict_signed};
 pub use quantisation::{
     QuantSet, SetLanes, context, context_by_three_tables, early_sum, late_context,

@@ -1,12 +1,10 @@
 -- What stands after the coded bytes of a slice (RFC 9043, 4.9): slice_size, and if ec is 1
 -- error_status and slice_crc_parity.
-use Rattle.std.specs.Prelude.{◌≡◌, ◌⊎◌, ◌<◌, ℕ, ◌+◌, ◌-◌, ◌*◌, Bool, true, false, List, [], ◌∷◌}
+use Rattle.std.specs.Prelude.{ℕ, ◌+◌, ◌-◌, ◌*◌, Bool, true, false, List, [], ◌∷◌}
 use Rattle.std.specs.Prelude.{◌++◌, length, take, drop, slice_index}
 use Rattle.std.proofs.Common.{suc}
 use Rattle.ffv1_range.specs.Codes.{digits}
 use Rattle.ffv1_record.specs.Parity.{parity_of}
-use Rattle.ffv1_slice.specs.declared.fault.SliceFault.{SliceFault}
-use Rattle.ffv1_slice.specs.declared.fault.SliceFault.TheVariants as fault
 
 -- how many bytes it has
 abbrev pub foot_length : Bool → ℕ
@@ -22,13 +20,6 @@ abbrev pub footer_of : Bool → List ℕ → List ℕ
 footer_of false bytes = digits 3 (length bytes)
 footer_of true bytes =
     (digits 3 (length bytes) ++ (0 ∷ [])) ++ digits 4 (parity_of (unsealed bytes))
-
--- why coded bytes get no footer: their number has more than three bytes, or with ec the copy whose
--- parity is taken was refused memory
-abbrev pub HasNoFooter : Bool → List ℕ → SliceFault → Type 0
-HasNoFooter ec bytes f =
-    ((f ≡ fault.SliceTooLong) × (16777215 < length bytes))
-    ⊎ ((f ≡ fault.OutOfMemory) × (ec ≡ true) × (length bytes < 16777216))
 
 -- the slice_size of a slice that ends at end, big end first
 abbrev pub size_before : List ℕ → ℕ → ℕ → ℕ

@@ -6,7 +6,7 @@ ghost use Rattle.ffv1_line.specs.Coder.{decoder_by};
 
 use crate::decode::places::{Behind, Places};
 use crate::decode::zeros::take_zeros;
-use ffv1_plane::{deep_sample, late_context, predict_late};
+use ffv1_plane::{late_context, predict_late, sample_of_bits};
 use ffv1_range::RangeDecoder;
 use std::alloc::Allocator;
 
@@ -40,7 +40,7 @@ pub(crate) fn decode_equal<B: Allocator>(
     let (size, _) = late_context(set, sum, l, l, ll, false);
     let (next, _) = late_context(set, sum, l, l, l, false);
     // A sample of more bits, as only a row from elsewhere has, does not come again.
-    if size != next || deep_sample(predict_late(l, l, l, l), false, 0, bits) != l {
+    if size != next || sample_of_bits(predict_late(l, l, l, l), false, 0, bits) != l {
         return start;
     }
     let slot = size as usize * 32;

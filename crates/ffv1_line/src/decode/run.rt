@@ -7,7 +7,7 @@ ghost use Rattle.ffv1_line.specs.Coder.{decoder_by};
 
 use crate::decode::places::{Behind, Places};
 use crate::decode::zeros::take_zeros;
-use ffv1_plane::{deep_sample, laws as plane_laws, predict_late};
+use ffv1_plane::{laws as plane_laws, predict_late, sample_of_bits};
 use ffv1_range::RangeDecoder;
 use std::alloc::Allocator;
 
@@ -41,7 +41,7 @@ pub(crate) fn decode_run<B: Allocator>(
         return start;
     }
     // A sample of more bits, as only a row from elsewhere has, does not come again.
-    if deep_sample(predict_late(l, l, l, l), false, 0, bits) != l {
+    if sample_of_bits(predict_late(l, l, l, l), false, 0, bits) != l {
         return start;
     }
     set.is_a_bounded_set();

@@ -14,7 +14,7 @@ ghost use Rattle.ffv1_line.specs.Internal.Places.{ArePlaces, around_place, codin
 ghost use Rattle.ffv1_line.specs.Coder.{decoder_by};
 
 use crate::decode::places::{Behind, Places};
-use ffv1_plane::{deep_sample, late_context, predict_late, sample_signed};
+use ffv1_plane::{late_context, predict_late, sample_of_bits, sample_signed};
 use ffv1_range::{Nonzeros, RangeDecoder, SignedNumber};
 use std::alloc::Allocator;
 
@@ -31,7 +31,7 @@ fn sample_by_sign(prediction: i32, flip: bool, size: u32, negative: bool, bits: 
     }
     let size = size as i32;
     let residual = if negative { -size } else { size };
-    deep_sample(prediction, flip, residual, bits)
+    sample_of_bits(prediction, flip, residual, bits)
 }
 
 /// The sample that comes next, at place `i` of a block, which adds its symbol to `nonzeros`.
@@ -77,7 +77,7 @@ pub(crate) fn decode_sample<B: Allocator>(
     let prediction = predict_late(l, early.t[i], early.least[i], early.most[i]);
     match decoder.tally_signed_in_row(nonzeros, table, states, context as usize) {
         // A zero, the most frequent one, has no sign to flip.
-        Ok(None) => Ok(deep_sample(prediction, false, 0, bits)),
+        Ok(None) => Ok(sample_of_bits(prediction, false, 0, bits)),
         Ok(Some(SignedNumber { size, negative })) => {
             Ok(sample_by_sign(prediction, flip, size, negative, bits))
         }

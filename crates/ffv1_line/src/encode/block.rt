@@ -20,8 +20,8 @@ ghost use Rattle.ffv1_line.specs.Internal.Along.{AreUnsigned};
 use crate::cell::neighbours::{context_by, right_above, sample_before, sample_two_before};
 use crate::encode::part::Part;
 use ffv1_plane::{
-    Around, AroundLanes, QuantSet, SetLanes, choose_deep_lanes, choose_lanes, deep_residual,
-    predict, residual_of,
+    Around, AroundLanes, QuantSet, SetLanes, choose_lanes, choose_lanes_of_bits, predict,
+    residual_of, residual_of_bits,
 };
 use ffv1_range::list_signed;
 use std::alloc::Allocator;
@@ -87,7 +87,7 @@ fn chosen_residual(prediction: i32, flip: bool, sample: u16, bits: u8) -> i32
     ensures { result ≡ chosen_of bits prediction flip sample }
 {
     if bits > 9 {
-        return deep_residual(prediction, flip, sample, bits);
+        return residual_of_bits(prediction, flip, sample, bits);
     }
     residual_of(prediction, flip, sample, bits)
 }
@@ -183,7 +183,7 @@ fn kept_lanes<A: Allocator>(
         (chosen_of bits (predicted (a x)) (flip_of set.now (a x)) (s x))) places }
 {
     if bits > 9 {
-        return choose_deep_lanes(set, lanes, around, samples, bits, three_tables);
+        return choose_lanes_of_bits(set, lanes, around, samples, bits, three_tables);
     }
     choose_lanes(set, lanes, around, samples, bits, three_tables)
 }

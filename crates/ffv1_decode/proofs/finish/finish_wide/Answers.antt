@@ -36,9 +36,9 @@ finish_wide_colours-requires-clause-rct g c = (wide g
     (goal.at.finish_wide_colours-requires-clause-rct g
     c).After-accepted_configuration_has_sound_parts).0
 
-pub finish_wide_colours-requires-clause-deep : goal.finish_wide_colours-requires-clause-deep
-finish_wide_colours-requires-clause-deep g c =
-    (wide g (goal.at.finish_wide_colours-requires-clause-deep g
+pub finish_wide_colours-requires-clause-sixteen : goal.finish_wide_colours-requires-clause-sixteen
+finish_wide_colours-requires-clause-sixteen g c =
+    (wide g (goal.at.finish_wide_colours-requires-clause-sixteen g
     c).After-accepted_configuration_has_sound_parts).1
 
 pub finish_wide_colours-requires-clause-samples : goal.finish_wide_colours-requires-clause-samples

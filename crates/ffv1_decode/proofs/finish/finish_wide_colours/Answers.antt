@@ -14,7 +14,7 @@ use Rattle.ffv1_decode.proofs.finish.finish_wide_colours.Goals as goal
 coloured : (g : Over) (c : After-config-config g) → colouring_of
     c.args.frame.now.checked.now.configuration ≡ words_colouring 16
     c.config-config.result.now.width false c.config-config.result.now.extra_plane
-coloured g c = wide_colouring c.args.frame.now.checked.now.configuration c.requires.deep ∙
+coloured g c = wide_colouring c.args.frame.now.checked.now.configuration c.requires.sixteen ∙
     ap (λ (z : Configuration). words_colouring 16 z.width false z.extra_plane)
     c.config-config.ensures.value
 
@@ -22,7 +22,7 @@ pub wide_colours-requires-clause-out : goal.wide_colours-requires-clause-out
 wide_colours-requires-clause-out g c =
     let conf = c.args.frame.now.checked.now.configuration in
     let bytes : width_bytes conf ≡ 2 * conf.width = ap (λ d. sample_bytes d * conf.width)
-    c.requires.deep in
+    c.requires.sixteen in
     let twice : plane_count conf * (2 * conf.width) ≡ 2 * (plane_count conf * conf.width) =
     omega arith in
     c.requires.out ∙ ap (λ n. plane_count conf * n) bytes ∙ twice ∙ ap (λ n. 2 * n)
@@ -33,7 +33,7 @@ returns-clause-ok g c =
     let conf = c.args.frame.now.checked.now.configuration in
     let same = coloured g (goal.at.returns-clause-ok g c).After-config-config in
     subst (λ d. OnOk c.wide_colours.result (AreMade (colouring_of conf) c.args.samples.now
-    (samples_of d c.wide_colours.new.out))) (sym c.requires.deep)
+    (samples_of d c.wide_colours.new.out))) (sym c.requires.sixteen)
     (subst (λ (k : Colouring). OnOk c.wide_colours.result
     (AreMade k c.args.samples.now (samples_of 16 c.wide_colours.new.out))) (sym same)
     c.wide_colours.ensures.ok)

@@ -19,7 +19,7 @@ use Rattle.ffv1_encode.proofs.frame.put_slices.Goals as goal
 -- there are as many slices as columns and rows make
 end : (g : Over) (c : After-slices-number-end g) → c.slices-number-end.result ≡
     c.args.checked.now.configuration.columns * c.args.checked.now.configuration.rows
-end g c = c.slices-number-end.ensures.value ∙ ap slices_in c.of.ensures.value
+end g c = c.slices-number-end.ensures.value ∙ ap slices_in c.of-grid.ensures.value
 
 pub loop-number-init : goal.loop-number-init
 loop-number-init g c = record {

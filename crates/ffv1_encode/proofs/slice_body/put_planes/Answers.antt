@@ -35,7 +35,7 @@ returns-clause-ok g c =
     let conf = slice.checked.now.configuration in
     let body = chosen_body conf (chosen_head conf slice.info)
     (cell_in conf slice.picture.now slice.number) in
-    let end = c.planes-plane-end.ensures ∙ ap (λ (d : Division). d.planes) c.of.ensures.value in
+    let end = c.planes-plane-end.ensures ∙ ap (λ (d : Division). d.planes) slice.divided in
     let all : c.loop-plane.plane ≡ plane_count conf = omega (arith, end) in
     subst (λ ls. PutsAfter slice.checked.now.table c.args.encoder.now c.args.states.now
     c.loop-plane.encoder c.loop-plane.states (body ls))

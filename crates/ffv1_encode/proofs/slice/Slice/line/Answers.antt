@@ -21,9 +21,9 @@ module _ (g : Over) (c : After-width g) where
 
   bytes_are : c.sample_bytes.result ≡ sample_bytes c.args.self.now.checked.now.configuration.depth
   bytes_are = c.sample_bytes.ensures.value ∙ ap (λ (d : Division). sample_bytes d.depth)
-      c.of-grid.ensures.value
+      c.args.self.now.divided
 
-  lay : Lay c.of-grid.result c.args.self.now.number c.args.plane c.cell-cell.result.left
+  lay : Lay c.args.self.now.grid.now c.args.self.now.number c.args.plane c.cell-cell.result.left
       c.cell-cell.result.top c.cell-cell.result.width c.width.result
   lay = record {
     left_is = c.cell-cell.ensures.left;
@@ -42,9 +42,9 @@ module _ (g : Over) (c : After-width g) where
         ends = c.parts_follow_one_another.ensures.coded;
       } in
       let slice = c.args.self.now in
-      lay_inside slice.checked.now.configuration slice.picture.now c.of-grid.result slice.number
-      c.args.plane c.args.y _ _ _ _ c.as_slice-samples.result.now laws c.of-grid.ensures.division
-      c.of-grid.ensures.value
+      lay_inside slice.checked.now.configuration slice.picture.now c.args.self.now.grid.now slice.number
+      c.args.plane c.args.y _ _ _ _ c.as_slice-samples.result.now laws slice.division
+      c.args.self.now.divided
       lay
       slice.inside c.requires.inside (slice.fits.are.sizes c.args.plane c.requires.plane)
       samples_are
@@ -63,8 +63,8 @@ returns-clause-line g c =
     let conf = slice.checked.now.configuration in
     let samples = c.as_slice-samples.result.now in
     let here = (goal.at.returns-clause-line g c).After-width in
-    lay_line conf slice.picture.now c.of-grid.result slice.number c.args.plane c.args.y _ _ _ _
-    samples c.line_of.result.now c.of-grid.ensures.value
+    lay_line conf slice.picture.now c.args.self.now.grid.now slice.number c.args.plane c.args.y _ _ _ _
+    samples c.line_of.result.now c.args.self.now.divided
     (lay g here)
     (samples_are g here) (room g here) (c.line_of.ensures ∙
     ap (λ k. take (k * c.cell-cell.result.width)

@@ -37,9 +37,9 @@ take_zeros-left-requires g c =
         begins = stands.begins;
         left = search rules;
         top = search rules;
-        again = comes_again c.args.places.now.bits c.args.behind.now.l c.deep_sample.result
-            c.predict_late.result c.if-deep_sample-l.false
-            (simp to_z-of_z at c.deep_sample.ensures.value) c.predict_late.ensures;
+        again = comes_again c.args.places.now.bits c.args.behind.now.l c.sample_of_bits.result
+            c.predict_late.result c.if-sample_of_bits-l.false
+            (simp to_z-of_z at c.sample_of_bits.ensures.value) c.predict_late.ensures;
       };
     }
 

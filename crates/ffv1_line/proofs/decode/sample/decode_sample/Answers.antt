@@ -13,14 +13,14 @@ pub returns-in-Ok-None-clause-ok : goal.returns-in-Ok-None-clause-ok
 returns-in-Ok-None-clause-ok g c = λ tr tt prepared.
     let a = around_place c.args.places.now c.args.i c.args.behind tr tt in
     let prediction : SFits w32 c.predict_late-prediction.result = search rules in
-    sampled_by_zero (coding_of c.args.places.now) _ _ a c.deep_sample.result
+    sampled_by_zero (coding_of c.args.places.now) _ _ a c.sample_of_bits.result
     c.late_context-context.result.0 c.late_context-context.result.1
     c.predict_late-prediction.result
     (c.late_context-context.ensures.size _ tr tt prepared.early)
     (c.late_context-context.ensures.flip _ tr tt prepared.early)
     (c.predict_late-prediction.ensures a refl refl prepared.least_is prepared.most_is ∙
     sym (unsigned_below c.args.places.now.bits c.requires.places.bits a))
-    (simp to_z-of_z at c.deep_sample.ensures.value)
+    (simp to_z-of_z at c.sample_of_bits.ensures.value)
     (rw c.in-Ok-None.field-0-is at (c.in-Ok-None.ensures.follows c.args.i c.requires.few))
 
 pub returns-in-Ok-Some-clause-ok : goal.returns-in-Ok-Some-clause-ok

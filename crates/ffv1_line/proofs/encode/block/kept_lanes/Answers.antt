@@ -17,7 +17,7 @@ returns-then-bits-gt9-clause-residuals g c = λ places a s long is samples small
     let bits = c.args.bits in
     by_values places _ _ (λ (x : ℕ). kept_of bits
     (chosen_of bits (predicted (a x)) (flip_of c.args.set.now (a x)) (s x)))
-    (c.choose_deep_lanes.ensures.residuals places a s long is samples small)
+    (c.choose_lanes_of_bits.ensures.residuals places a s long is samples small)
     (λ x. kept_deep bits _ (omega (arith, c.if-bits-gt9.true)))
 
 pub returns-clause-residuals : goal.returns-clause-residuals
