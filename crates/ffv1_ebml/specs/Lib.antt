@@ -5,3 +5,4 @@ pub mod Contents
 pub mod Children
 pub mod Spelled
 pub mod Rows
+pub mod Tried

@@ -27,6 +27,7 @@ mod element;
 pub mod laws;
 mod spell;
 mod sum;
+mod tried;
 mod vint;
 
 pub use content::{Child, find, first_child, judge, number, text};
@@ -35,3 +36,5 @@ pub use element::{
 };
 pub use spell::{Spelled, long_header, short_header, spelled_number, unknown_header};
 pub use sum::{Sum, fill_summed, pass_summed, take_summed};
+pub use tried::{Header, try_header, try_vint, try_vint_after};
+pub use vint::{Vint, data_of, number_of, size_of};

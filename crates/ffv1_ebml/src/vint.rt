@@ -12,9 +12,11 @@ use ffv1_wire::ByteIn;
 
 /// A variable-size integer (RFC 8794, 4): the first `len` of eight bytes.
 #[derive(Clone, Copy)]
-pub(crate) struct Vint {
-    pub(crate) bytes: [u8; 8],
-    pub(crate) len: usize,
+pub struct Vint {
+    /// The bytes, of which those after the first `len` are not looked at.
+    pub bytes: [u8; 8],
+    /// How many bytes it has.
+    pub len: usize,
 }
 
 /// How many bytes there are, by the first of them; 9 if it begins none.
@@ -46,7 +48,7 @@ pub(crate) fn length_of(first: u8) -> usize
 }
 
 /// The number of at most eight bytes, big end first.
-pub(crate) fn number_of(bytes: &[u8]) -> u64
+pub fn number_of(bytes: &[u8]) -> u64
     requires { length bytes.now ≤ 8 }
     ensures value { result ≡ number_of bytes.now }
     ensures fits { result < 256 ^ length bytes.now }
@@ -59,7 +61,7 @@ pub(crate) fn number_of(bytes: &[u8]) -> u64
 }
 
 /// The data of the integer that these bytes are.
-pub(crate) fn data_of(bytes: &[u8]) -> u64
+pub fn data_of(bytes: &[u8]) -> u64
     requires { length bytes.now ≤ 8 }
     ensures value { result ≡ data_of bytes.now }
     ensures fits { result < 2 ^ (7 * length bytes.now) }
@@ -69,7 +71,7 @@ pub(crate) fn data_of(bytes: &[u8]) -> u64
 
 /// The size that these bytes say, or None if it is unknown.
 #[tactic(auto, unfolding(crate::specs::Vints::size_of))]
-pub(crate) fn size_of(bytes: &[u8]) -> Option<u64>
+pub fn size_of(bytes: &[u8]) -> Option<u64>
     requires { length bytes.now ≤ 8 }
     ensures { result ≡ size_of bytes.now }
 {

@@ -2,7 +2,7 @@
 use Rattle.std.proofs.Common.{◌≡◌, ◌⊎◌, refl, ℕ, Bool, true, false, Option, Some, None, Result, Ok, Err, List, [], ◌++◌, inl, inr, ap, sym, ◌∙◌, append-nil}
 use Rattle.std.specs.Io.KnownBytes.{IsAtEnd}
 use Rattle.ffv1_wire.specs.Passage.{Passage}
-use Rattle.ffv1_reads.specs.Ends.{Ends, FaultsAtEnd, Halts, ReadOrNone, ReadOrOver, RefusedOrFaults, RefusedOrNone, Stops}
+use Rattle.ffv1_reads.specs.Ends.{Ends, FaultsAtEnd, Halts, ReadOrEnds, ReadOrNone, ReadOrOver, RefusedOrFaults, RefusedOrNone, Stops}
 use Rattle.ffv1_reads.specs.Known.{Known}
 use Rattle.ffv1_reads.specs.Reads.{Faults, Kept, Lacks, Met, Read, Reading, Refused, Short, Stop, Want, Wants, read_on, given, ◌>>=◌}
 use Rattle.ffv1_reads.specs.declared.fault.FileFault.{FileFault}
@@ -24,6 +24,10 @@ module _ {X : Type 0} (reading : Reading X) where
   end_known None new x h = tt
   end_known (Some text) None x h = absurd h.0.consumed
   end_known (Some text) (Some rest) x (stop, at) = ap reading (stop.consumed ∙ ap (λ z. stop.bytes ++ z) at ∙ append-nil stop.bytes) ∙ stop.is ∙ ap (λ z. Ok (x, z)) (sym at)
+
+  pub value_known : (old new : Option (List ℕ)) (x : X) → ReadOrEnds reading old new x → Known old new (λ text rest. reading text ≡ Ok (x, rest))
+  value_known old new x (inl read) = read_known old new x read
+  value_known old new x (inr ends) = end_known old new x ends
 
   pub over_known : (over : X → Type 0) (old new : Option (List ℕ)) (x : X) → ReadOrOver over reading old new x → Known old new (λ text rest. reading text ≡ Ok (x, rest))
   over_known over old new x (inl read) = read_known old new x read

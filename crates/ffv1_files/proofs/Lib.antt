@@ -5,3 +5,4 @@ pub mod Openings
 pub mod Nexts
 mod OpenedRooms
 mod Locations
+mod ItemNexts

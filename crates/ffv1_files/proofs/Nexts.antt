@@ -1,5 +1,5 @@
 -- The next frame of a file, of either container.
-use Rattle.std.proofs.Common.{◌≡◌, ap, ℕ, Bool, true, false, Option, Some, None, Result, Ok, Err, List, subst, sym}
+use Rattle.std.proofs.Common.{◌≡◌, refl, ap, ◌∙◌, ℕ, Bool, true, false, Option, Some, None, Result, Ok, Err, List, subst, sym}
 use Rattle.ffv1_wire.specs.Passage.{Passage}
 use Rattle.ffv1_reads.specs.Ends.{AnswersOrNone}
 use Rattle.ffv1_reads.specs.Reads.{Reading}
@@ -18,27 +18,29 @@ use Rattle.ffv1_matroska.specs.declared.place.Place.{Place as MatroskaPlace}
 use Rattle.ffv1_files.specs.Answers.{FileAnswers, ReadsAs, StopsReading, no_ending, nothing_more}
 use Rattle.ffv1_files.specs.Endings.{avi_endings, endings_from}
 use Rattle.ffv1_files.specs.Files.{avi_place, frame_read, matroska_place}
-use Rattle.ffv1_files.specs.Places.{InAvi, InMatroska, Place}
+use Rattle.ffv1_files.specs.Places.{InAvi, InMatroska}
 use Rattle.ffv1_files.specs.Readers.{next_of}
 use Rattle.ffv1_files.proofs.Answering.{just_read, made_reads, made_stops, none_known, none_stops, refused_stops}
 use Rattle.ffv1_matroska.specs.declared.track.TrackNumbers.{TrackNumbers}
 
 module _ {X Y : Type 0} (reading : Reading (Option X)) (view : Y → Option X) (p : Passage) where
-  by_reads : (e : Extent) (y : Y) → AnswersBy e view reading p (Ok y) → ReadsAs reading p (view y)
+  pub by_reads : (e : Extent) (y : Y) → AnswersBy e view reading p (Ok y) → ReadsAs reading p (view y)
   by_reads FirstMovi y h = (h.0, just_read reading p.old p.new (view y) h.1)
   by_reads EveryRiff y h = (h.0, none_known reading p (view y) h.1)
 
-  by_stops : (e : Extent) (f : FileFault) → AnswersBy e view reading p (Err f) → StopsReading (avi_endings e) reading p f
+  pub by_stops : (e : Extent) (f : FileFault) → AnswersBy e view reading p (Err f) → StopsReading (avi_endings e) reading p f
   by_stops FirstMovi f h = refused_stops reading p no_ending f h
   by_stops EveryRiff f h = none_stops reading p f h
 
-avi_over : (e : Extent) (o : Option (List ℕ × AviPlace)) → (avi_endings e).values o → (avi_endings e).values (avi_place o)
-avi_over FirstMovi o none = none
-avi_over EveryRiff o none = ap avi_place none
+-- what the end of an AVI may be, of what is made of that
+module _ {X Y : Type 0} (make : Option X → Option Y) (nothing : make None ≡ None) where
+  pub avi_over : (e : Extent) (o : Option X) → (avi_endings e).values o → (avi_endings e).values (make o)
+  avi_over FirstMovi o none = none
+  avi_over EveryRiff o none = ap make none ∙ nothing
 
-avi_no_fault : (e : Extent) (f : FileFault) → (avi_endings {X = List ℕ × AviPlace} e).faults f → (avi_endings {X = List ℕ × Place} e).faults f
-avi_no_fault FirstMovi f none = none
-avi_no_fault EveryRiff f none = none
+  pub avi_no_fault : (e : Extent) (f : FileFault) → (avi_endings {X = X} e).faults f → (avi_endings {X = Y} e).faults f
+  avi_no_fault FirstMovi f none = none
+  avi_no_fault EveryRiff f none = none
 
 pub avi_next : (place after : AviPlace) (bytes : List ℕ) (p : Passage) (r : Result Bool FileFault) → AnswersFrom place (λ more. avi_reader.next_of more bytes after) (avi.frame_read place) p r →
     FileAnswers (endings_from (InAvi place)) (λ more. next_of more bytes (InAvi after)) (frame_read (InAvi place)) p r
@@ -46,7 +48,7 @@ unfolding frame_read
 avi_next place after bytes p (Ok true) h = made_reads (avi.frame_read place) avi_place p (Some (bytes, after)) (by_reads (avi.frame_read place) (λ (more : Bool). avi_reader.next_of more bytes after) p (extent_of place) true h)
 avi_next place after bytes p (Ok false) h = made_reads (avi.frame_read place) avi_place p None (by_reads (avi.frame_read place) (λ (more : Bool). avi_reader.next_of more bytes after) p (extent_of place) false h)
 avi_next place after bytes p (Err f) h =
-    made_stops (avi.frame_read place) avi_place p (avi_endings (extent_of place)) (endings_from (InAvi place)) (avi_over (extent_of place)) (avi_no_fault (extent_of place)) f (by_stops (avi.frame_read place) (λ (more : Bool). avi_reader.next_of more bytes after) p (extent_of place) f h)
+    made_stops (avi.frame_read place) avi_place p (avi_endings (extent_of place)) (endings_from (InAvi place)) (avi_over avi_place refl (extent_of place)) (avi_no_fault avi_place refl (extent_of place)) f (by_stops (avi.frame_read place) (λ (more : Bool). avi_reader.next_of more bytes after) p (extent_of place) f h)
 
 pub matroska_next : (segment : Option ℕ) (track : TrackNumbers) (place after : MatroskaPlace) (bytes : List ℕ) (p : Passage) (r : Result Bool FileFault) →
     AnswersOrNone (λ more. matroska_reader.next_of more bytes after) (matroska.frame_read track place) p r →

@@ -5,3 +5,4 @@ pub mod Endings
 pub mod Readers
 pub mod Whole
 pub mod Offsets
+pub mod Items

@@ -19,4 +19,5 @@ pub mod laws;
 mod reader;
 
 pub use container::{Container, Scope};
+pub use ffv1_matroska::{Course, Item};
 pub use reader::FileReader;

@@ -13,6 +13,7 @@ ghost use Rattle.ffv1_files.specs.declared.container.Scope.{Scope};
 ghost use Rattle.ffv1_files.specs.declared.container.Scope.TheVariants.{FirstMovi, Whole};
 ghost use Rattle.ffv1_files.specs.Answers.{FileAnswers};
 ghost use Rattle.ffv1_files.specs.Files.{frame_read, open_read};
+ghost use Rattle.ffv1_files.specs.Items.{ItemAnswers, avi_answer, course_of, item_read};
 ghost use Rattle.ffv1_files.specs.Offsets.{LocatedNext, Reached, StopsAt};
 ghost use Rattle.ffv1_files.specs.Endings.{endings_from, opening_endings};
 ghost use Rattle.ffv1_files.specs.Places.{amount, container_of, most_bytes, most_in};
@@ -21,7 +22,7 @@ ghost use Rattle.ffv1_files.specs.Readers.{Leaves, opened_at};
 
 use crate::container::{Container, Scope};
 use ffv1_avi::{AviReader, Extent};
-use ffv1_matroska::MatroskaReader;
+use ffv1_matroska::{Course, Item, MatroskaReader};
 use ffv1_reads::{FileFault, FileHead};
 use ffv1_wire::{ByteIn, read_byte};
 use std::alloc::{Allocator, Global};
@@ -234,5 +235,52 @@ impl<A: Allocator> FileReader<A> {
             Inner::Avi(reader) => reader.next_frame(input, frame),
             Inner::Matroska(reader) => reader.next_frame(input, frame),
         }
+    }
+
+    /// Where reading goes on from here, if the file may be damaged.
+    pub fn course(&self) -> Course
+        ensures { result ≡ course_of self.now }
+    {
+        match &self.inner {
+            Inner::Avi(_) => Course::ended(),
+            Inner::Matroska(reader) => reader.course(),
+        }
+    }
+
+    /// Reads the next frame of a file that may be damaged, or tells a fault that is passed, or
+    /// answers that nothing more comes: of Matroska as `MatroskaReader::next_item` does, by a
+    /// course that begins as `course` says, and the reader stays where it is; an AVI gives what
+    /// `next_frame` gives, and its first fault is answered. The input has to be the one that the
+    /// reader was opened on, and the reader not to have met a fault.
+    pub fn next_item<R: ByteIn>(
+        &mut self,
+        input: &mut R,
+        course: &mut Course,
+        frame: &mut Vec<u8, A>,
+    ) -> Result<Item, FileFault>
+        ensures answer { self.old.fault ≡ None → ItemAnswers self.old.place
+            (item_read self.old.place course.old)
+            (passage R.remaining R.failures input.old input.new) result frame.new.items
+            self.new.place course.new }
+        ensures same { container_of self.new.place ≡ container_of self.old.place }
+        ensures stays { (size : Option ℕ) →
+            container_of self.old.place ≡ container.Matroska size → self.new ≡ self.old }
+        ensures kept { self.new.room ≡ self.old.room }
+    {
+        match &mut self.inner {
+            Inner::Avi(reader) => avi_answer(reader.next_frame(input, frame)),
+            Inner::Matroska(reader) => reader.next_item(input, course, frame),
+        }
+    }
+}
+
+/// The item of an AVI's frame, or the end.
+fn avi_answer(more: Result<bool, FileFault>) -> Result<Item, FileFault>
+    ensures { result ≡ avi_answer more }
+{
+    match more {
+        Ok(true) => Ok(Item::Frame),
+        Ok(false) => Ok(Item::End),
+        Err(fault) => Err(fault),
     }
 }

@@ -149,14 +149,15 @@ grown_by head details frames frame count at stride next places more count_is at_
     same_every a b xs ys p q = rw (p, q) refl
 
 -- what a writer keeps once a frame more was written
-pub keeping_more : (head : Head) (details : TrackEntry) (count at stride next room size : ℕ) (places more : List ℕ) → Keeping (writing head details count at stride places) room → Kept (count + 1) next more → at + 41 + size ≤ 2 ^ 56 - 2 ^ 20 →
-    Keeping (writing head details (count + 1) (at + (41 + size)) next more) 8192
-keeping_more head details count at stride next room size places more keeping kept near =
+pub keeping_more : (head : Head) (details : TrackEntry) (count at stride next room copy size : ℕ) (places more : List ℕ) → Keeping (writing head details count at stride places) room copy → Kept (count + 1) next more → at + 41 + size ≤ 2 ^ 56 - 2 ^ 20 →
+    Keeping (writing head details (count + 1) (at + (41 + size)) next more) 8192 copy
+keeping_more head details count at stride next room copy size places more keeping kept near =
     let counted = keeping.counted in
     let begins = keeping.begins in
     record {
       kept = kept;
       room_is = refl;
+      copy_is = keeping.copy_is;
       counted = omega (arith, counted);
       begins = omega (arith, begins);
       fits = omega (arith, near);
@@ -165,18 +166,18 @@ keeping_more head details count at stride next room size places more keeping kep
     }
 
 -- how many Clusters there are
-pub few_of : (head : Head) (details : TrackEntry) (count at stride room : ℕ) (places : List ℕ) → Keeping (writing head details count at stride places) room → count < 2 ^ 56
-few_of head details count at stride room places keeping = elim (cases_lt 0 count) [
+pub few_of : (head : Head) (details : TrackEntry) (count at stride room copy : ℕ) (places : List ℕ) → Keeping (writing head details count at stride places) room copy → count < 2 ^ 56
+few_of head details count at stride room copy places keeping = elim (cases_lt 0 count) [
   | inl some ↦ let counted = keeping.counted in let ends : at ≤ 2 ^ 56 - 2 ^ 20 = keeping.ends some in omega (arith, counted, ends)
   | inr none ↦ omega (arith, none)
 ]
 
 -- the writer that has one frame more
-pub grows_by : (head : Head) (details : TrackEntry) (frame : List ℕ) (count at stride next room : ℕ) (places more : List ℕ) →
-    Keeping (writing head details count at stride places) room → next ≡ stride_after count stride places → more ≡ with_place count stride at places →
+pub grows_by : (head : Head) (details : TrackEntry) (frame : List ℕ) (count at stride next room copy : ℕ) (places more : List ℕ) →
+    Keeping (writing head details count at stride places) room copy → next ≡ stride_after count stride places → more ≡ with_place count stride at places →
     Grows (writing head details count at stride places) frame (writing head details (count + 1) (at + (41 + length frame)) next more)
-grows_by head details frame count at stride next room places more keeping next_is more_is =
-    let few = few_of head details count at stride room places keeping in
+grows_by head details frame count at stride next room copy places more keeping next_is more_is =
+    let few = few_of head details count at stride room copy places keeping in
     record {
       head_is = refl;
       details_is = refl;
@@ -195,12 +196,13 @@ new_by head kept details at places kept_is at_is places_is =
     let none : first_place head details + 0 ≡ first_place head details = omega arith in
     rw (kept_is, at_is, places_is, none) refl
 
-pub keeping_new : (head kept : Head) (details : TrackEntry) (at : ℕ) (places : List ℕ) → kept ≡ head → at ≡ first_place head details → at < 2 ^ 63 + 2 ^ 20 → places ≡ [] → Keeping (writing kept details 0 at 1 places) 8192
-keeping_new head kept details at places kept_is at_is fits places_is =
+pub keeping_new : (head kept : Head) (details : TrackEntry) (at copy : ℕ) (places : List ℕ) → kept ≡ head → at ≡ first_place head details → at < 2 ^ 63 + 2 ^ 20 → copy ≡ length kept.config_record → places ≡ [] → Keeping (writing kept details 0 at 1 places) 8192 copy
+keeping_new head kept details at copy places kept_is at_is fits copy_is places_is =
     let none : length places ≡ 0 = ap length places_is in
     record {
       kept = record { some = omega arith; few = omega (arith, none); reach = omega arith; near = omega (arith, none); low = omega arith };
       room_is = refl;
+      copy_is = copy_is;
       counted = omega arith;
       begins = omega (arith, at_is);
       fits = fits;

@@ -86,7 +86,7 @@ abbrev pub Lessens : ℕ → Option Step → Type 0
 Lessens n None = Unit {0}
 Lessens n (Some s) = amount s.place < n
 
-abbrev Within : ℕ → Option Step → Type 0
+abbrev pub Within : ℕ → Option Step → Type 0
 Within n None = Unit {0}
 Within n (Some s) = amount s.place ≤ n
 
@@ -97,7 +97,7 @@ passed_within : (size : ℕ) (place : Place) → Gives (Within (amount place)) (
 unfolding passed_on
 passed_within size place = gives_any (Within (amount place)) (passed_summed size place.sum) _ (λ sum. closed_within (amount place) (Some (step_to (summed_at place sum))) (summed_at place sum) (omega arith))
 
-block_within : (track : TrackNumbers) (size : ℕ) (place : Place) → Gives (Within (amount place)) (block_read track size place)
+pub block_within : (track : TrackNumbers) (size : ℕ) (place : Place) → Gives (Within (amount place)) (block_read track size place)
 unfolding block_read fields_read
 block_within track size place = gives_any {X = Data × Sum} P (data_read size place.sum) (block_rest track place) (λ p. gives_if P (p.0.value == track.number) (fields_read p.0.left (summed_at place p.1)) _ (fields p.0.left p.1) (gives_if P (is_unknown track.known p.0.value) (refused fault.BadElement) (passed_on p.0.left (summed_at place p.1)) (gives_refused P fault.BadElement) (passed_within p.0.left (summed_at place p.1))))
   where

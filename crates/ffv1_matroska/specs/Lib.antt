@@ -20,3 +20,6 @@ pub mod MatroskaFiles
 pub mod Begun
 pub mod WrittenFiles
 pub mod Given
+pub mod Turns
+pub mod Items
+pub mod Damaged

@@ -5,6 +5,7 @@ use Rattle.std.specs.Io.KnownBytes.{Appends, Keeps}
 use Rattle.ffv1_wire.specs.Failures.{one_more}
 use Rattle.ffv1_wire.specs.Passage.{Passage}
 use Rattle.ffv1_wire.specs.Patches.{Patches, PatchesBeginning}
+use Rattle.ffv1_wire.specs.Seeks.{Overwriting}
 use Rattle.ffv1_wire.specs.Writes.{AppendsBeginning}
 use Rattle.ffv1_reads.specs.Head.{Head}
 use Rattle.ffv1_reads.specs.Writes.{Writes}
@@ -132,3 +133,11 @@ Finishes p w (Err fault.Write) =
     × (AppendsBeginning p.old p.new (cues_in w)
     ⊎ AfterCues p w (λ mid. PatchesBeginning mid p.new (file_bytes w) (finished_opening w)))
 Finishes p w (Err f) = ⊥
+
+-- once Cues were written, the output was asked to be written over by the finished opening, as many
+-- bytes before its end as the file has, and this is what it answered
+pub record Asks {S : Type 0} (contents : S → Option (List ℕ)) (overwrites : Overwriting S) (old : S)
+    (w : Writing) (done : Bool) (new : S) : Type 0 where
+  pub cued : S
+  pub cues : Appends (contents old) (contents cued) (cues_in w)
+  pub does : overwrites cued (file_bytes w) (finished_opening w) (Ok done) new

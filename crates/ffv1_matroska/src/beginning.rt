@@ -95,7 +95,7 @@ fn keep_tracks<R: ByteIn, A: Allocator>(
 }
 
 /// Appends bytes, for which there is room.
-fn push_bytes<A: Allocator>(config: &mut Vec<u8, A>, bytes: &[u8])
+pub(crate) fn push_bytes<A: Allocator>(config: &mut Vec<u8, A>, bytes: &[u8])
     requires { length config.old.items + length bytes.now ≤ vec_capacity config.old }
     ensures items { config.new.items ≡ config.old.items ++ bytes.now }
     ensures capacity { vec_capacity config.new ≡ vec_capacity config.old }

@@ -21,18 +21,25 @@
 mod beginning;
 mod block;
 mod colour;
+mod course;
+pub mod damage_laws;
 mod frames;
+mod items;
 pub mod laws;
 mod opening;
+mod outer_turn;
 mod place;
 mod rate;
 mod reader;
 mod segment;
 mod track;
 pub mod track_entry;
+mod turn;
 mod write;
 pub mod written_laws;
 
+pub use course::Course;
+pub use items::Item;
 pub use rate::{duration_of, rate_of};
 pub use reader::MatroskaReader;
 pub use track_entry::{CodecId, TrackEntry};

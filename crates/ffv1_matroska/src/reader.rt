@@ -1,7 +1,7 @@
 //! Reads files, frame by frame.
 
 ghost use Rattle.std.specs.Prelude.{◌≡◌, ◌<◌, ◌≤◌, Bool, List, [], true, false, Option, None, Some};
-ghost use Rattle.std.specs.Prelude.{IfErr, IfOk, OnErr, Ok, Err, length};
+ghost use Rattle.std.specs.Prelude.{IfErr, IfOk, OnErr, Ok, Err, length, max, ◌+◌, ◌*◌};
 ghost use Rattle.std.specs.Vec.{vec_capacity};
 ghost use Rattle.ffv1_wire.specs.Passage.{passage};
 ghost use Rattle.ffv1_reads.specs.Ends.{AnswersOrFaults, AnswersOrNone};
@@ -11,6 +11,8 @@ ghost use Rattle.ffv1_reads.specs.Room.{HasRoom, RoomRead};
 ghost use Rattle.ffv1_reads.specs.declared.fault.FileFault.{FileFault};
 ghost use Rattle.ffv1_reads.specs.declared.fault.FileFault.TheVariants as fault;
 ghost use Rattle.ffv1_matroska.specs.Files.{frame_read};
+ghost use Rattle.ffv1_matroska.specs.Items.{ItemAnswers, course_at, item_read};
+ghost use Rattle.ffv1_matroska.specs.declared.items.Item.TheVariants as item;
 ghost use Rattle.ffv1_matroska.specs.Opened.{open_read};
 ghost use Rattle.ffv1_matroska.specs.Offsets.{OffsetAfter, OffsetOpened};
 ghost use Rattle.ffv1_matroska.specs.Places.{amount, ended};
@@ -19,7 +21,9 @@ ghost use Rattle.ffv1_matroska.specs.Readers.{is_frame_fault, is_opening_fault, 
 ghost use Rattle.ffv1_matroska.specs.Readers.{opened_at};
 
 use crate::beginning::read_opening;
+use crate::course::{Course, Pending};
 use crate::frames::read_frame;
+use crate::items::{Item, read_item};
 use crate::place::{Place, ended, passed};
 use crate::track::TrackNumbers;
 use ffv1_reads::{FileFault, FileHead};
@@ -242,5 +246,52 @@ impl<A: Allocator> MatroskaReader<A> {
                 Err(fault)
             }
         }
+    }
+
+    /// Where reading goes on from here, if the file may be damaged.
+    pub fn course(&self) -> Course
+        ensures { result ≡ course_at self.now }
+    {
+        Course {
+            place: self.place,
+            pending: Pending::Nothing,
+            begun: self.offset,
+            at: self.offset,
+        }
+    }
+
+    /// Reads the next frame of a file that may be damaged, or tells a fault and goes on behind it,
+    /// or answers that nothing more comes. The reader stays where it is: the course says where
+    /// reading goes on, and it begins as `course` says.
+    ///
+    /// A frame is read in place of what the vector has. A Cluster whose CRC-32 is not the sum gives
+    /// all its frames, and is told after them, at its last element. A block of a track that no
+    /// TrackEntry has, one with lacing, one of no bytes or of too many, and an element that may not
+    /// stand in a Cluster are told, and the rest of them is passed by their sizes. If an element of
+    /// a Segment begins in a Cluster, that is told, and it is read as one of the Segment. An
+    /// element that passes the Segment is told, and read as if the Segment were of unknown size.
+    /// Behind any other fault the next four bytes that are the ID of a Cluster are sought whose
+    /// size is one and fits in the Segment; where none comes, there are no more frames. If the
+    /// input ends inside an element, `Truncated` is told, and nothing more comes.
+    ///
+    /// `Read` if a read failed, `OutOfMemory`; no other fault is answered. The input has to be the
+    /// one that the reader was opened on. After a frame the vector has room for as many bytes as it
+    /// had, or as it holds, if that is more; else at most for as many as it had, or for twice those
+    /// that it holds and 65536.
+    pub fn next_item<R: ByteIn>(
+        &self,
+        input: &mut R,
+        course: &mut Course,
+        frame: &mut Vec<u8, A>,
+    ) -> Result<Item, FileFault>
+        ensures answer { ItemAnswers (item_read self.now.track.numbers course.old)
+            (passage R.remaining R.failures input.old input.new) result frame.new.items course.new }
+        ensures end { IfOk result (λ i. i ≡ item.End → course.new.place ≡ ended) }
+        ensures room { vec_capacity frame.new
+            ≤ max (vec_capacity frame.old) (2 * length frame.new.items + 65536) }
+        ensures held { IfOk result (λ i. i ≡ item.Frame →
+            vec_capacity frame.new ≤ max (vec_capacity frame.old) (length frame.new.items)) }
+    {
+        read_item(input, self.track, course, frame)
     }
 }

@@ -30,17 +30,17 @@ use ffv1_wire::ByteIn;
 
 pub(crate) const CLUSTER: u32 = 0x1F43_B675;
 
-const SIMPLE_BLOCK: u32 = 0xA3;
+pub(crate) const SIMPLE_BLOCK: u32 = 0xA3;
 
-const BLOCK_GROUP: u32 = 0xA0;
+pub(crate) const BLOCK_GROUP: u32 = 0xA0;
 
-const BLOCK: u32 = 0xA1;
+pub(crate) const BLOCK: u32 = 0xA1;
 
-const CRC_32: u32 = 0xBF;
+pub(crate) const CRC_32: u32 = 0xBF;
 
 /// The IDs of elements that stand only outside of Clusters: SeekHead, Info, Tracks, Cues,
 /// Attachments, Chapters, Tags, Cluster, EBML and Segment.
-const OUTSIDE: [u32; 10] = [
+pub(crate) const OUTSIDE: [u32; 10] = [
     0x114D_9B74,
     0x1549_A966,
     0x1654_AE6B,
@@ -94,7 +94,7 @@ fn is_of_cluster(ident: u32) -> bool
 /// Whether it is one that a Cluster has beside blocks, of so many bytes: Timestamp, Position or
 /// PrevSize, of at most 8 bytes; SilentTracks, EncryptedBlock, Void or CRC-32.
 #[tactic(auto, unfolding(crate::specs::Segments::is_beside))]
-fn is_beside(ident: u32, size: u64) -> bool
+pub(crate) fn is_beside(ident: u32, size: u64) -> bool
     ensures { result ≡ is_beside ident size }
 {
     if ident == 0xE7 || ident == 0xA7 || ident == 0xAB {
@@ -104,7 +104,7 @@ fn is_beside(ident: u32, size: u64) -> bool
 }
 
 /// Whether it is one of a Cluster of unknown size, in which the place is.
-fn is_loose(place: Place, ident: u32) -> bool
+pub(crate) fn is_loose(place: Place, ident: u32) -> bool
     ensures { result ≡ (place.loose && is_of_cluster ident) }
 {
     place.loose && is_of_cluster(ident)

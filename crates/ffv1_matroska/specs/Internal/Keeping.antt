@@ -27,10 +27,11 @@ with_place count stride place places =
     else places ++ place ∷ [])
     else places
 
--- what holds of a writer whose places have so much room
-pub record Keeping (w : Writing) (room : ℕ) : Type 0 where
+-- what holds of a writer whose places have so much room, and its copy of the record so much
+pub record Keeping (w : Writing) (room copy : ℕ) : Type 0 where
   pub kept : Kept w.count w.stride w.places
   pub room_is : room ≡ 8192
+  pub copy_is : copy ≡ length w.head.config_record
   pub counted : 41 * w.count ≤ w.at
   pub begins : 148 ≤ w.at
   pub fits : w.at < 2 ^ 63 + 2 ^ 20

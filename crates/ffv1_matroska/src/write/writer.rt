@@ -1,14 +1,15 @@
 //! A writer of files, frame by frame.
 
 ghost use Rattle.std.specs.Prelude.{◌≡◌, ◌≤◌, ◌<◌, ◌+◌, ◌*◌, ◌-◌, ◌^◌, Bool, true, false, length};
-ghost use Rattle.std.specs.Prelude.{Ok, Err, nat_lt};
+ghost use Rattle.std.specs.Prelude.{Ok, Err, IfOk, nat_lt};
 ghost use Rattle.ffv1_wire.specs.Passage.{passage};
 ghost use Rattle.ffv1_reads.specs.Head.{head_of};
 ghost use Rattle.ffv1_reads.specs.Writes.{Writes};
 ghost use Rattle.ffv1_reads.specs.declared.fault.FileFault.TheVariants as fault;
 ghost use Rattle.ffv1_matroska.specs.WrittenPlaces.{cluster_bytes, last_place};
-ghost use Rattle.ffv1_matroska.specs.Writers.{Finishes, Makes, Puts, piece};
+ghost use Rattle.ffv1_matroska.specs.Writers.{Asks, Finishes, Makes, Puts, piece};
 
+use crate::beginning::push_bytes;
 use crate::rate::{duration_of, rate_of};
 use crate::track_entry::TrackEntry;
 use crate::write::clusters::put_cluster;
@@ -77,7 +78,7 @@ impl<A: Allocator> Model for MatroskaWriter<A> {
       stride = w.stride;
       places = w.places.items;
       failed = w.failed;
-    }) (vec_capacity w.places) };
+    }) (vec_capacity w.places) (vec_capacity w.head.config_record) };
 }
 
 /// A Cluster of a frame of so many bytes, which begins at this place, would end too far.
@@ -114,7 +115,7 @@ impl<A: Allocator> MatroskaWriter<A> {
     ///
     /// `Rate` exactly if the rate does not come back from the whole nanoseconds of a frame, as
     /// `rate_of(duration_of(rate, scale))`; `OutOfMemory` for a copy of the configuration record,
-    /// or for 8192 places.
+    /// or for 8192 places: memory is taken for exactly these.
     pub fn new(
         alloc: A,
         head: &FileHead<A>,
@@ -128,7 +129,8 @@ impl<A: Allocator> MatroskaWriter<A> {
             return Err(FileFault::Rate);
         }
         let at = TRACKS_PLACE + tracks_size(head, details);
-        let config_record = Vec::from_slice(alloc, head.config_record.as_slice())?;
+        let mut config_record = Vec::with_capacity(alloc, head.config_record.len())?;
+        push_bytes(&mut config_record, head.config_record.as_slice());
         let places = Vec::with_capacity(alloc, MOST_CUES)?;
         let head = FileHead {
             width: head.width,
@@ -181,14 +183,17 @@ impl<A: Allocator> MatroskaWriter<A> {
 
     /// Writes Cues, and then writes over all that comes before Tracks: the Segment's size, where
     /// Cues begin and how long the frames last become known. It then answers true. It answers false
-    /// if the output can't be written over: that then has all frames and Cues, and a Segment of
-    /// unknown size. If no frame was put, nothing is written, and the answer is false.
+    /// only if the output can't be written over, as its `patch` says: that then has all frames and
+    /// Cues, and a Segment of unknown size. If no frame was put, nothing is written, and the answer
+    /// is false.
     ///
     /// `Write` if a write failed: a beginning of Cues was written, or all of them and a beginning
     /// of what is written over. `Write` also if one had failed before; nothing is then written.
     pub fn finish<W: PatchOut>(self, out: &mut W) -> Result<bool, FileFault>
         ensures answer { self.failed ≡ false → 0 < self.count →
             Finishes (passage W.contents W.failures out.old out.new) self result }
+        ensures asks { self.failed ≡ false → 0 < self.count → IfOk result (λ done.
+            Asks W.contents W.overwrites out.old self done out.new) }
         ensures none { self.failed ≡ false → self.count ≡ 0 → (result ≡ Ok false)
             × (out.new ≡ out.old) }
         ensures again { self.failed ≡ true → (result ≡ Err fault.Write)

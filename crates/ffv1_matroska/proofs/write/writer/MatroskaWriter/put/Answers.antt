@@ -49,7 +49,7 @@ invariant_of-self-2 g c =
     let keeping = rw c.if-self.false at c.self.invariant in
     let kept = c.keep_place-self-inside.ensures in
     rw (c.if-self.false, kept.room) (keeping_more (head_of inside.head) inside.details inside.count
-    inside.at inside.stride c.keep_place-self-inside.result _ (length c.args.frame.now)
+    inside.at inside.stride c.keep_place-self-inside.result _ _ (length c.args.frame.now)
     inside.places.items c.keep_place-self-inside.new.places.items keeping kept.kept
     (omega (arith, near)))
 
@@ -61,7 +61,7 @@ returns-clause-answer g c = λ lives.
     let kept = c.keep_place-self-inside.ensures in
     let grows = grows_by (head_of inside.head) inside.details c.args.frame.now inside.count
     inside.at
-    inside.stride c.keep_place-self-inside.result _ inside.places.items
+    inside.stride c.keep_place-self-inside.result _ _ inside.places.items
     c.keep_place-self-inside.new.places.items keeping kept.stride kept.items in
     rw (← c.self.view_is, c.if-self.false) (
       omega (arith, near),

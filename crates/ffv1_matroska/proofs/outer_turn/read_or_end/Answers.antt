@@ -1,0 +1,12 @@
+-- The next element of a Segment of unknown size; None if the input has ended before it.
+use Rattle.ffv1_matroska.specs.Turns.{turn_after}
+use Rattle.ffv1_matroska.proofs.TurnReadings.{some_last, turn_begun}
+use Rattle.ffv1_matroska.proofs.outer_turn.read_or_end.Goals as goal
+
+pub returns : goal.returns
+returns g c =
+    let h = c.in-Ok.ensures in
+    let first = c.in-Some.first in
+    let start = turn_begun c.args.track c.args.place first h.counted (rw c.in-Some.is at h.ok) in
+    rw c.turn_of.ensures (some_last (turn_after c.args.track first c.args.place) _ _ _ start
+    c.element_after.ensures)

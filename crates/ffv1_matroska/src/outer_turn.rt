@@ -1,0 +1,486 @@
+//! Elements of a Segment in damaged bytes, outside of Clusters, and the next Cluster.
+
+ghost use Rattle.std.specs.Prelude.{◌≡◌, ◌≤◌, ℕ, Option, Some, IfOk, length, take};
+ghost use Rattle.ffv1_wire.specs.Passage.{passage};
+ghost use Rattle.ffv1_reads.specs.Ends.{AnswersOrNone};
+ghost use Rattle.ffv1_reads.specs.Reads.{Answers};
+ghost use Rattle.ffv1_matroska.specs.Turns.{byte_matched, cluster_found, element_turn, found_turn};
+ghost use Rattle.ffv1_matroska.specs.Turns.{named_turn, open_turn, outer_turn, passes_segment};
+ghost use Rattle.ffv1_matroska.specs.Turns.{scanned, section_headed, section_turn};
+ghost use Rattle.ffv1_matroska.specs.Turns.{seek_turn, segment_named, segment_turn, sized_turn};
+ghost use Rattle.ffv1_matroska.specs.Turns.{open_at, plain_section, summed_section, turn_after};
+ghost use Rattle.ffv1_matroska.specs.Turns.{turn_of};
+ghost use Rattle.ffv1_matroska.specs.Turns.{turn_or_end, turn_read};
+ghost use Rattle.ffv1_matroska.specs.declared.course.Turn.{Turn};
+ghost use Rattle.ffv1_ebml.specs.Tried.{vint_bytes};
+
+use crate::course::{Pending, Turn};
+use crate::place::{Place, cluster_entered, is_sound, segment_at, summed_at};
+use crate::segment::{CLUSTER, CRC_32, is_filler, is_loose, is_section};
+use crate::track::TrackNumbers;
+use crate::turn::{lost, pass_turn, read_child, read_cluster, read_group, read_grouped};
+use ffv1_ebml::{
+    Header, Sum, Vint, number_of, pass_summed, size_of, try_header, try_vint, try_vint_after,
+};
+use ffv1_reads::{FileFault, pass, take};
+use ffv1_wire::{ByteIn, read_byte};
+
+/// A turn, which is not the end.
+fn turn_of(turn: Result<Turn, FileFault>) -> Result<Option<Turn>, FileFault>
+    ensures { result ≡ turn_of turn }
+{
+    match turn {
+        Ok(turn) => Ok(Some(turn)),
+        Err(fault) => Err(fault),
+    }
+}
+
+/// The bytes that a Segment of unknown size counts as.
+const OPEN: u64 = 72057594037927935;
+
+/// The content of an element whose CRC-32 is stated in its first element, after the header of that.
+fn judge_section<R: ByteIn>(input: &mut R, left: u64, place: Place) -> Result<Turn, FileFault>
+    ensures { Answers (λ (t : Turn). t) (summed_section left place)
+        (passage R.remaining R.failures input.old input.new) result }
+{
+    let mut stated = [0u8; 4];
+    take(input, &mut stated)?;
+    let mut sum = Sum::Awaits {
+        stated: u32::from_le_bytes(stated),
+        so_far: !0,
+    };
+    pass_summed(input, left, &mut sum)?;
+    if sum.is_met() {
+        return Ok(Turn::On {
+            pending: Pending::Nothing,
+            place,
+        });
+    }
+    Ok(Turn::Told {
+        fault: FileFault::Checksum,
+        pending: Pending::Nothing,
+        place,
+    })
+}
+
+/// Passes so many bytes twice.
+fn pass_both<R: ByteIn>(
+    input: &mut R,
+    size: u64,
+    left: u64,
+    place: Place,
+) -> Result<Turn, FileFault>
+    ensures { Answers (λ (t : Turn). t) (plain_section size left place)
+        (passage R.remaining R.failures input.old input.new) result }
+{
+    pass(input, size)?;
+    pass(input, left)?;
+    Ok(Turn::On {
+        pending: Pending::Nothing,
+        place,
+    })
+}
+
+/// The content of an element, after the header of its first element.
+fn pass_headed<R: ByteIn>(input: &mut R, header: Header, place: Place) -> Result<Turn, FileFault>
+    ensures { Answers (λ (t : Turn). t) (section_headed place header)
+        (passage R.remaining R.failures input.old input.new) result }
+{
+    match header {
+        Header::Whole {
+            ident,
+            size,
+            left,
+            sum: _,
+        } => {
+            if ident == CRC_32 && size == 4 {
+                return judge_section(input, left, place);
+            }
+            pass_both(input, size, left, place)
+        }
+        Header::Outside { ident: _, left } => Ok(lost(FileFault::BadElement, left, place)),
+        Header::Broken { fault, left } => Ok(lost(fault, left, place)),
+    }
+}
+
+/// The content of an element of the Segment, of so many bytes, before a place.
+#[tactic(auto, unfolding(crate::specs::Turns::section_turn))]
+fn pass_section<R: ByteIn>(input: &mut R, size: u64, place: Place) -> Result<Turn, FileFault>
+    ensures { Answers (λ (t : Turn). t) (section_turn size place)
+        (passage R.remaining R.failures input.old input.new) result }
+{
+    if size == 0 {
+        return Ok(Turn::On {
+            pending: Pending::Nothing,
+            place,
+        });
+    }
+    let header = try_header(input, &[], size, Sum::Absent)?;
+    pass_headed(input, header, place)
+}
+
+/// An element of the Segment of known size, after its header, before a place.
+#[tactic(auto, unfolding(crate::specs::Turns::outer_turn))]
+fn read_sized<R: ByteIn>(
+    input: &mut R,
+    track: TrackNumbers,
+    ident: u32,
+    size: u64,
+    place: Place,
+) -> Result<Turn, FileFault>
+    ensures { Answers (λ (t : Turn). t) (outer_turn track ident place (Some size))
+        (passage R.remaining R.failures input.old input.new) result }
+{
+    if ident == CLUSTER {
+        return Ok(Turn::On {
+            pending: Pending::Nothing,
+            place: cluster_entered(place, size),
+        });
+    }
+    if is_loose(place, ident) {
+        return read_child(input, track, ident, size, place);
+    }
+    if is_section(ident) {
+        return pass_section(input, size, segment_at(place, false, place.segment));
+    }
+    if is_filler(ident) {
+        return pass_turn(input, size, Pending::Nothing, place);
+    }
+    Ok(lost(FileFault::BadElement, size, place))
+}
+
+/// An element of the Segment, after its header, before a place.
+#[tactic(auto, unfolding(crate::specs::Turns::outer_turn))]
+fn read_outer<R: ByteIn>(
+    input: &mut R,
+    track: TrackNumbers,
+    ident: u32,
+    size: Option<u64>,
+    place: Place,
+) -> Result<Turn, FileFault>
+    ensures { Answers (λ (t : Turn). t) (outer_turn track ident place size)
+        (passage R.remaining R.failures input.old input.new) result }
+{
+    let Some(size) = size else {
+        if ident == CLUSTER {
+            return Ok(Turn::On {
+                pending: Pending::Nothing,
+                place: segment_at(place, true, place.segment),
+            });
+        }
+        return Ok(lost(FileFault::BadElement, 0, place));
+    };
+    read_sized(input, track, ident, size, place)
+}
+
+/// Whether an element with a header of so many bytes passes a Segment that has so many left.
+fn passes_segment(left: u64, header: u64, size: Option<u64>) -> bool
+    ensures { result ≡ passes_segment left header size }
+{
+    left < header || left - header < size.unwrap_or(0)
+}
+
+/// An element of the Segment after its header of so many bytes.
+fn judge_outer<R: ByteIn>(
+    input: &mut R,
+    track: TrackNumbers,
+    ident: u32,
+    header: u64,
+    place: Place,
+    size: Option<u64>,
+) -> Result<Turn, FileFault>
+    ensures { Answers (λ (t : Turn). t) (sized_turn track ident header place size)
+        (passage R.remaining R.failures input.old input.new) result }
+{
+    let left = place.segment.saturating_sub(header);
+    if passes_segment(place.segment, header, size) {
+        return Ok(Turn::Told {
+            fault: FileFault::Truncated,
+            pending: Pending::Headed { ident, size },
+            place: segment_at(place, place.loose, left),
+        });
+    }
+    let after = left.saturating_sub(size.unwrap_or(0));
+    read_outer(
+        input,
+        track,
+        ident,
+        size,
+        segment_at(place, place.loose, after),
+    )
+}
+
+/// An element of the Segment whose ID was read, so many bytes after a place.
+#[tactic(auto, unfolding(crate::specs::Turns::named_turn))]
+fn read_named<R: ByteIn>(
+    input: &mut R,
+    track: TrackNumbers,
+    ident: u32,
+    count: u64,
+    place: Place,
+) -> Result<Turn, FileFault>
+    requires { count ≤ 4 }
+    ensures { Answers (λ (t : Turn). t) (named_turn track ident count place)
+        (passage R.remaining R.failures input.old input.new) result }
+{
+    match try_vint(input, 8, 8)? {
+        Err(fault) => {
+            let fault = if count < place.segment {
+                fault
+            } else {
+                FileFault::Truncated
+            };
+            let left = place.segment.saturating_sub(count).saturating_sub(1);
+            Ok(Turn::Told {
+                fault,
+                pending: Pending::Seeking,
+                place: segment_at(place, false, left),
+            })
+        }
+        Ok(size) => {
+            let header = count + size.len as u64;
+            let said = size_of(&size.bytes[..size.len]);
+            judge_outer(input, track, ident, header, place, said)
+        }
+    }
+}
+
+/// An element of the Segment after its ID, or the fault of that.
+fn name_element<R: ByteIn>(
+    input: &mut R,
+    track: TrackNumbers,
+    ident: Result<Vint, FileFault>,
+    place: Place,
+) -> Result<Turn, FileFault>
+    requires len { IfOk ident (λ v. length (take v.len v.bytes) ≡ v.len) }
+    requires most { IfOk ident (λ v. v.len ≤ 4) }
+    ensures { Answers (λ (t : Turn). t) (segment_named track place (vint_bytes ident))
+        (passage R.remaining R.failures input.old input.new) result }
+{
+    match ident {
+        Err(fault) => Ok(Turn::Told {
+            fault,
+            pending: Pending::Seeking,
+            place: segment_at(place, false, place.segment.saturating_sub(1)),
+        }),
+        Ok(ident) => {
+            let number = number_of(&ident.bytes[..ident.len]) as u32;
+            read_named(input, track, number, ident.len as u64, place)
+        }
+    }
+}
+
+/// The next element of a Segment that has bytes left.
+#[tactic(auto, unfolding(crate::specs::Turns::segment_turn))]
+fn read_element<R: ByteIn>(
+    input: &mut R,
+    track: TrackNumbers,
+    place: Place,
+) -> Result<Turn, FileFault>
+    ensures { Answers (λ (t : Turn). t) (segment_turn track place)
+        (passage R.remaining R.failures input.old input.new) result }
+{
+    let ident = try_vint(input, 4, 4)?;
+    name_element(input, track, ident, place)
+}
+
+/// The next element of a Segment of unknown size; None if the input has ended before it.
+fn read_or_end<R: ByteIn>(
+    input: &mut R,
+    track: TrackNumbers,
+    place: Place,
+) -> Result<Option<Turn>, FileFault>
+    ensures { AnswersOrNone (λ (t : Option Turn). t) (turn_or_end track place)
+        (passage R.remaining R.failures input.old input.new) result }
+{
+    let next = match read_byte(input) {
+        Ok(next) => next,
+        Err(_) => return Err(FileFault::Read),
+    };
+    let Some(first) = next else {
+        return Ok(None);
+    };
+    turn_of(element_after(input, track, first, place))
+}
+
+/// An element of a Segment whose first byte was read.
+fn element_after<R: ByteIn>(
+    input: &mut R,
+    track: TrackNumbers,
+    first: u8,
+    place: Place,
+) -> Result<Turn, FileFault>
+    ensures { Answers (λ (t : Turn). t) (turn_after track first place)
+        (passage R.remaining R.failures input.old input.new) result }
+{
+    let ident = try_vint_after(input, first, 4, 4)?;
+    name_element(input, track, ident, place)
+}
+
+/// The next element of a Segment; None at its end.
+#[tactic(auto, unfolding(crate::specs::Turns::open_turn))]
+fn read_open<R: ByteIn>(
+    input: &mut R,
+    track: TrackNumbers,
+    place: Place,
+) -> Result<Option<Turn>, FileFault>
+    ensures { AnswersOrNone (λ (t : Option Turn). t) (open_turn track place)
+        (passage R.remaining R.failures input.old input.new) result }
+{
+    if place.segment == 0 {
+        return Ok(None);
+    }
+    if place.endless {
+        return read_or_end(input, track, place);
+    }
+    turn_of(read_element(input, track, place))
+}
+
+/// How many bytes of the ID of a Cluster the last bytes are, after one more.
+fn byte_matched(matched: u8, byte: u8) -> u8
+    ensures { result ≡ byte_matched matched byte }
+{
+    match (matched, byte) {
+        (_, 0x1F) => 1,
+        (1, 0x43) => 2,
+        (2, 0xB6) => 3,
+        (3, 0x75) => 4,
+        _ => 0,
+    }
+}
+
+/// Passes bytes up to the end of the next ID of a Cluster, and answers how many of so many are left
+/// after it; None if they, or the input, end before.
+fn scan<R: ByteIn>(input: &mut R, left: u64) -> Result<Option<u64>, FileFault>
+    ensures { AnswersOrNone (λ (n : Option ℕ). n) (scanned left 0)
+        (passage R.remaining R.failures input.old input.new) result }
+{
+    let mut matched = 0u8;
+    for passed in 0..left {
+        let byte = match read_byte(input) {
+            Ok(byte) => byte,
+            Err(_) => return Err(FileFault::Read),
+        };
+        let Some(byte) = byte else {
+            return Ok(None);
+        };
+        matched = byte_matched(matched, byte);
+        if matched == 4 {
+            return Ok(Some(left - passed - 1));
+        }
+    }
+    Ok(None)
+}
+
+/// A Cluster that was found, of so many bytes.
+fn cluster_found(place: Place, left: u64, size: Option<u64>) -> Turn
+    ensures { result ≡ cluster_found place left size }
+{
+    let (pending, place) = match size {
+        None => (Pending::Nothing, segment_at(place, true, left)),
+        Some(size) => {
+            if left < size {
+                (Pending::Seeking, segment_at(place, false, left))
+            } else {
+                let after = segment_at(place, false, left - size);
+                (Pending::Nothing, cluster_entered(after, size))
+            }
+        }
+    };
+    Turn::On { pending, place }
+}
+
+/// A Cluster whose ID was found, so many bytes before the end of the Segment.
+#[tactic(auto, unfolding(crate::specs::Turns::found_turn))]
+fn read_found<R: ByteIn>(input: &mut R, place: Place, left: u64) -> Result<Turn, FileFault>
+    ensures { Answers (λ (t : Turn). t) (found_turn place left)
+        (passage R.remaining R.failures input.old input.new) result }
+{
+    match try_vint(input, 8, left)? {
+        Err(_) => Ok(Turn::On {
+            pending: Pending::Seeking,
+            place: segment_at(place, false, left.saturating_sub(1)),
+        }),
+        Ok(size) => {
+            let said = size_of(&size.bytes[..size.len]);
+            Ok(cluster_found(place, left - size.len as u64, said))
+        }
+    }
+}
+
+/// Seeks the next Cluster.
+#[tactic(auto, unfolding(crate::specs::Turns::seek_turn))]
+fn seek_cluster<R: ByteIn>(input: &mut R, place: Place) -> Result<Option<Turn>, FileFault>
+    ensures { AnswersOrNone (λ (t : Option Turn). t) (seek_turn place)
+        (passage R.remaining R.failures input.old input.new) result }
+{
+    let Some(left) = scan(input, place.segment)? else {
+        return Ok(None);
+    };
+    turn_of(read_found(input, place, left))
+}
+
+/// The place in a Segment that counts as open, before content of so many bytes.
+pub(crate) fn open_at(size: u64, place: Place) -> Place
+    ensures { result ≡ open_at size place }
+{
+    Place {
+        segment: OPEN.saturating_sub(size),
+        endless: true,
+        loose: place.loose,
+        cluster: 0,
+        group: 0,
+        sum: Sum::Absent,
+    }
+}
+
+/// The next element; a Cluster that was read to its end, and whose CRC-32 is not the sum, is told
+/// first.
+#[tactic(auto, unfolding(crate::specs::Turns::element_turn))]
+fn next_element<R: ByteIn>(
+    input: &mut R,
+    track: TrackNumbers,
+    place: Place,
+) -> Result<Option<Turn>, FileFault>
+    ensures { AnswersOrNone (λ (t : Option Turn). t) (element_turn track place)
+        (passage R.remaining R.failures input.old input.new) result }
+{
+    if !is_sound(place) {
+        return Ok(Some(Turn::Told {
+            fault: FileFault::Checksum,
+            pending: Pending::Nothing,
+            place: summed_at(place, Sum::Absent),
+        }));
+    }
+    if place.group > 0 {
+        return turn_of(read_group(input, track, Pending::Nothing, place));
+    }
+    if place.cluster > 0 {
+        return turn_of(read_cluster(input, track, place));
+    }
+    read_open(input, track, place)
+}
+
+/// What comes next, by what is pending; None at the end.
+#[tactic(auto, unfolding(crate::specs::Turns::turn_read))]
+pub(crate) fn take_turn<R: ByteIn>(
+    input: &mut R,
+    track: TrackNumbers,
+    pending: Pending,
+    place: Place,
+) -> Result<Option<Turn>, FileFault>
+    ensures { AnswersOrNone (λ (t : Option Turn). t) (turn_read track pending place)
+        (passage R.remaining R.failures input.old input.new) result }
+{
+    match pending {
+        Pending::Nothing => next_element(input, track, place),
+        Pending::Seeking => seek_cluster(input, place),
+        Pending::Grouped => turn_of(read_grouped(input, track, place)),
+        Pending::Passing { count } => turn_of(pass_turn(input, count, Pending::Nothing, place)),
+        Pending::Named { ident } => turn_of(read_named(input, track, ident, 0, place)),
+        Pending::Headed { ident, size } => {
+            let after = open_at(size.unwrap_or(0), place);
+            turn_of(read_outer(input, track, ident, size, after))
+        }
+    }
+}
