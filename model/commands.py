@@ -13,6 +13,7 @@ import sys
 
 sys.dont_write_bytecode = True
 
+import damaged_files
 import ebml
 import ffv1
 import files
@@ -55,9 +56,11 @@ def opened(source):
     return opened_in(*input_of(source))
 
 
-def opened_in(data, is_matroska):
+def opened_in(data, is_matroska, damaged=False):
+    """The same of bytes; where they may be damaged, what is told stands among the frames."""
     if is_matroska:
-        head, size, frames = matroska.open_matroska(data)
+        read = damaged_files.items if damaged else matroska.Segment.frames
+        head, size, frames = matroska.open_matroska(data, read)
         segment = [f"segment {'open' if size is None else size}"]
     else:
         head, frames = files.open_avi(data, True)
@@ -152,7 +155,7 @@ def check(source, out, place, every):
     try:
         data, is_matroska = input_of(source)
         begun = lambda: data.begun
-        check_frames(opened_in(data, is_matroska), out, place, every, judged)
+        first = check_frames(opened_in(data, is_matroska, every), out, place, every, judged)
     except Fault as fault:
         if place and fault.number in OF_FILE:
             try:
@@ -160,14 +163,21 @@ def check(source, out, place, every):
             except Fault:
                 pass
         raise
+    if first:
+        raise first
 
 
 def check_frames(said, out, place, every, judged):
     """A line for each frame; own: where places are asked for, one more where decoding is refused.
-    Where every frame is asked for, it goes on then, and the first such fault ends it."""
+    Where every frame is asked for, it goes on then and behind what is told of a file of Matroska, and
+    the first fault of either kind ends it."""
     _, config, frames, _ = said
     count, faults = 0, []
     for payload in frames:
+        if isinstance(payload, damaged_files.Told):
+            out(f"byte {payload.offset}: fault {payload.fault}\n")
+            faults.append(payload.fault)
+            continue
         decoded = ffv1.decode_frame(config, payload)
         if not decoded.fault:
             out(f"frame {count}: {len(payload)} bytes, {config.slices()} slices, "
@@ -180,11 +190,10 @@ def check_frames(said, out, place, every, judged):
             refuse(count, decoded, out, place)
         count += 1
         judged.append(payload)
-    if count == 0:
+    if count == 0 and not faults:
         raise Fault(70)
     out(f"frames {count} faults {len(faults)}\n" if every else f"frames {count}\n")
-    if faults:
-        raise faults[0]
+    return faults[0] if faults else None
 
 
 def held(config):

@@ -292,9 +292,9 @@ class Segment:
                 yield frame
 
 
-def open_matroska(source):
+def open_matroska(source, read=Segment.frames):
     """What the first Tracks of a file say; the size of its Segment, none where it is open; and its
-    frames in turn. Own: Tracks stand before the first Cluster."""
+    frames in turn, which are read so. Own: Tracks stand before the first Cluster."""
     ebml.open_ebml(source)
     source.mark()
     if source.exactly(4, 52) != SEGMENT.to_bytes(4, "big"):
@@ -312,7 +312,7 @@ def open_matroska(source):
         return head, size, iter(())
     segment.known = head.known
     segment.enter(header[1])
-    return head, size, segment.frames(head.number)
+    return head, size, read(segment, head.number)
 
 
 # ---------------------------------------------------------------------------------- what is written

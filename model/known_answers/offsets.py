@@ -47,6 +47,8 @@ OF_MATROSKA = [
     ("no Tracks", H + segment(element("EC", "0000")), 0, 56, "82 NoTracks"),
     ("a Cluster before Tracks", H + segment(C, T), 0, 52, "82 NoTracks"),
     ("cut in a Cluster's header", whole(C)[:140], 0, 131, "52 Truncated"),
+]
+AMONG_FRAMES = [
     ("cut in its timestamp", whole(C)[:145], 0, 143, "52 Truncated"),
     ("cut in its block", whole(C)[:150], 0, 146, "52 Truncated"),
     ("cut in the second one", whole(C, C)[:180], 1, 172, "52 Truncated"),
@@ -71,7 +73,14 @@ OF_MATROSKA = [
 
 def offsets():
     """Each file, of which so many frames are decoded, by `check` and `check --all`, and by `check
-    --quiet`."""
+    --quiet`. Among the frames of a Matroska file `check --all` goes on, as `damaged.py` says."""
+    for name, file, frames, byte, fault in AMONG_FRAMES:
+        where = f"fault frame {frames} byte {byte}\n"
+        yield Case(f"byte of the file: {name}", {"in": file}, [
+            Step(["check", "in"], lines(frames), fault),
+            Step(["check", "--place", "in"], lines(frames) + where, fault),
+            Step(["check", "--quiet", "in"], f"in: {fault} at byte {byte}\n", fault)],
+            {"in": file})
     for name, file, frames, byte, fault in OF_AVI + OF_MATROSKA:
         where = f"fault frame {frames} byte {byte}\n"
         yield Case(f"byte of the file: {name}", {"in": file}, [

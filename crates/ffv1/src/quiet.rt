@@ -46,15 +46,24 @@ impl Line {
         }
     }
 
+    /// Whether it tells a fault of the file that is passed.
+    fn is_told(&self) -> bool {
+        self.word(0) == "byte"
+    }
+
     /// Whether it says where a fault is.
     fn says_place(&self) -> bool {
-        self.word(0) == "fault"
+        self.word(0) == "fault" || self.is_told()
     }
 
     /// Where it says that a fault is.
     fn place(&self) -> Place<'_> {
         if !self.says_place() {
             return Place::Unknown;
+        }
+        if self.is_told() {
+            let byte = self.word(1);
+            return Place::Byte(byte.strip_suffix(':').unwrap_or(byte));
         }
         let kind = self.word(3);
         if kind == "slice" {
@@ -97,6 +106,8 @@ pub struct LastLines {
     last: Line,
     // The first one of a fault's place; one with no byte if there was none.
     first: Line,
+    // Whether there was one of a fault of the file that is passed.
+    told: bool,
 }
 
 impl LastLines {
@@ -106,6 +117,7 @@ impl LastLines {
             line: Line::new(),
             last: Line::new(),
             first: Line::new(),
+            told: false,
         }
     }
 
@@ -114,13 +126,18 @@ impl LastLines {
         if self.first.length == 0 && self.line.says_place() {
             self.first = self.line;
         }
+        self.told = self.told || self.line.is_told();
         self.last = self.line;
         self.line = Line::new();
     }
 
     /// Where a fault is that ended a check: as the last line says. If all frames were asked for
-    /// that line may be of a frame before, and only a byte of the file is the fault's own.
+    /// that line may be of a frame before, or of a fault that was passed, and only a byte of the
+    /// file is the fault's own.
     fn place(&self, all: bool) -> Place<'_> {
+        if self.last.is_told() {
+            return Place::Unknown;
+        }
         match self.last.place() {
             Place::Slice(_, _) if all => Place::Unknown,
             place => place,
@@ -146,8 +163,9 @@ impl ByteOut for LastLines {
 }
 
 /// Prints one line of a file that was checked: how many frames it has if all are sound; with `all`
-/// how many are refused, and the first fault; or the fault that ended the check, and where it is if
-/// that is known. `answer` is what the check answered, and `lines` has what it wrote, with places.
+/// how many are refused, and the first fault, or how many faults there are, if some are of the
+/// file; or the fault that ended the check, and where it is if that is known. `answer` is what the
+/// check answered, and `lines` has what it wrote, with places.
 pub fn tell_verdict(
     rt: &impl Print,
     path: &str,
@@ -168,7 +186,13 @@ pub fn tell_verdict(
         Ok(Some(fault)) => {
             let (frames, faults) = (lines.last.word(1), lines.last.word(3));
             let place = lines.first.place();
-            println!(rt; "{path}: {faults} of {frames} frames refused, the first {fault}{place}")
+            if lines.told {
+                println!(rt; "{path}: {faults} faults in {frames} frames, the first {fault}{place}")
+            } else {
+                println!(rt;
+                    "{path}: {faults} of {frames} frames refused, the first {fault}{place}"
+                )
+            }
         }
         Err(fault) => {
             let place = lines.place(all);

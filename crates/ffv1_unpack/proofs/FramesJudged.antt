@@ -43,7 +43,7 @@ judged_more place c js j =
 
 -- ---- counts
 
-with_more : (o : Option Fault) (xs ys : List Fault) → with_refusal o (xs ++ ys) ≡ with_refusal o xs ++ ys
+pub with_more : (o : Option Fault) (xs ys : List Fault) → with_refusal o (xs ++ ys) ≡ with_refusal o xs ++ ys
 with_more None xs ys = refl
 with_more (Some f) xs ys = refl
 
@@ -51,11 +51,11 @@ refusals_more : (js : List Judged) (j : Judged) → refusals (js ++ (j ∷ [])) 
 refusals_more [] j = refl
 refusals_more (k ∷ ks) j = ap (with_refusal (refusal_of k)) (refusals_more ks j) ∙ with_more (refusal_of k) (refusals ks) (with_refusal (refusal_of j) [])
 
-first_more : (fs : List Fault) (f : Fault) → slice_get (fs ++ (f ∷ [])) 0 ≡ first_of (slice_get fs 0) f
+pub first_more : (fs : List Fault) (f : Fault) → slice_get (fs ++ (f ∷ [])) 0 ≡ first_of (slice_get fs 0) f
 first_more [] f = refl
 first_more (g ∷ gs) f = refl
 
-no_more : (fs : List Fault) → fs ++ [] ≡ fs
+pub no_more : (fs : List Fault) → fs ++ [] ≡ fs
 no_more [] = refl
 no_more (g ∷ gs) = ap (λ z. g ∷ z) (no_more gs)
 

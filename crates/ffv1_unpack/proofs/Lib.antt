@@ -10,6 +10,9 @@ mod FilePlayed
 mod FileChecked
 mod FramesJudged
 mod FileJudged
+mod OpenedAs
+mod ItemsJudged
+mod FileItems
 mod PicturesWritten
 mod FileUnpacked
 mod ImageLines

@@ -1,5 +1,6 @@
 -- What `check_all` writes, and why it is refused.
-use Rattle.std.specs.Prelude.{◌≡◌, ℕ, ◌<◌, Bool, List, ◌++◌, length, slice_get, Option}
+use Rattle.std.specs.Prelude.{◌≡◌, ◌⊎◌, ℕ, ◌<◌, Bool, true, false, List, ◌++◌, length, slice_get}
+use Rattle.std.specs.Prelude.{Option}
 use Rattle.std.specs.Io.KnownBytes.{Appends}
 use Rattle.ffv1_range.specs.Counts.{saturated}
 use Rattle.ffv1_wire.specs.Passage.{Passage}
@@ -8,8 +9,10 @@ use Rattle.ffv1_reads.specs.Known.{Known}
 use Rattle.ffv1_video.specs.declared.profile.Profile.{Profile}
 use Rattle.ffv1_video.specs.declared.fault.Fault.{Fault}
 use Rattle.ffv1_unpack.specs.Checked.{CheckedStops}
+use Rattle.ffv1_unpack.specs.Containers.{IsReadAs}
 use Rattle.ffv1_unpack.specs.Judged.{IsJudged, Judged, counts_line, judged_lines, payload_of}
 use Rattle.ffv1_unpack.specs.Judged.{payloads_of, refusals}
+use Rattle.ffv1_unpack.specs.JudgedItems.{ItemsDone, ItemsFault}
 use Rattle.ffv1_unpack.specs.Stream.{AreAll, HoldsPayloads, IsStream, Stream}
 
 -- how many frames there were, and how many of them were refused
@@ -42,3 +45,15 @@ module _ (profile : Profile) (place : Bool) (input output : Passage) where
   CheckAllStops f =
       CheckedStops IsJudged payload_of (judged_lines place) judged_count profile place input output
       f
+
+  -- of a file that is no Matroska its frames, up to the first fault of the file itself; of Matroska
+  -- all that it gives
+  abbrev pub AllDone : Option Fault → Type 0
+  AllDone first =
+      (IsReadAs false profile input.old × CheckAllDone first)
+      ⊎ (IsReadAs true profile input.old × ItemsDone profile place input output first)
+
+  abbrev pub AllStops : Fault → Type 0
+  AllStops f =
+      (IsReadAs false profile input.old × CheckAllStops f)
+      ⊎ (IsReadAs true profile input.old × ItemsFault profile place input output f)

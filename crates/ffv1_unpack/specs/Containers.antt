@@ -1,5 +1,6 @@
--- The container of a file: which faults a profile has beside those of AVI.
-use Rattle.std.specs.Prelude.{Bool, false}
+-- The container of a file: by what it is known, and which faults a profile has beside those of AVI.
+use Rattle.std.specs.Prelude.{◌≡◌, ℕ, Bool, false, List, Option, Some, None, ⊤}
+use Rattle.ffv1_files.specs.Files.{is_matroska}
 use Rattle.ffv1_video.specs.declared.profile.Profile.{Profile}
 use Rattle.ffv1_video.specs.declared.profile.Profile.TheVariants.{Strict, Wide}
 use Rattle.ffv1_video.specs.declared.fault.Fault.{Fault}
@@ -9,3 +10,13 @@ use Rattle.ffv1_video.specs.Faults.{is_matroska_fault}
 abbrev pub is_profile_fault : Profile → Fault → Bool
 is_profile_fault Strict f = false
 is_profile_fault Wide f = is_matroska_fault f
+
+-- whether a profile reads these bytes as Matroska
+abbrev pub reads_matroska : Profile → List ℕ → Bool
+reads_matroska Strict file = false
+reads_matroska Wide file = is_matroska file
+
+-- if the bytes of the input are known, this is whether they are read as Matroska
+abbrev pub IsReadAs : Bool → Profile → Option (List ℕ) → Type 0
+IsReadAs matroska profile None = ⊤
+IsReadAs matroska profile (Some file) = reads_matroska profile file ≡ matroska

@@ -5,6 +5,7 @@ pub mod FrameLines
 pub mod FrameMd5
 pub mod ImagesOut
 pub mod Judged
+pub mod JudgedItems
 pub mod Located
 pub mod Md5List
 pub mod Opens

@@ -7,6 +7,7 @@ pub mod Opens
 pub mod Plays
 pub mod Told
 pub mod Judged
+pub mod JudgedItems
 pub mod Checked
 pub mod Check
 pub mod CheckAll

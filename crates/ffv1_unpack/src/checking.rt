@@ -3,15 +3,16 @@
 ghost use Rattle.std.specs.Prelude.{IfErr, IfOk, OnOk};
 ghost use Rattle.ffv1_wire.specs.Passage.{passage};
 ghost use Rattle.ffv1_unpack.specs.Check.{CheckDone, CheckStops, IsCheckFault, count_line};
-ghost use Rattle.ffv1_unpack.specs.CheckAll.{CheckAllDone, CheckAllStops};
+ghost use Rattle.ffv1_unpack.specs.CheckAll.{AllDone, AllStops};
 ghost use Rattle.ffv1_unpack.specs.Judged.{counts_line};
 ghost use Rattle.ffv1_unpack.specs.Internal.Told.{WritesFrame};
 
 use crate::frame_line::{FrameLine, put_count, put_counts};
 use crate::judging::judge_frames;
+use crate::judging_items::judge_items;
 use crate::player::open_player_located;
 use crate::telling::{Places, Telling, tell_byte, tell_frames};
-use ffv1_files::laws as files_laws;
+use ffv1_files::{Container, laws as files_laws};
 use ffv1_video::{Fault, Profile};
 use ffv1_wire::{ByteIn, ByteOut, write_all};
 use std::alloc::Allocator;
@@ -101,7 +102,7 @@ pub fn check<R: ByteIn, W: ByteOut, A: Allocator + Copy>(
     }
 }
 
-/// Writes how many frames there were, and how many of them are refused.
+/// Writes how many frames there were, and how many faults.
 fn write_counts<W: ByteOut, A: Allocator + Copy>(
     alloc: A,
     output: &mut W,
@@ -120,12 +121,15 @@ fn write_counts<W: ByteOut, A: Allocator + Copy>(
 }
 
 /// Decodes all frames of a file that the profile reads, and goes on after a payload that is
-/// refused. Writes a line of each frame as soon as it is judged, and at the end how many there were
-/// and how many of them are refused:
+/// refused; in a Matroska file also after a fault of the file itself among its frames, as
+/// `MatroskaReader::next_item` does. Writes a line of each frame as soon as it is judged, and of
+/// each such fault with the number of bytes of the file before the element at fault, and at the end
+/// how many frames there were, and how many faults of both kinds:
 ///
 /// ```text
 /// frame {i}: {length} bytes, {slices} slices, {decisions} decisions
 /// frame {i}: fault {number} {name}
+/// byte {offset}: fault {number} {name}
 /// frames {n} faults {m}
 /// ```
 ///
@@ -135,15 +139,16 @@ fn write_counts<W: ByteOut, A: Allocator + Copy>(
 /// fault frame {i} slice {s} plane {p} line {l} x {x} decisions {d}
 /// ```
 ///
-/// Answers the fault of the first payload that is refused, and None if none is. Frames are
-/// counted from 0; a count of 64 bits stays at its greatest value. Beside what the decoder holds,
-/// one payload and its lines are held.
+/// Answers the first fault of either kind, and None if there is none. Frames are counted from 0; a
+/// count of 64 bits stays at its greatest value, and of a Matroska file at most 2^64 - 1 frames and
+/// faults are judged. Beside what the decoder holds, one payload and its lines are held.
 ///
 /// All other faults end it as they end `check`, after the lines of the frames before: those of the
-/// file up to its first frame, of its record, and of the chunks of its frames (`EmptyFrame`, too);
-/// `NoFrames` at the end if there was none; `Read`, `OutOfMemory` and `Write` as they come,
-/// `Write` also if the line of a frame's place is not written. With `place`, at `Wide`, a fault
-/// of the file itself has the line of its byte, as `check` writes it.
+/// file up to its first frame, of its record, and of the chunks of its frames, if it is an AVI
+/// (`EmptyFrame`, too); `NoFrames` at the end if there was neither a frame nor a fault; `Read`,
+/// `OutOfMemory` and `Write` as they come, `Write` also if the line of a frame's place is not
+/// written. With `place`, at `Wide`, a fault of the file itself has the line of its byte, as
+/// `check` writes it, but not a read that fails among the frames of a Matroska file.
 pub fn check_all<R: ByteIn, W: ByteOut, A: Allocator + Copy>(
     alloc: A,
     profile: Profile,
@@ -151,10 +156,10 @@ pub fn check_all<R: ByteIn, W: ByteOut, A: Allocator + Copy>(
     output: &mut W,
     place: bool,
 ) -> Result<Option<Fault>, Fault>
-    ensures ok { IfOk result (CheckAllDone profile place
+    ensures ok { IfOk result (AllDone profile place
         (passage R.remaining R.failures input.old input.new)
         (passage W.contents W.failures output.old output.new)) }
-    ensures err { IfErr result (CheckAllStops profile place
+    ensures err { IfErr result (AllStops profile place
         (passage R.remaining R.failures input.old input.new)
         (passage W.contents W.failures output.old output.new)) }
     ensures own { IfErr result (IsCheckFault profile) }
@@ -168,14 +173,24 @@ pub fn check_all<R: ByteIn, W: ByteOut, A: Allocator + Copy>(
             tell_byte(output, byte, 0, offset, fault);
             Err(fault)
         }
-        Ok(mut player) => {
-            let places = Places { place, byte };
-            let counts = judge_frames(alloc, &mut player, input, output, places)?;
-            if counts.frames == 0 {
-                return Err(Fault::NoFrames);
+        Ok(mut player) => match player.reader.container() {
+            Container::Avi => {
+                let places = Places { place, byte };
+                let counts = judge_frames(alloc, &mut player, input, output, places)?;
+                if counts.frames == 0 {
+                    return Err(Fault::NoFrames);
+                }
+                write_counts(alloc, output, counts.frames, counts.faults)?;
+                Ok(counts.first)
             }
-            write_counts(alloc, output, counts.frames, counts.faults)?;
-            Ok(counts.first)
-        }
+            Container::Matroska(_size) => {
+                let counts = judge_items(alloc, &mut player, input, output, place)?;
+                if counts.frames == 0 && counts.faults == 0 {
+                    return Err(Fault::NoFrames);
+                }
+                write_counts(alloc, output, counts.frames, counts.faults)?;
+                Ok(counts.first)
+            }
+        },
     }
 }

@@ -11,6 +11,7 @@ ghost use Rattle.ffv1_unpack.specs.Judged.{IsJudged, Judged};
 ghost use Rattle.ffv1_unpack.specs.Internal.Judged.{AreCounts, JudgeAnswers};
 ghost use Rattle.ffv1_unpack.specs.Judged.{judged_lines, payload_of, refused_line};
 ghost use Rattle.ffv1_unpack.specs.Internal.Judged.{one_counted};
+ghost use Rattle.ffv1_unpack.specs.Internal.JudgedItems.{told_counted};
 ghost use Rattle.ffv1_unpack.specs.Internal.Located.{LocatedAfter, StaysReached};
 ghost use Rattle.ffv1_unpack.specs.Plays.{GoesBy, HasThen};
 ghost use Rattle.ffv1_unpack.specs.Internal.Plays.{PlaysAll};
@@ -24,20 +25,31 @@ use ffv1_video::Fault;
 use ffv1_wire::{ByteIn, ByteOut, write_all};
 use std::alloc::Allocator;
 
-/// How many frames were judged. A count of 64 bits stays at its greatest value.
+/// How many frames were judged, and how many faults there were. A count of 64 bits stays at its
+/// greatest value.
 #[derive(Clone, Copy, Debug, PartialEq, Eq)]
 pub struct JudgedCounts {
     /// The frames.
     pub frames: u64,
-    /// Those of them that are refused.
+    /// Those of them that are refused, and the faults of the file that were told.
     pub faults: u64,
-    /// The fault of the first one that is refused.
+    /// The first fault.
     pub first: Option<Fault>,
 }
 
 impl JudgedCounts {
+    /// Counts one fault more of the file.
+    pub(crate) fn tell(&mut self, fault: Fault)
+        ensures { self.new ≡ told_counted self.old fault }
+    {
+        self.faults = self.faults.saturating_add(1);
+        if self.first.is_none() {
+            self.first = Some(fault);
+        }
+    }
+
     /// Counts one frame more, with its fault if it is refused.
-    fn count(&mut self, fault: Option<Fault>)
+    pub(crate) fn count(&mut self, fault: Option<Fault>)
         ensures { self.new ≡ one_counted self.old fault }
     {
         self.frames = self.frames.saturating_add(1);
@@ -68,7 +80,7 @@ fn write_refused<W: ByteOut, A: Allocator>(
 }
 
 /// Writes the line of a frame that is refused, and with `place` that of the place.
-fn write_refusal<W: ByteOut, A: Allocator>(
+pub(crate) fn write_refusal<W: ByteOut, A: Allocator>(
     output: &mut W,
     text: &mut Vec<u8, A>,
     place: bool,

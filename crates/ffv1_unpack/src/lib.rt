@@ -14,6 +14,7 @@ pub mod frame_line;
 mod hashing;
 mod images_out;
 mod judging;
+mod judging_items;
 mod md5_line;
 mod md5_list;
 mod pictures_out;

@@ -271,14 +271,13 @@ fn frames_in_turn(rt: &impl Abort, alloc: Global, kind: &Kind<'_>) -> (u64, u64)
 /// The second frame of a kind makes requests for the growth of its code alone, of which the last
 /// bytes are a footer, and the first one for its states and so many lines, too.
 fn makes_requests(rt: &impl Abort, alloc: Global, kind: &Kind<'_>, foot: usize, lines: u64) {
-    let grown = growth(alloc, kind.frame, foot).saturating_add(u64::from(kind.ec));
+    let grown = growth(alloc, kind.frame, foot);
     let (first, second) = frames_in_turn(rt, alloc, kind);
     assert!(rt; second == grown && first == grown.saturating_add(1).saturating_add(lines));
 }
 
-/// A warm encoder makes requests for the growth of its code alone, and for the copy whose parity a
-/// footer has; the first frame's are for its states, too, and for three lines of each plane that is
-/// coded beside others.
+/// A warm encoder makes requests for the growth of its code alone; the first frame's are for its
+/// states, too, and for three lines of each plane that is coded beside others.
 #[test]
 fn each_request_of_a_frame(rt: HostRuntime) {
     makes_requests(&rt, rt.alloc(), &GUARDED, 8, 3);

@@ -3,6 +3,7 @@
 mod closed;
 mod colours;
 mod commands;
+mod damaged;
 mod packing;
 mod rates;
 mod reading;

@@ -1,5 +1,5 @@
 -- What a position in a file of a container may be, and the faults that are its own.
-use Rattle.std.specs.Prelude.{◌≡◌, Bool, false, ⊤}
+use Rattle.std.specs.Prelude.{◌≡◌, Bool, true, false, ⊤}
 use Rattle.ffv1_files.specs.declared.container.Container.{Container}
 use Rattle.ffv1_files.specs.declared.container.Container.TheVariants as container
 use Rattle.ffv1_files.specs.Places.{Place, container_of}
@@ -17,3 +17,8 @@ is_container_fault (container.Matroska size) f = is_matroska_fault f
 abbrev pub IsWithin : Profile → Place → Type 0
 IsWithin Strict place = container_of place ≡ container.Avi
 IsWithin Wide place = ⊤
+
+-- whether it is a Segment
+abbrev pub is_segment : Container → Bool
+is_segment container.Avi = false
+is_segment (container.Matroska size) = true

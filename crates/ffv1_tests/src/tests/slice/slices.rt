@@ -52,7 +52,7 @@ fn begun(alloc: Global, checked: &Checked, number: u32) -> Result<RangeEncoder, 
 /// The bytes of a slice, its footer among them.
 fn ended(alloc: Global, encoder: RangeEncoder, ec: bool) -> Result<Vec<u8>, Fail> {
     let mut bytes = encoder.finish_sentinel()?;
-    let foot = footer(alloc, bytes.as_slice(), ec)?;
+    let foot = footer(bytes.as_slice(), ec)?;
     bytes.extend_from_slice(foot.bytes())?;
     Ok(bytes)
 }

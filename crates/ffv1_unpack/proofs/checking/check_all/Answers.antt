@@ -1,109 +1,289 @@
--- Decodes all frames of a file that the profile reads, and goes on after a payload that is refused.
-use Rattle.std.proofs.Common.{rules, ◌≡◌}
+-- Decodes all frames of a file that the profile reads, and goes on after a payload that is refused,
+-- and in Matroska after a fault of the file itself.
+use Rattle.std.proofs.Common.{rules, ◌≡◌, ◌⊎◌, true, false, ap, sym, ◌∙◌, inl, inr}
 use Rattle.std.proofs.lemmas.Result.{err_from_is_err_and}
+use Rattle.ffv1_files.specs.declared.container.Container.TheVariants as container
+use Rattle.ffv1_files.specs.Places.{container_of}
+use Rattle.ffv1_unpack.specs.Containers.{IsReadAs}
+use Rattle.ffv1_unpack.specs.Internal.Containers.{is_segment}
 use Rattle.ffv1_unpack.proofs.FileRead.{holds_payloads}
 use Rattle.ffv1_unpack.proofs.FileChecked.{goes_stops, lacks_opening}
+use Rattle.ffv1_unpack.proofs.FileItems.{count_fails, items_done, items_stop, items_unopened}
+use Rattle.ffv1_unpack.proofs.FileItems.{no_items}
 use Rattle.ffv1_unpack.proofs.FileJudged.{all_done, count_stops, none_judged}
+use Rattle.ffv1_unpack.proofs.OpenedAs.{either_read, read_as}
 use Rattle.ffv1_unpack.proofs.OwnFaults.{opening_checks, told_checks}
 use Rattle.ffv1_unpack.specs.CheckAll.{judged_count}
 use Rattle.ffv1_unpack.specs.Judged.{IsJudged, judged_lines, payload_of, payloads_of}
+use Rattle.ffv1_unpack.proofs.ItemsJudged.{line_own}
 use Rattle.ffv1_unpack.proofs.checking.check_all.Goals as goal
+use Rattle.ffv1_unpack.proofs.checking.check_all.Goals.{else-counts-eq0-2-via-else-counts-eq0-2}
+use Rattle.ffv1_unpack.proofs.checking.check_all.Goals.{else-counts-eq0-2-via-then-counts-eq0-2+else-counts-eq0-3}
 
 pub returns-in-Err-clause-err : goal.returns-in-Err-clause-err
 returns-in-Err-clause-err g c =
+    let i = g.R.ByteIn.remaining in
+    let o = g.W.ByteOut.contents in
+    let k = g.R.ByteIn.failures in
+    let n = g.W.ByteOut.failures in
     let f = c.in-Err.fault in
-    lacks_opening IsJudged payload_of (judged_lines c.args.place) judged_count c.args.profile
-    c.args.place (g.R.ByteIn.remaining c.args.input.now)
-    (g.R.ByteIn.remaining c.open_player_located.new.input)
-    (g.R.ByteIn.remaining c.args.input.now)
-    (g.W.ByteOut.contents c.args.output.now) (g.W.ByteOut.contents c.tell_byte.new.output)
-    (g.W.ByteOut.contents c.args.output.now)
-    (g.R.ByteIn.failures c.args.input.now) (g.R.ByteIn.failures c.open_player_located.new.input)
-    (g.R.ByteIn.failures c.args.input.now)
-    (g.W.ByteOut.failures c.args.output.now) (g.W.ByteOut.failures c.tell_byte.new.output)
-    (g.W.ByteOut.failures c.args.output.now)
-    f c.open_player_located.new.offset c.in-Err.ensures.err c.in-Err.ensures.stopped
-    (rw c.tells_byte-byte.ensures at c.tell_byte.ensures)
+    let told = rw c.tells_byte-byte.ensures at c.tell_byte.ensures in
+    elim (either_read c.args.profile (i c.args.input.now)) [
+      | inl avi ↦ inl (
+        avi,
+        lacks_opening IsJudged payload_of (judged_lines c.args.place) judged_count
+            c.args.profile c.args.place (i c.args.input.now)
+            (i c.open_player_located.new.input) (i c.args.input.now) (o c.args.output.now)
+            (o c.tell_byte.new.output) (o c.args.output.now) (k c.args.input.now)
+            (k c.open_player_located.new.input) (k c.args.input.now) (n c.args.output.now)
+            (n c.tell_byte.new.output) (n c.args.output.now) f
+            c.open_player_located.new.offset c.in-Err.ensures.err c.in-Err.ensures.stopped
+            told,
+      )
+      | inr matroska ↦ inr (
+        matroska,
+        items_unopened c.args.profile c.args.place (i c.args.input.now)
+            (i c.open_player_located.new.input) (o c.args.output.now)
+            (o c.tell_byte.new.output) (k c.args.input.now)
+            (k c.open_player_located.new.input) (n c.args.output.now)
+            (n c.tell_byte.new.output) f c.open_player_located.new.offset
+            c.in-Err.ensures.err c.in-Err.ensures.stopped told,
+      )
+    ]
 
 pub returns-in-Err-clause-own : goal.returns-in-Err-clause-own
-returns-in-Err-clause-own g c = opening_checks c.args.profile c.in-Err.fault c.in-Err.ensures.own
+returns-in-Err-clause-own g c =
+    opening_checks c.args.profile c.in-Err.fault c.in-Err.ensures.own
 
-pub returns-in_err-counts-in-Ok-clause-err : goal.returns-in_err-counts-in-Ok-clause-err
-returns-in_err-counts-in-Ok-clause-err g c =
+pub returns-in_err-counts-in-Avi-clause-err : goal.returns-in_err-counts-in-Avi-clause-err
+returns-in_err-counts-in-Avi-clause-err g c =
     let p = err_from_is_err_and c.from_residual.result c.from_residual.ensures.1 in
     let o = g.W.ByteOut.contents c.args.output.now in
     let n = g.W.ByteOut.failures c.args.output.now in
-    rw (p.1, p.2)
-    (goes_stops IsJudged payload_of (judged_lines c.args.place) judged_count c.args.profile
-    c.args.place (g.R.ByteIn.remaining c.args.input.now)
-    (g.R.ByteIn.remaining c.open_player_located.new.input)
-    (g.R.ByteIn.remaining c.judge_frames.new.input)
-    o (g.W.ByteOut.contents c.judge_frames.new.output) o (g.R.ByteIn.failures c.args.input.now)
-    (g.R.ByteIn.failures c.open_player_located.new.input)
-    (g.R.ByteIn.failures c.judge_frames.new.input)
-    n (g.W.ByteOut.failures c.judge_frames.new.output) n c.in-Ok.player.reader
-    c.in-Ok.player.decoder.accepted c.in-Ok.ensures.ok c.in-Ok.ensures.located
-    c.in_err-counts-in-Ok.field-0.0 (rw c.tells_byte-byte.ensures at
-    c.in_err-counts-in-Ok.ensures.err))
+    let kind : is_segment (container_of c.in-Ok.player.reader.place) ≡ false =
+    ap is_segment (sym c.container.ensures ∙ c.in-Avi.is) in
+    let read = read_as c.args.profile (g.R.ByteIn.remaining c.args.input.now)
+    (g.R.ByteIn.remaining c.open_player_located.new.input) c.in-Ok.player.reader.head
+    c.in-Ok.player.reader.place c.in-Ok.ensures.ok.known false kind in
+    rw (p.1, p.2) (inl (
+      read,
+      goes_stops IsJudged payload_of (judged_lines c.args.place) judged_count c.args.profile
+          c.args.place (g.R.ByteIn.remaining c.args.input.now)
+          (g.R.ByteIn.remaining c.open_player_located.new.input)
+          (g.R.ByteIn.remaining c.judge_frames.new.input)
+          o (g.W.ByteOut.contents c.judge_frames.new.output) o (g.R.ByteIn.failures c.args.input.now)
+          (g.R.ByteIn.failures c.open_player_located.new.input)
+          (g.R.ByteIn.failures c.judge_frames.new.input)
+          n (g.W.ByteOut.failures c.judge_frames.new.output) n c.in-Ok.player.reader
+          c.in-Ok.player.decoder.accepted c.in-Ok.ensures.ok
+          c.in-Ok.ensures.located c.in_err-counts-in-Avi.field-0.0 (rw c.tells_byte-byte.ensures at
+          c.in_err-counts-in-Avi.ensures.err),
+    ))
 
-pub returns-in_err-counts-in-Ok-clause-own : goal.returns-in_err-counts-in-Ok-clause-own
-returns-in_err-counts-in-Ok-clause-own g c =
+pub returns-in_err-counts-in-Avi-clause-own : goal.returns-in_err-counts-in-Avi-clause-own
+returns-in_err-counts-in-Avi-clause-own g c =
     let p = err_from_is_err_and c.from_residual.result c.from_residual.ensures.1 in
     rw (p.1, p.2) (told_checks c.args.profile c.in-Ok.player.reader.place
-    c.in_err-counts-in-Ok.field-0.0 c.in-Ok.ensures.ok.within c.in_err-counts-in-Ok.ensures.own)
+    c.in_err-counts-in-Avi.field-0.0 c.in-Ok.ensures.ok.within c.in_err-counts-in-Avi.ensures.own)
 
 pub returns-then-counts-eq0-clause-err : goal.returns-then-counts-eq0-clause-err
 returns-then-counts-eq0-clause-err g c =
     let o = g.W.ByteOut.contents c.args.output.now in
     let n = g.W.ByteOut.failures c.args.output.now in
-    let told = c.in_ok-counts-in-Ok.ensures.ok in
-    let none : c.in_ok-counts-in-Ok.counts.frames ≡ 0 = search rules in
-    none_judged c.args.profile c.args.place (g.R.ByteIn.remaining c.args.input.now)
-    (g.R.ByteIn.remaining c.open_player_located.new.input)
-    (g.R.ByteIn.remaining c.judge_frames.new.input)
-    o (g.W.ByteOut.contents c.judge_frames.new.output) o (g.R.ByteIn.failures c.args.input.now)
-    (g.R.ByteIn.failures c.open_player_located.new.input)
-    (g.R.ByteIn.failures c.judge_frames.new.input)
-    n (g.W.ByteOut.failures c.judge_frames.new.output) n c.in-Ok.player.reader
-    c.in-Ok.player.decoder.accepted c.in-Ok.ensures.ok
-    told.0 c.in_ok-counts-in-Ok.counts told.1 told.2 none
+    let kind : is_segment (container_of c.in-Ok.player.reader.place) ≡ false =
+    ap is_segment (sym c.container.ensures ∙ c.in-Avi.is) in
+    let read = read_as c.args.profile (g.R.ByteIn.remaining c.args.input.now)
+    (g.R.ByteIn.remaining c.open_player_located.new.input) c.in-Ok.player.reader.head
+    c.in-Ok.player.reader.place c.in-Ok.ensures.ok.known false kind in
+    let told = c.in_ok-counts-in-Avi.ensures.ok in
+    let none : c.in_ok-counts-in-Avi.counts.frames ≡ 0 = search rules in
+    inl (
+      read,
+      none_judged c.args.profile c.args.place (g.R.ByteIn.remaining c.args.input.now)
+          (g.R.ByteIn.remaining c.open_player_located.new.input)
+          (g.R.ByteIn.remaining c.judge_frames.new.input)
+          o (g.W.ByteOut.contents c.judge_frames.new.output) o (g.R.ByteIn.failures c.args.input.now)
+          (g.R.ByteIn.failures c.open_player_located.new.input)
+          (g.R.ByteIn.failures c.judge_frames.new.input)
+          n (g.W.ByteOut.failures c.judge_frames.new.output) n c.in-Ok.player.reader
+          c.in-Ok.player.decoder.accepted c.in-Ok.ensures.ok
+          told.0 c.in_ok-counts-in-Avi.counts told.1 told.2 none,
+    )
 
-pub returns-in_err-write_counts-in-Ok-clause-err : goal.returns-in_err-write_counts-in-Ok-clause-err
-returns-in_err-write_counts-in-Ok-clause-err g c =
-    let p = err_from_is_err_and c.from_residual-in_err-write_counts-in-Ok.result
-    c.from_residual-in_err-write_counts-in-Ok.ensures.1 in
-    let told = c.in_ok-counts-in-Ok.ensures.ok in
-    rw (p.1, p.2)
-    (count_stops c.args.profile c.args.place (g.R.ByteIn.remaining c.args.input.now)
-    (g.R.ByteIn.remaining c.open_player_located.new.input)
-    (g.R.ByteIn.remaining c.judge_frames.new.input)
-    (g.W.ByteOut.contents c.args.output.now) (g.W.ByteOut.contents c.judge_frames.new.output)
-    (g.W.ByteOut.contents c.write_counts.new.output)
-    (g.R.ByteIn.failures c.args.input.now) (g.R.ByteIn.failures c.open_player_located.new.input)
-    (g.R.ByteIn.failures c.judge_frames.new.input)
-    (g.W.ByteOut.failures c.args.output.now) (g.W.ByteOut.failures c.judge_frames.new.output)
-    (g.W.ByteOut.failures c.write_counts.new.output)
-    c.in-Ok.player.reader c.in-Ok.player.decoder.accepted c.in-Ok.ensures.ok
-    told.0 c.in_ok-counts-in-Ok.counts told.1 told.2 c.in_err-write_counts-in-Ok.field-0.0
-    c.in_err-write_counts-in-Ok.ensures)
+pub returns-in_err-write_counts-in-Avi-clause-err :
+    goal.returns-in_err-write_counts-in-Avi-clause-err
+returns-in_err-write_counts-in-Avi-clause-err g c =
+    let p = err_from_is_err_and c.from_residual-in_err-write_counts-in-Avi.result
+    c.from_residual-in_err-write_counts-in-Avi.ensures.1 in
+    let kind : is_segment (container_of c.in-Ok.player.reader.place) ≡ false =
+    ap is_segment (sym c.container.ensures ∙ c.in-Avi.is) in
+    let read = read_as c.args.profile (g.R.ByteIn.remaining c.args.input.now)
+    (g.R.ByteIn.remaining c.open_player_located.new.input) c.in-Ok.player.reader.head
+    c.in-Ok.player.reader.place c.in-Ok.ensures.ok.known false kind in
+    let told = c.in_ok-counts-in-Avi.ensures.ok in
+    rw (p.1, p.2) (inl (
+      read,
+      count_stops c.args.profile c.args.place (g.R.ByteIn.remaining c.args.input.now)
+          (g.R.ByteIn.remaining c.open_player_located.new.input)
+          (g.R.ByteIn.remaining c.judge_frames.new.input)
+          (g.W.ByteOut.contents c.args.output.now) (g.W.ByteOut.contents c.judge_frames.new.output)
+          (g.W.ByteOut.contents c.write_counts.new.output)
+          (g.R.ByteIn.failures c.args.input.now)
+          (g.R.ByteIn.failures c.open_player_located.new.input)
+          (g.R.ByteIn.failures c.judge_frames.new.input)
+          (g.W.ByteOut.failures c.args.output.now) (g.W.ByteOut.failures c.judge_frames.new.output)
+          (g.W.ByteOut.failures c.write_counts.new.output)
+          c.in-Ok.player.reader
+          c.in-Ok.player.decoder.accepted c.in-Ok.ensures.ok
+          told.0 c.in_ok-counts-in-Avi.counts told.1 told.2 c.in_err-write_counts-in-Avi.field-0.0
+          c.in_err-write_counts-in-Avi.ensures,
+    ))
 
-pub returns-in_ok-write_counts-in-Ok-clause-ok : goal.returns-in_ok-write_counts-in-Ok-clause-ok
-returns-in_ok-write_counts-in-Ok-clause-ok g c =
-    let told = c.in_ok-counts-in-Ok.ensures.ok in
-    all_done c.args.profile c.args.place (g.R.ByteIn.remaining c.args.input.now)
-    (g.R.ByteIn.remaining c.open_player_located.new.input)
-    (g.R.ByteIn.remaining c.judge_frames.new.input)
-    (g.W.ByteOut.contents c.args.output.now) (g.W.ByteOut.contents c.judge_frames.new.output)
-    (g.W.ByteOut.contents c.write_counts.new.output)
-    (g.R.ByteIn.failures c.args.input.now) (g.R.ByteIn.failures c.open_player_located.new.input)
-    (g.R.ByteIn.failures c.judge_frames.new.input)
-    (g.W.ByteOut.failures c.args.output.now) (g.W.ByteOut.failures c.judge_frames.new.output)
-    (g.W.ByteOut.failures c.write_counts.new.output)
-    c.in-Ok.player.reader c.in-Ok.player.decoder.accepted c.in-Ok.ensures.ok
-    told.0 c.in_ok-counts-in-Ok.counts told.1 told.2 c.if-counts-eq0.false
-    (λ file behind rest from to at opens reads over.
-    holds_payloads c.frames_come_in_turn.ensures c.what_is_read_is_a_file.ensures.first
-    c.what_is_read_is_a_file.ensures.whole c.args.profile file behind rest
-    c.in-Ok.player.reader.head from to at (payloads_of told.0)
-    opens reads over)
-    c.in_ok-write_counts-in-Ok.ensures.0 c.in_ok-write_counts-in-Ok.ensures.1
+pub returns-in-Avi-clause-ok : goal.returns-in-Avi-clause-ok
+returns-in-Avi-clause-ok g c =
+    let kind : is_segment (container_of c.in-Ok.player.reader.place) ≡ false =
+    ap is_segment (sym c.container.ensures ∙ c.in-Avi.is) in
+    let read = read_as c.args.profile (g.R.ByteIn.remaining c.args.input.now)
+    (g.R.ByteIn.remaining c.open_player_located.new.input) c.in-Ok.player.reader.head
+    c.in-Ok.player.reader.place c.in-Ok.ensures.ok.known false kind in
+    let told = c.in_ok-counts-in-Avi.ensures.ok in
+    inl (
+      read,
+      all_done c.args.profile c.args.place (g.R.ByteIn.remaining c.args.input.now)
+          (g.R.ByteIn.remaining c.open_player_located.new.input)
+          (g.R.ByteIn.remaining c.judge_frames.new.input)
+          (g.W.ByteOut.contents c.args.output.now) (g.W.ByteOut.contents c.judge_frames.new.output)
+          (g.W.ByteOut.contents c.write_counts.new.output)
+          (g.R.ByteIn.failures c.args.input.now)
+          (g.R.ByteIn.failures c.open_player_located.new.input)
+          (g.R.ByteIn.failures c.judge_frames.new.input)
+          (g.W.ByteOut.failures c.args.output.now) (g.W.ByteOut.failures c.judge_frames.new.output)
+          (g.W.ByteOut.failures c.write_counts.new.output)
+          c.in-Ok.player.reader
+          c.in-Ok.player.decoder.accepted c.in-Ok.ensures.ok
+          told.0 c.in_ok-counts-in-Avi.counts told.1 told.2 c.if-counts-eq0.false
+          (λ file behind rest from to at opens reads over.
+          holds_payloads c.frames_come_in_turn.ensures c.what_is_read_is_a_file.ensures.first
+          c.what_is_read_is_a_file.ensures.whole c.args.profile file behind rest
+          c.in-Ok.player.reader.head from to at (payloads_of told.0)
+          opens reads over)
+          c.in_ok-write_counts-in-Avi.ensures.0 c.in_ok-write_counts-in-Avi.ensures.1,
+    )
+
+pub returns-in_err-counts-in-Matroska-clause-err : goal.returns-in_err-counts-in-Matroska-clause-err
+returns-in_err-counts-in-Matroska-clause-err g c =
+    let p = err_from_is_err_and c.from_residual-in_err-counts-in-Matroska.result
+    c.from_residual-in_err-counts-in-Matroska.ensures.1 in
+    let kind : is_segment (container_of c.in-Ok.player.reader.place) ≡ true =
+    ap is_segment (sym c.container.ensures ∙ c.in-Matroska.is) in
+    let read = read_as c.args.profile (g.R.ByteIn.remaining c.args.input.now)
+    (g.R.ByteIn.remaining c.open_player_located.new.input) c.in-Ok.player.reader.head
+    c.in-Ok.player.reader.place c.in-Ok.ensures.ok.known true kind in
+    rw (p.1, p.2) (inr (
+      read,
+      items_stop c.args.profile (g.R.ByteIn.remaining c.args.input.now)
+          (g.R.ByteIn.remaining c.open_player_located.new.input)
+          (g.R.ByteIn.remaining c.judge_items.new.input)
+          (g.R.ByteIn.failures c.args.input.now)
+          (g.R.ByteIn.failures c.open_player_located.new.input)
+          (g.R.ByteIn.failures c.judge_items.new.input)
+          c.in-Ok.player.reader c.in-Ok.player.decoder.accepted c.in-Ok.ensures.ok
+          c.in-Ok.ensures.located c.args.place (g.W.ByteOut.contents c.args.output.now)
+          (g.W.ByteOut.contents c.judge_items.new.output) (g.W.ByteOut.failures c.args.output.now)
+          (g.W.ByteOut.failures c.judge_items.new.output)
+          c.in_err-counts-in-Matroska.field-0.0 c.in_err-counts-in-Matroska.ensures.err,
+    ))
+
+pub returns-then-counts-eq0-3-clause-err : goal.returns-then-counts-eq0-3-clause-err
+returns-then-counts-eq0-3-clause-err g c =
+    let kind : is_segment (container_of c.in-Ok.player.reader.place) ≡ true =
+    ap is_segment (sym c.container.ensures ∙ c.in-Matroska.is) in
+    let read = read_as c.args.profile (g.R.ByteIn.remaining c.args.input.now)
+    (g.R.ByteIn.remaining c.open_player_located.new.input) c.in-Ok.player.reader.head
+    c.in-Ok.player.reader.place c.in-Ok.ensures.ok.known true kind in
+    let told = c.in_ok-counts-in-Matroska.ensures.ok in
+    let frames : c.in_ok-counts-in-Matroska.counts.frames ≡ 0 = search rules in
+    let faults : c.in_ok-counts-in-Matroska.counts.faults ≡ 0 = search rules in
+    inr (
+      read,
+      no_items c.args.profile (g.R.ByteIn.remaining c.args.input.now)
+          (g.R.ByteIn.remaining c.open_player_located.new.input)
+          (g.R.ByteIn.remaining c.judge_items.new.input)
+          (g.R.ByteIn.failures c.args.input.now)
+          (g.R.ByteIn.failures c.open_player_located.new.input)
+          (g.R.ByteIn.failures c.judge_items.new.input)
+          c.in-Ok.player.reader c.in-Ok.player.decoder.accepted c.in-Ok.ensures.ok
+          c.in-Ok.ensures.located c.args.place (g.W.ByteOut.contents c.args.output.now)
+          (g.W.ByteOut.contents c.judge_items.new.output) (g.W.ByteOut.failures c.args.output.now)
+          (g.W.ByteOut.failures c.judge_items.new.output)
+          told.0 c.in_ok-counts-in-Matroska.counts told.1 told.2 frames faults,
+    )
+
+pub returns-in_err-write_counts-in-Matroska-clause-err :
+    goal.returns-in_err-write_counts-in-Matroska-clause-err
+returns-in_err-write_counts-in-Matroska-clause-err g c =
+    let p = err_from_is_err_and c.from_residual-in_err-write_counts-in-Matroska.result
+    c.from_residual-in_err-write_counts-in-Matroska.ensures.1 in
+    let kind : is_segment (container_of c.in-Ok.player.reader.place) ≡ true =
+    ap is_segment (sym c.container.ensures ∙ c.in-Matroska.is) in
+    let read = read_as c.args.profile (g.R.ByteIn.remaining c.args.input.now)
+    (g.R.ByteIn.remaining c.open_player_located.new.input) c.in-Ok.player.reader.head
+    c.in-Ok.player.reader.place c.in-Ok.ensures.ok.known true kind in
+    let told = c.in_ok-counts-in-Matroska.ensures.ok in
+    rw (p.1, p.2) (inr (
+      read,
+      count_fails c.args.profile (g.R.ByteIn.remaining c.args.input.now)
+          (g.R.ByteIn.remaining c.open_player_located.new.input)
+          (g.R.ByteIn.remaining c.judge_items.new.input)
+          (g.R.ByteIn.failures c.args.input.now)
+          (g.R.ByteIn.failures c.open_player_located.new.input)
+          (g.R.ByteIn.failures c.judge_items.new.input)
+          c.in-Ok.player.reader c.in-Ok.player.decoder.accepted c.in-Ok.ensures.ok
+          c.in-Ok.ensures.located c.args.place (g.W.ByteOut.contents c.args.output.now)
+          (g.W.ByteOut.contents c.judge_items.new.output) (g.W.ByteOut.failures c.args.output.now)
+          (g.W.ByteOut.failures c.judge_items.new.output)
+          told.0 c.in_ok-counts-in-Matroska.counts told.1 told.2
+          (g.W.ByteOut.contents c.write_counts-in-Matroska.new.output)
+          (g.W.ByteOut.failures c.write_counts-in-Matroska.new.output)
+          c.in_err-write_counts-in-Matroska.field-0.0 c.in_err-write_counts-in-Matroska.ensures,
+    ))
+
+pub returns-in_err-write_counts-in-Matroska-clause-own :
+    goal.returns-in_err-write_counts-in-Matroska-clause-own
+returns-in_err-write_counts-in-Matroska-clause-own g c =
+    let p = err_from_is_err_and c.from_residual-in_err-write_counts-in-Matroska.result
+    c.from_residual-in_err-write_counts-in-Matroska.ensures.1 in
+    rw (p.1, p.2) (inr (inl (line_own _ _ c.in_err-write_counts-in-Matroska.field-0.0
+    c.in_err-write_counts-in-Matroska.ensures)))
+
+pub returns-clause-ok : goal.returns-clause-ok
+returns-clause-ok g c =
+    let kind : is_segment (container_of c.in-Ok.player.reader.place) ≡ true =
+    ap is_segment (sym c.container.ensures ∙ c.in-Matroska.is) in
+    let read = read_as c.args.profile (g.R.ByteIn.remaining c.args.input.now)
+    (g.R.ByteIn.remaining c.open_player_located.new.input) c.in-Ok.player.reader.head
+    c.in-Ok.player.reader.place c.in-Ok.ensures.ok.known true kind in
+    let told = c.in_ok-counts-in-Matroska.ensures.ok in
+    let counts = c.in_ok-counts-in-Matroska.counts in
+    let some : counts.frames ≡ 0 → counts.faults ≡ 0 → ⊥ = elim c.else-counts-eq0-2.branch [
+      | else-counts-eq0-2-via-then-counts-eq0-2+else-counts-eq0-3 w ↦
+          λ frames faults. w.if-counts-eq0-3.false faults
+      | else-counts-eq0-2-via-else-counts-eq0-2 w ↦ λ frames faults. w.if-counts-eq0-2.false frames
+    ] in
+    inr (
+      read,
+      items_done c.args.profile (g.R.ByteIn.remaining c.args.input.now)
+          (g.R.ByteIn.remaining c.open_player_located.new.input)
+          (g.R.ByteIn.remaining c.judge_items.new.input)
+          (g.R.ByteIn.failures c.args.input.now)
+          (g.R.ByteIn.failures c.open_player_located.new.input)
+          (g.R.ByteIn.failures c.judge_items.new.input)
+          c.in-Ok.player.reader c.in-Ok.player.decoder.accepted c.in-Ok.ensures.ok
+          c.in-Ok.ensures.located c.args.place (g.W.ByteOut.contents c.args.output.now)
+          (g.W.ByteOut.contents c.judge_items.new.output) (g.W.ByteOut.failures c.args.output.now)
+          (g.W.ByteOut.failures c.judge_items.new.output)
+          told.0 counts told.1 told.2
+          (g.W.ByteOut.contents c.write_counts-in-Matroska.new.output)
+          (g.W.ByteOut.failures c.write_counts-in-Matroska.new.output)
+          some c.in_ok-write_counts-in-Matroska.ensures.0 c.in_ok-write_counts-in-Matroska.ensures.1,
+    )

@@ -1,0 +1,153 @@
+-- All items of a file are judged.
+use Rattle.std.proofs.Common.{◌≡◌, refl, ℕ, ◌+◌, ◌<◌, Bool, true, false, Option, Some, None, Ok, Err, List, [], ◌∷◌, ◌++◌, length, take, inl, inr, ap, sym, subst, ◌∙◌, arith}
+use Rattle.std.specs.Io.KnownBytes.{Appends}
+use Rattle.std.proofs.KnownBytes.{Appends-trans, Appends-kept}
+use Rattle.ffv1_range.specs.Counts.{saturated}
+use Rattle.ffv1_wire.specs.Failures.{one_more}
+use Rattle.ffv1_wire.specs.Passage.{between}
+use Rattle.ffv1_record.specs.Accepted.{Accepted}
+use Rattle.ffv1_reads.specs.Known.{Known}
+use Rattle.ffv1_matroska.specs.Items.{Given}
+use Rattle.ffv1_files.specs.Files.{open_read}
+use Rattle.ffv1_files.specs.Items.{course_of}
+use Rattle.ffv1_files.specs.Offsets.{PlaceReached, Reached}
+use Rattle.ffv1_files.specs.Readers.{Standing}
+use Rattle.ffv1_video.specs.declared.profile.Profile.{Profile}
+use Rattle.ffv1_video.specs.declared.fault.Fault.{Fault}
+use Rattle.ffv1_video.specs.declared.fault.Fault.TheVariants as fault
+use Rattle.ffv1_video.specs.Faults.{Cause, cause_of}
+use Rattle.ffv1_video.specs.Faults.Cause.{Reading, Writing, Memory, Content}
+use Rattle.ffv1_video.specs.Profiles.{byte_told, scope_in}
+use Rattle.ffv1_video.proofs.KnownTexts.{known_map, known_then}
+use Rattle.ffv1_unpack.specs.declared.judging.JudgedCounts.{JudgedCounts}
+use Rattle.ffv1_unpack.specs.Judged.{counts_line, with_refusal}
+use Rattle.ffv1_unpack.specs.JudgedItems.{CountFailsBy, ItemsAll, ItemsCame, ItemsDone, ItemsFault, ItemsFrom, ItemsGo, ItemsLack, ItemsNext, ItemsOver, ItemsStay, ItemsStopBy, ItemsThen, ItemsWant, ItemsWritten, JudgedItem, OfFrame, ToldAt, fault_of, faults_of, frames_of, item_count, item_lines}
+use Rattle.ffv1_unpack.specs.Located.{LocatedFault, WritesLine, located_text}
+use Rattle.ffv1_unpack.specs.Opens.{LacksOpening}
+use Rattle.ffv1_unpack.specs.Internal.JudgedItems.{AreItemCounts}
+use Rattle.ffv1_unpack.specs.Internal.Opens.{OpensStream, stream_of}
+use Rattle.ffv1_unpack.specs.Internal.Told.{WritesFrame}
+use Rattle.ffv1_unpack.proofs.FaultsLocated.{none_appended}
+use Rattle.ffv1_unpack.proofs.FileRead.{no_items as nothing_in, positive}
+use Rattle.ffv1_unpack.proofs.ItemsJudged.{up_to}
+
+-- neither a frame nor a fault: no item
+none_came : (xs : List JudgedItem) → length (frames_of xs) ≡ 0 → length (faults_of xs) ≡ 0 → xs ≡ []
+none_came [] no_frame no_fault = refl
+none_came (OfFrame j ∷ xs) no_frame no_fault = absurd (omega (arith, no_frame))
+none_came (ToldAt f offset ∷ xs) no_frame no_fault = absurd (omega (arith, no_fault))
+
+module _ (profile : Profile) (i0 i1 i2 : Option (List ℕ)) (ib im ia : ℕ) (r : Standing) (a : Accepted) (opens : OpensStream profile r a (between i0 i1 ib im)) (reached : Reached (scope_in profile) i0 i1 r) where
+  abbrev Begins : List ℕ → List ℕ → Type 0
+  Begins file rest = (open_read (scope_in profile) file ≡ Ok ((r.head, r.place), rest)) × PlaceReached (scope_in profile) (Some file) (Some rest) r.head r.place r.offset
+
+  begins : (old mid : Option (List ℕ)) → Known old mid (λ file rest. open_read (scope_in profile) file ≡ Ok ((r.head, r.place), rest)) → PlaceReached (scope_in profile) old mid r.head r.place r.offset → Known old mid Begins
+  begins None mid known whole = tt
+  begins (Some file) None known whole = absurd known
+  begins (Some file) (Some rest) known whole = (known, whole)
+
+  -- what a file has after its head is what the file has
+  has_file : (is : List Given) (Next : ItemsNext) → Known i1 i2 (ItemsFrom r.place (course_of r) is Next) → Known i0 i2 (ItemsThen profile r.head is Next)
+  has_file is Next has =
+      known_map i0 i2 (λ file rest. (left : List ℕ) × Begins file left × ItemsFrom r.place (course_of r) is Next left rest) (ItemsThen profile r.head is Next)
+      (λ file rest p. (r.place, r.offset, p.0, p.1.0, p.1.1, p.2))
+      (known_then i0 i1 i2 Begins (ItemsFrom r.place (course_of r) is Next) (begins i0 i1 opens.known reached.whole) has)
+
+  module _ (place : Bool) (o0 o1 : Option (List ℕ)) (ob om : ℕ) where
+    go_file : (xs : List JudgedItem) (Next : ItemsNext) → ItemsGo (ItemsFrom r.place (course_of r)) a place (between i1 i2 im ia) (between o0 o1 ob om) xs Next →
+        ItemsGo (ItemsThen profile r.head) a place (between i0 i2 ib ia) (between o0 o1 ob om) xs Next
+    go_file xs Next go = record { are = go.are; has = has_file _ Next go.has }
+
+    wrote_file : (xs : List JudgedItem) → ItemsWritten (ItemsFrom r.place (course_of r)) a place (between i1 i2 im ia) (between o0 o1 ob om) xs →
+        ItemsWritten (ItemsThen profile r.head) a place (between i0 i2 ib ia) (between o0 o1 ob om) xs
+    wrote_file xs wrote = record { written = wrote.written; writes = wrote.writes }
+
+    stops_file : (why : Cause) → ItemsStopBy (ItemsFrom r.place (course_of r)) a place (between i1 i2 im ia) (between o0 o1 ob om) why →
+        ItemsStopBy (ItemsThen profile r.head) a place (between i0 i2 ib ia) (between o0 o1 ob om) why
+    stops_file Writing (xs, go, same, failed, writes) = (xs, go_file xs ItemsStay go, same ∙ opens.kept, failed, writes)
+    stops_file Reading (xs, go, failed, wrote) = (xs, go_file xs ItemsWant go, failed ∙ ap one_more opens.kept, wrote_file xs wrote)
+    stops_file Memory (xs, go, same, wrote) = (xs, go_file xs (ItemsLack a) go, same ∙ opens.kept, wrote_file xs wrote)
+    stops_file Content h = absurd h
+
+    pub items_stop : (f : Fault) → ItemsStopBy (ItemsFrom r.place (course_of r)) a place (between i1 i2 im ia) (between o0 o1 ob om) (cause_of f) →
+        ItemsFault profile place (between i0 i2 ib ia) (between o0 o1 ob om) f
+    items_stop f h = inr (inl (record { stream = stream_of r a; is = opens.stream; stops = stops_file (cause_of f) h }))
+
+    -- all came
+    module _ (xs : List JudgedItem) (counts : JudgedCounts) (counted : AreItemCounts counts xs) (all : ItemsAll (ItemsFrom r.place (course_of r)) a place (between i1 i2 im ia) (between o0 o1 ob om) xs) where
+      came : (o : Option (List ℕ)) (n : ℕ) → ItemsCame profile place (between i0 i2 ib ia) (between o0 o ob n) (stream_of r a) xs
+      came o n = record {
+        is = opens.stream;
+        go = record { are = all.go.are; has = has_file _ (ItemsOver (length xs)) all.go.has };
+        kept = all.kept ∙ opens.kept;
+      }
+
+      abbrev lines : List ℕ
+      lines = item_lines place a.configuration xs
+
+      pub no_items : counts.frames ≡ 0 → counts.faults ≡ 0 → ItemsFault profile place (between i0 i2 ib ia) (between o0 o1 ob om) fault.NoFrames
+      no_items no_frame no_fault =
+          let frames = counted.frames in
+          let faults = counted.faults in
+          let empty : xs ≡ [] = none_came xs (omega (arith, frames, no_frame)) (omega (arith, faults, no_fault)) in
+          inr (inr (
+            refl,
+            stream_of r a,
+            subst (ItemsCame profile place (between i0 i2 ib ia) (between o0 o1 ob om) (stream_of r a)) empty (came o1 om),
+            record { same = all.wrote.written; kept = none_appended o0 o1 (subst (λ z. Appends o0 o1 (item_lines place a.configuration z)) empty all.wrote.writes) },
+          ))
+
+      module _ (o2 : Option (List ℕ)) (oa : ℕ) where
+        fails_by : (f : Fault) (why : Cause) → CountFailsBy profile place (between i0 i2 ib ia) (between o0 o2 ob oa) f why → cause_of f ≡ why → ItemsFault profile place (between i0 i2 ib ia) (between o0 o2 ob oa) f
+        fails_by f why h is = inr (inr (subst (CountFailsBy profile place (between i0 i2 ib ia) (between o0 o2 ob oa) f) (sym is) h))
+
+        written : WritesFrame (counts_line counts.frames counts.faults) (between o1 o2 om oa) (Ok tt) → Appends o1 o2 (item_count xs)
+        written h =
+            subst (λ n. Appends o1 o2 (counts_line (saturated (length (frames_of xs))) n)) counted.faults
+            (subst (λ n. Appends o1 o2 (counts_line n counts.faults)) counted.frames h.1)
+
+        pub count_fails : (f : Fault) → WritesFrame (counts_line counts.frames counts.faults) (between o1 o2 om oa) (Err f) → ItemsFault profile place (between i0 i2 ib ia) (between o0 o2 ob oa) f
+        count_fails f h =
+            elim (subst (λ n. WritesFrame (counts_line (saturated (length (frames_of xs))) n) (between o1 o2 om oa) (Err f)) counted.faults
+            (subst (λ n. WritesFrame (counts_line n counts.faults) (between o1 o2 om oa) (Err f)) counted.frames h)) [
+              | inl write ↦
+                  fails_by f Writing (
+                    stream_of r a,
+                    xs,
+                    came o2 oa,
+                    write.1 ∙ ap one_more all.wrote.written,
+                    up_to o0 o1 o2 (length lines) lines (item_count xs) (lines ++ item_count xs) refl refl all.wrote.writes write.2.0 write.2.1 write.2.2,
+                  ) (ap cause_of write.0)
+              | inr none ↦
+                  fails_by f Memory (
+                    stream_of r a,
+                    xs,
+                    came o2 oa,
+                    record { written = none.1 ∙ all.wrote.written; writes = Appends-kept o0 o1 o2 lines all.wrote.writes none.2 },
+                  ) (ap cause_of none.0)
+            ]
+
+        pub items_done : (counts.frames ≡ 0 → counts.faults ≡ 0 → ⊥) → oa ≡ om → Appends o1 o2 (counts_line counts.frames counts.faults) →
+            ItemsDone profile place (between i0 i2 ib ia) (between o0 o2 ob oa) counts.first
+        items_done some same writes = record {
+          stream = stream_of r a;
+          xs = xs;
+          some = positive xs (λ none. nothing none);
+          came = came o2 oa;
+          written = same ∙ all.wrote.written;
+          writes = Appends-trans o0 o1 o2 lines (item_count xs) all.wrote.writes (written (same, writes));
+          told = counted.first;
+        }
+          where
+            nothing : length xs ≡ 0 → ⊥
+            nothing none =
+                let empty : xs ≡ [] = nothing_in xs none in
+                let frames : counts.frames ≡ 0 = counted.frames ∙ ap (λ z. saturated (length (frames_of z))) empty in
+                let faults : counts.faults ≡ 0 = counted.faults ∙ ap (λ z. saturated (length (faults_of z))) empty in
+                some frames faults
+
+-- a file that is not opened
+module _ (profile : Profile) (place : Bool) (i0 i1 o0 o1 : Option (List ℕ)) (ib im ob om : ℕ) where
+  pub items_unopened : (f : Fault) (offset : ℕ) → LacksOpening profile (between i0 i1 ib im) f → LocatedFault (scope_in profile) (between i0 i1 ib im) f offset →
+      WritesLine [] (located_text (byte_told profile place) 0 f offset) (between o0 o1 ob om) → ItemsFault profile place (between i0 i1 ib im) (between o0 o1 ob om) f
+  items_unopened f offset h stops writes = inl (record { offset = offset; stops = stops; writes = writes }, h)

@@ -1,0 +1,77 @@
+-- Judges all items of a Segment that are left, and writes the lines of each as soon as it is judged.
+use Rattle.std.proofs.Common.{◌≡◌, ◌-◌, ◌^◌, refl, Ok, true, false, subst, ◌∙◌, arith}
+use Rattle.std.proofs.lemmas.Result.{err_from_is_err_and}
+use Rattle.ffv1_range.specs.Counts.{saturated}
+use Rattle.ffv1_wire.specs.Passage.{passage}
+use Rattle.ffv1_files.specs.Items.{course_of}
+use Rattle.ffv1_video.specs.Faults.{cause_of}
+use Rattle.ffv1_unpack.specs.Internal.JudgedItems.{ItemJudged}
+use Rattle.ffv1_unpack.proofs.ItemsJudged.{so_many, so_more, so_none, so_over, so_stops}
+use Rattle.ffv1_unpack.proofs.judging_items.judge_items.Goals as goal
+
+pub loop-item-init : goal.loop-item-init
+loop-item-init g c =
+    let none : 0 ≡ saturated 0 = omega arith in
+    rw c.course.ensures (
+      refl,
+      refl,
+      so_none c.args.place c.args.player.now.decoder.accepted c.args.player.now.reader.place
+          (course_of c.args.player.now.reader) (g.R.ByteIn.remaining c.args.input.now)
+          (g.W.ByteOut.contents c.args.output.now) (g.R.ByteIn.failures c.args.input.now)
+          (g.W.ByteOut.failures c.args.output.now) _
+          (record { frames = none; faults = none; first = refl }),
+    )
+
+pub returns-in_err-judge_item-clause-err : goal.returns-in_err-judge_item-clause-err
+returns-in_err-judge_item-clause-err g c =
+    let p = err_from_is_err_and c.from_residual.result c.from_residual.ensures.1 in
+    let a = c.args.player.now.decoder.accepted in
+    let from = c.args.player.now.reader.place in
+    let course = course_of c.args.player.now.reader in
+    let at = c.loop-item.judging.course in
+    let next = c.judge_item.new.judging.course in
+    let counts = c.loop-item.judging.counts in
+    let reader = c.loop-item.invariant.0 in
+    let accepted = c.loop-item.invariant.1 in
+    let so = c.loop-item.invariant.2 in
+    let last = c.judge_item.new.player.reader.place in
+    let answer = rw (reader, accepted) at c.in_err-judge_item.ensures.answer in
+    rw (p.1, p.2)
+    (so_stops c.args.place a from from last course at next c.loop-item._item counts
+    (g.R.ByteIn.remaining c.args.input.now) (g.R.ByteIn.remaining c.loop-item.input)
+    (g.R.ByteIn.remaining c.judge_item.new.input)
+    (g.W.ByteOut.contents c.args.output.now) (g.W.ByteOut.contents c.loop-item.output)
+    (g.W.ByteOut.contents c.judge_item.new.output)
+    (g.R.ByteIn.failures c.args.input.now) (g.R.ByteIn.failures c.loop-item.input)
+    (g.R.ByteIn.failures c.judge_item.new.input)
+    (g.W.ByteOut.failures c.args.output.now) (g.W.ByteOut.failures c.loop-item.output)
+    (g.W.ByteOut.failures c.judge_item.new.output) so
+    (cause_of c.in_err-judge_item.field-0.0) answer)
+
+pub loop-item-preserved : goal.loop-item-preserved
+loop-item-preserved g c =
+    let a = c.args.player.now.decoder.accepted in
+    let from = c.args.player.now.reader.place in
+    let course = course_of c.args.player.now.reader in
+    let at = c.loop-item.judging.course in
+    let next = c.judge_item.new.judging.course in
+    let counts = c.loop-item.judging.counts in
+    let reader = c.loop-item.invariant.0 in
+    let accepted = c.loop-item.invariant.1 in
+    let so = c.loop-item.invariant.2 in
+    let last = c.judge_item.ensures.reader ∙ reader in
+    let answer = rw (c.if-not-branch.false, last, reader, accepted) at
+    c.in_ok-judge_item.ensures.answer in (
+      last,
+      c.judge_item.ensures.same ∙ accepted,
+      so_more c.args.place a from from from course at next c.loop-item._item counts
+          (g.R.ByteIn.remaining c.args.input.now) (g.R.ByteIn.remaining c.loop-item.input)
+          (g.R.ByteIn.remaining c.judge_item.new.input)
+          (g.W.ByteOut.contents c.args.output.now) (g.W.ByteOut.contents c.loop-item.output)
+          (g.W.ByteOut.contents c.judge_item.new.output)
+          (g.R.ByteIn.failures c.args.input.now) (g.R.ByteIn.failures c.loop-item.input)
+          (g.R.ByteIn.failures c.judge_item.new.input)
+          (g.W.ByteOut.failures c.args.output.now) (g.W.ByteOut.failures c.loop-item.output)
+          (g.W.ByteOut.failures c.judge_item.new.output) so
+          c.judge_item.new.judging.counts answer.0 answer.1 answer.2 answer.3 answer.4,
+    )

@@ -1,0 +1,101 @@
+# SPDX-License-Identifier: MIT OR Apache-2.0
+"""Files of Matroska that are damaged, and what `check --all` gives of them: frames, and faults that
+are told, each with the bytes before its element. Counted by hand from the formats, as in `offsets.py`:
+the first Cluster begins at 131, the second at 157, its Timestamp at 169 and its block at 172.
+"""
+from known_answers.case import Case, Step
+from known_answers.matroska import C, H, T, block, cluster, element, size, spell, summed, whole
+from known_answers.riffs import lines
+
+FRAME = None
+BAD, CUT, SUM = "81 BadElement", "52 Truncated", "85 Checksum"
+LACED, EMPTY, STRANGE = block("81 0000 82"), block(frame=b""), block("83 0000 80")
+LONG = block("0100000000010000 0000 80")
+TAIL = C[12:]                   # what a Cluster has
+
+
+def resized(count):
+    """A Cluster that says so many bytes."""
+    return spell("1F43B675") + size(count) + TAIL
+
+
+def short(count, last=C):
+    """Three Clusters in a Segment that says so many bytes of them."""
+    return H + spell("18538067") + size(len(T) + count) + T + C + C + last
+
+
+ROWS = [
+    ("a wrong CRC-32 of a Cluster", whole(C, cluster(summed("E78100", block(), crc=1)), C),
+     [FRAME, FRAME, (178, SUM), FRAME]),
+    ("of a Cluster of two frames", whole(C, cluster(summed("E78100", block(), block(), crc=1)), C),
+     [FRAME, FRAME, FRAME, (189, SUM), FRAME]),
+    ("of Cues", whole(C, element("1C53BB6B", summed("EC80", crc=1)), C), [FRAME, (157, SUM), FRAME]),
+    ("another ID of a Cluster", whole(C, "1F43B674", C[4:], C), [FRAME, (157, BAD), FRAME]),
+    ("a Cluster that takes in half the next one", whole(C, resized(31), C),
+     [FRAME, FRAME, (183, BAD), FRAME]),
+    ("a Cluster in a Cluster", whole(cluster("E78100", block(), C), C),
+     [FRAME, (157, BAD), FRAME, FRAME]),
+    ("a Cluster of too few bytes", whole(C, resized(6), C), [FRAME, (172, CUT), FRAME]),
+    ("and the end of the file in the size of the next one", whole(C, resized(6), C)[:189],
+     [FRAME, (172, CUT)]),
+    ("a block of too many bytes", whole(C, cluster("E78100 A3A9", block()[2:]), C),
+     [FRAME, (172, CUT), FRAME]),
+    ("a Block in a Cluster", whole(C, cluster("E78100 A1", block()[1:], block())),
+     [FRAME, (172, BAD), FRAME]),
+    ("a Position of nine bytes", whole(C, cluster("E78100 A7", block()[1:], block())),
+     [FRAME, (172, BAD), FRAME]),
+    ("a block of no track", whole(C, cluster("E78100", STRANGE, block())), [FRAME, (172, BAD), FRAME]),
+    ("a block of no track, with a number of eight bytes",
+     whole(C, cluster("E78100", LONG, block())), [FRAME, (172, BAD), FRAME]),
+    ("another element of the Segment", whole(C, "4FFF86", b"vendor", C), [FRAME, (157, BAD), FRAME]),
+    ("another element of a Cluster", whole(cluster("E78100 4FFF86", b"vendor", block()), C),
+     [(146, BAD), FRAME, FRAME]),
+    ("a group without a Block", whole(cluster("E78100 A0839B8101"), C), [(146, BAD), FRAME]),
+    ("a laced Block of a group, and a block",
+     whole(cluster("E78100", element("A0", "9B8101 A1", LACED[1:]), block()), C),
+     [(146, "84 Laced"), FRAME, FRAME]),
+    ("zeros between Clusters", whole(C, bytes(9), C), [FRAME, (157, BAD), FRAME]),
+    ("IDs of Clusters that do not fit", whole(C, "1F43B67500 1F43B67581", C),
+     [FRAME, (157, BAD), (167, CUT)]),
+    ("a Segment that ends in a Cluster", short(46), [FRAME, (157, CUT), FRAME, FRAME]),
+    ("a Segment that ends in the ID of one", short(28), [FRAME, (157, CUT), FRAME, FRAME]),
+    ("and lacing after that", short(46, cluster("E78100", LACED, block())),
+     [FRAME, (157, CUT), FRAME, (198, "84 Laced"), FRAME]),
+    ("lacing", whole(cluster("E78100", block(), LACED, block())), [FRAME, (157, "84 Laced"), FRAME]),
+    ("no frame in a block", whole(cluster("E78100", block(), EMPTY, block())),
+     [FRAME, (157, "54 EmptyFrame"), FRAME]),
+    ("cut in a frame", whole(C, C)[:180], [FRAME, (172, CUT)]),
+    ("cut between Clusters", whole(C, C)[:157], [FRAME, (157, CUT)]),
+]
+
+
+def told(items):
+    """What is printed of items, and how many frames there are."""
+    text, frames = [], 0
+    for item in items:
+        if item is FRAME:
+            text.append(f"frame {frames}: 5 bytes, 1 slices, 11 decisions\n")
+            frames += 1
+        else:
+            text.append(f"byte {item[0]}: fault {item[1]}\n")
+    return "".join(text), frames
+
+
+def damaged():
+    """Each file, by `check --all`, which goes on, and by `check`, which does not."""
+    for name, file, items in ROWS:
+        text, frames = told(items)
+        faults = [item for item in items if item is not FRAME]
+        byte, fault = faults[0]
+        ends = f"frames {frames} faults {len(faults)}\n"
+        before = items.index(faults[0]) - (fault == SUM and byte > 170)
+        yield Case(f"damaged: {name}", {"in": file}, [
+            Step(["check", "in"], lines(before), fault),
+            Step(["check", "--all", "in"], text + ends, fault),
+            Step(["check", "--all", "--place", "in"], text + ends, fault),
+            Step(["check", "--all", "--quiet", "in"],
+                 f"in: {len(faults)} faults in {frames} frames, the first {fault} at byte {byte}\n",
+                 fault)], {"in": file})
+
+
+CASES = [damaged]
