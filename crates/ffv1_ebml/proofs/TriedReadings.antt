@@ -5,7 +5,7 @@ use Rattle.ffv1_ebml.specs.Tried.{outcome, tried}
 use Rattle.ffv1_ebml.specs.Vints.{length_of, vint_rest, vint_read}
 use Rattle.ffv1_ebml.proofs.VintReadings.{vint_others, vint_whole}
 
--- so many bytes have no fault: what is read behind them is tried
+-- so many bytes have no fault: what is read after them is tried
 pub tried_then : {X : Type 0} (n : ℕ) (k : List ℕ → Reading X) (text : List ℕ) → tried (taken n >>= k) text ≡ (taken n >>= λ bytes. tried (k bytes)) text
 tried_then n k text = on_test (nat_lt (length text) n)
   where

@@ -1,5 +1,5 @@
 -- Headers of elements in damaged bytes: a fault of theirs is a value, so that reading goes on
--- behind it.
+-- after it.
 use Rattle.std.specs.Prelude.{ℕ, ◌-◌, Bool, if◌then◌else◌, nat_lt, List, length, Option, Some, None}
 use Rattle.std.specs.Prelude.{Result, Ok, Err}
 use Rattle.ffv1_reads.specs.Reads.{Met, Reading, Short, Stop, given, ◌>>=◌}
@@ -20,7 +20,7 @@ outcome (Ok p) = Ok (Ok p.0, p.1)
 outcome (Err (Met f rest)) = Ok (Err f, rest)
 outcome (Err (Short w)) = Err (Short w)
 
--- a reading of which a fault is a value: behind it is what the reading left
+-- a reading of which a fault is a value: after it comes what the reading left
 abbrev pub tried : {X : Type 0} → Reading X → Reading (Result X FileFault)
 tried reading = λ text. outcome (reading text)
 

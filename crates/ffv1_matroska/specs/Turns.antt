@@ -1,5 +1,5 @@
 -- Elements of a Segment in damaged bytes. Each is a turn, of which a fault is a value: it is told,
--- and reading goes on behind it. A turn reads what a step of plain reading does, up to its fault.
+-- and reading goes on after it. A turn reads what a step of plain reading does, up to its fault.
 use Rattle.std.specs.Prelude.{ℕ, ◌+◌, ◌-◌, ◌==◌, ◌||◌, ◌&&◌, suc, zero, Bool, true, false}
 use Rattle.std.specs.Prelude.{if◌then◌else◌, nat_lt, List, [], ◌∷◌, length, slice_index}
 use Rattle.std.specs.Prelude.{Option, Some, None, Result, Ok, Err}
@@ -36,7 +36,7 @@ abbrev pub segment_left : ℕ → Place → ℕ
 segment_left more place =
     offset_after (offset_after (offset_after place.segment place.cluster) place.group) more
 
--- a fault behind which the next Cluster is sought, so many bytes before a place
+-- a fault after which the next Cluster is sought, so many bytes before a place
 abbrev pub lost : FileFault → ℕ → Place → Turn
 lost f more place = Told f pending.Seeking (segment_at place false (segment_left more place))
 

@@ -1,4 +1,4 @@
-//! Laws of files that may be damaged: all bytes have items, and behind damage the next Cluster that
+//! Laws of files that may be damaged: all bytes have items, and after damage the next Cluster that
 //! is whole is found.
 
 ghost use Rattle.std.specs.Prelude.{◌≡◌, ◌<◌, ◌≤◌, ◌+◌, ◌-◌, ◌++◌, ◌∷◌, [], ℕ, List, Option};

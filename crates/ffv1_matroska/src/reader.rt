@@ -260,7 +260,7 @@ impl<A: Allocator> MatroskaReader<A> {
         }
     }
 
-    /// Reads the next frame of a file that may be damaged, or tells a fault and goes on behind it,
+    /// Reads the next frame of a file that may be damaged, or tells a fault and goes on after it,
     /// or answers that nothing more comes. The reader stays where it is: the course says where
     /// reading goes on, and it begins as `course` says.
     ///

@@ -33,7 +33,7 @@ fn segment_left(more: u64, place: Place) -> u64
         .saturating_add(more)
 }
 
-/// A fault behind which the next Cluster is sought, so many bytes before a place.
+/// A fault after which the next Cluster is sought, so many bytes before a place.
 pub(crate) fn lost(fault: FileFault, more: u64, place: Place) -> Turn
     ensures { result ≡ lost fault more place }
 {
