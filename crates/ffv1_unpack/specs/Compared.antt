@@ -1,5 +1,5 @@
 -- Comparing the pictures of a file with a list of MD5s.
-use Rattle.std.specs.Prelude.{◌≡◌, ◌⊎◌, ℕ, ◌<◌, ◌==◌, Bool, true, false, List, [], ◌∷◌, ◌++◌}
+use Rattle.std.specs.Prelude.{◌≡◌, ◌⊎◌, ℕ, ◌<◌, ◌==◌, Bool, false, List, [], ◌∷◌, ◌++◌}
 use Rattle.std.specs.Prelude.{length, map, take, slice_get, Option, Some, None}
 use Rattle.std.specs.Int.{from_be_bytes, w128}
 use Rattle.md5.specs.Md5.{md5}

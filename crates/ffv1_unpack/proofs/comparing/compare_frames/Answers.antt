@@ -1,13 +1,11 @@
 -- Decodes all frames that are left, and compares each picture with the next MD5 of the list as soon
 -- as it is decoded.
-use Rattle.std.proofs.Common.{◌≡◌, refl, Ok, Err, subst, sym, ◌∙◌}
+use Rattle.std.proofs.Common.{refl, Ok, Err, subst, ◌∙◌}
 use Rattle.std.proofs.lemmas.Result.{err_from_is_err_and}
 use Rattle.ffv1_wire.specs.Passage.{passage}
 use Rattle.ffv1_video.specs.KeptLines.{IsKeptFor}
 use Rattle.ffv1_video.proofs.KeptLines.{zeros_kept}
-use Rattle.ffv1_unpack.specs.Compared.{IsUnlike}
 use Rattle.ffv1_unpack.specs.Internal.Compared.{CompareAnswers}
-use Rattle.ffv1_unpack.specs.Internal.Told.{IsToldFault}
 use Rattle.ffv1_unpack.proofs.FramesCompared.{compared_lacks, compared_more, compared_none}
 use Rattle.ffv1_unpack.proofs.FramesCompared.{compared_over, compared_stops}
 use Rattle.ffv1_unpack.proofs.comparing.compare_frames.Goals as goal

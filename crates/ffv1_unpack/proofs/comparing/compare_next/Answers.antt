@@ -1,6 +1,6 @@
 -- Reads the next frame, decodes it, and compares its picture with the MD5 of the list that has its
 -- number.
-use Rattle.std.proofs.Common.{◌≡◌, Bool, true, false, Some, Ok, Err, take, [], ◌∷◌, inl, inr, ap, sym, refl, subst, ◌∙◌}
+use Rattle.std.proofs.Common.{◌≡◌, true, false, Some, take, [], ◌∷◌, inl, inr, ap, sym, refl, subst, ◌∙◌}
 use Rattle.std.specs.Prelude.{slice_get}
 use Rattle.ffv1_wire.specs.Passage.{at_rest, passage}
 use Rattle.ffv1_record.specs.Accepted.{Accepted}
@@ -13,8 +13,7 @@ use Rattle.ffv1_video.specs.KeptLines.{IsKeptFor}
 use Rattle.ffv1_video.specs.Output.{Silent}
 use Rattle.ffv1_video.proofs.Output.{silent}
 use Rattle.ffv1_unpack.specs.Compared.{frame_number, is_md5, picture_number}
-use Rattle.ffv1_unpack.specs.Internal.Compared.{Compares}
-use Rattle.ffv1_unpack.specs.Internal.Plays.{OneStopsBy, PlaysFrame}
+use Rattle.ffv1_unpack.specs.Internal.Plays.{OneStopsBy}
 use Rattle.ffv1_unpack.specs.Stream.{Frame, IsFrame, frame_payload}
 use Rattle.ffv1_unpack.specs.Told.{is_telling_fault}
 use Rattle.ffv1_unpack.proofs.FrameDecoded.{is_decided, is_faulty}

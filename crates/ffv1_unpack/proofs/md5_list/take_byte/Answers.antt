@@ -1,5 +1,5 @@
 -- Takes a byte of the list.
-use Rattle.std.proofs.Common.{rules, ◌≡◌, ◌<◌, ◌∙◌, [], ◌∷◌, ◌++◌, length, Err, ap, sym}
+use Rattle.std.proofs.Common.{rules, ◌<◌, ◌∙◌, [], ◌∷◌, ◌++◌, length, Err, ap, sym}
 use Rattle.ffv1_unpack.specs.Internal.Md5List.{listed}
 use Rattle.ffv1_unpack.proofs.Md5Lists.{line_grows, long_refused, over_longest}
 use Rattle.ffv1_unpack.proofs.md5_list.take_byte.Goals as goal
