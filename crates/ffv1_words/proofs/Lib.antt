@@ -5,3 +5,4 @@ mod TakenNames
 mod TakenLine
 mod Hyphens
 mod AddedArgument
+mod RangesNamed

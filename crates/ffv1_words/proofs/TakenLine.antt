@@ -7,19 +7,20 @@ use Rattle.std.specs.Borrow.{Bor}
 use Rattle.std.proofs.lemmas.Slice.Eq.{bytes_eq-Decides}
 use Rattle.clap.proofs.OnLiterals.{clap_on_literals}
 use Rattle.clap.specs.Walk.{Rule, Text, answers_to, first_of, nothing_held, rows_after}
-use Rattle.clap.specs.Simple.{Shape, built, label_of, new_rule, subcommand_of}
+use Rattle.clap.specs.Simple.{Shape, built, filled, label_of, new_rule, subcommand_of, with_index}
 use Rattle.clap.specs.Takes.{level_passes, takes}
-use Rattle.ffv1_words.specs.CommandLine.{AreOptionWords, line_app}
+use Rattle.ffv1_words.specs.CommandLine.{AreOptionWords, count_rule, line_app, number_rule}
 use Rattle.ffv1_words.specs.declared.command_line.OptionWords.{OptionWords}
-use Rattle.ffv1_words.specs.Order.{Names, NamesChoice, NamesColour, is_given, names_no_grid, names_rate}
+use Rattle.ffv1_words.specs.Order.{Names, NamesChoice, NamesColour, NamesRange, is_given, names_no_grid, names_rate}
 use Rattle.ffv1_words.specs.declared.order.Choice.{Choice}
 use Rattle.ffv1_words.specs.declared.order.ColourChoice.{ColourChoice}
+use Rattle.ffv1_words.specs.declared.order.FrameRange.{FrameRange}
 use Rattle.ffv1_words.specs.declared.order.Order.{Order}
 use Rattle.ffv1_words.specs.declared.order.Order.TheVariants as order
 use Rattle.ffv1_words.proofs.TakenNames.{bit_named, codec_id_named, coder_named, container_named, contexts_named, flag_named, number_named, range_named, siting_named}
 use Rattle.ffv1_words.proofs.TakenOrder.{taken_level}
 use Rattle.ffv1_words.proofs.TakenRows.{HasValue, IsIn, either}
-use Rattle.ffv1_words.proofs.UsualArguments.{is_expected, value_left}
+use Rattle.ffv1_words.proofs.UsualArguments.{are_usual, is_expected, optional_left, value_left}
 
 -- one of a list of commands
 abbrev IsOneOf : Shape → List Shape → Type 0
@@ -55,6 +56,21 @@ text_of (Some t) = refl
 -- what passes as this command names an order
 abbrev NamesOrder : Shape → Type 0
 NamesOrder s = (rest : List Text) → level_passes s [] nothing_held rest false ≡ true → (o : Order) × Names o (Some (s.name, rows_after s.rules [] rest))
+
+-- which frames a command's line names
+frames_named : (s : Shape) (rest : List Text) → are_usual s.rules ≡ true → s.subcommand_negates_reqs ≡ false → IsIn (with_index 1 (filled (number_rule (codes "from") 0 4294967295 (codes "0")))) s.rules → IsIn (with_index 1 (filled (count_rule (codes "frames") 1 4294967295))) s.rules
+    → level_passes s [] nothing_held rest false ≡ true → (r : FrameRange) × NamesRange (rows_after s.rules [] rest) r
+unfolding clap_on_literals
+frames_named s rest usual negates from_in frames_in e =
+    let rows = rows_after s.rules [] rest in
+    let from = value_left s rest (with_index 1 (filled (number_rule (codes "from") 0 4294967295 (codes "0")))) usual negates from_in refl e in
+    let first = number_named rows (codes "from") 0 4294967295 from.text from.reads from.passes in
+    elim (optional_left s rest (with_index 1 (filled (count_rule (codes "frames") 1 4294967295))) usual frames_in e) [
+      | inl none ↦ (record { first = first.0; count = None }, record { first = first.1; count = none })
+      | inr some ↦
+          let count = number_named rows (codes "frames") 1 4294967295 some.text some.reads some.passes in
+          (record { first = first.0; count = Some count.0 }, record { first = first.1; count = count.1 })
+    ]
 
 abbrev rule_at : Shape → ℕ → Rule
 rule_at s k = slice_index_or s.rules k (new_rule [])
@@ -174,11 +190,12 @@ module _ (lists : OptionWords) (are : AreOptionWords lists) where
   unpack_named rest e =
       let input = value_left unpack rest (rule_at unpack 0) refl refl (inl refl) refl e in
       let output = value_left unpack rest (rule_at unpack 1) refl refl (inr (inl refl)) refl e in
-      let kept = value_left unpack rest (rule_at unpack 2) refl refl (inr (inr (inl refl))) refl e in
+      let range = frames_named unpack rest refl refl (inr (inr (inl refl))) (inr (inr (inr (inl refl)))) e in
+      let kept = value_left unpack rest (rule_at unpack 4) refl refl (inr (inr (inr (inr (inl refl))))) refl e in
       let no_clobber = flag_named (rows_after unpack.rules [] rest) (codes "no-clobber") kept.text kept.is kept.passes in
-      let told = value_left unpack rest (rule_at unpack 3) refl refl (inr (inr (inr (inl refl)))) refl e in
+      let told = value_left unpack rest (rule_at unpack 5) refl refl (inr (inr (inr (inr (inr (inl refl)))))) refl e in
       let progress = flag_named (rows_after unpack.rules [] rest) (codes "progress") told.text told.is told.passes in
-      (order.Unpack (path input.text) (path output.text) no_clobber.0 progress.0, (refl, input.is, output.is, no_clobber.1, progress.1))
+      (order.Unpack (path input.text) (path output.text) no_clobber.0 progress.0 range.0, (refl, input.is, output.is, no_clobber.1, progress.1, range.1))
 
   abbrev check : Shape
   check = command 2
@@ -193,11 +210,12 @@ module _ (lists : OptionWords) (are : AreOptionWords lists) where
       let flag = flag_named (rows_after check.rules [] rest) (codes "place") place.text place.is place.passes in
       let short = value_left check rest (rule_at check 3) refl refl (inr (inr (inr (inl refl)))) refl e in
       let quiet = flag_named (rows_after check.rules [] rest) (codes "quiet") short.text short.is short.passes in
-      let told = value_left check rest (rule_at check 5) refl refl (inr (inr (inr (inr (inr (inl refl)))))) refl e in
+      let range = frames_named check rest refl refl (inr (inr (inr (inr (inr (inl refl)))))) (inr (inr (inr (inr (inr (inr (inl refl))))))) e in
+      let told = value_left check rest (rule_at check 7) refl refl (inr (inr (inr (inr (inr (inr (inr (inl refl)))))))) refl e in
       let progress = flag_named (rows_after check.rules [] rest) (codes "progress") told.text told.is told.passes in
       let list = first_of (codes "against") (rows_after check.rules [] rest) in (
-        order.Check (paths input.texts) all.0 flag.0 quiet.0 progress.0 (option_map path list),
-        (refl, input.all ∙ ap Some (texts_of input.texts), all.1, flag.1, quiet.1, progress.1, text_of list),
+        order.Check (paths input.texts) all.0 flag.0 quiet.0 progress.0 (option_map path list) range.0,
+        (refl, input.all ∙ ap Some (texts_of input.texts), all.1, flag.1, quiet.1, progress.1, text_of list, range.1),
       )
 
   abbrev show : Shape
@@ -218,7 +236,8 @@ module _ (lists : OptionWords) (are : AreOptionWords lists) where
   unfolding clap_on_literals
   framemd5_named rest e =
       let input = value_left framemd5 rest (rule_at framemd5 0) refl refl (inl refl) refl e in
-      (order.FrameMd5 (paths input.texts), (refl, input.all ∙ ap Some (texts_of input.texts)))
+      let range = frames_named framemd5 rest refl refl (inr (inl refl)) (inr (inr (inl refl))) e in
+      (order.FrameMd5 (paths input.texts) range.0, (refl, input.all ∙ ap Some (texts_of input.texts), range.1))
 
   abbrev trial : Shape
   trial = command 5

@@ -451,7 +451,19 @@ module _ (id : Text) (a : Rule) where
       let third = (both free last second.1).1 in
       rw negates at third
 
-  -- a level that passes leaves the argument a value
+  -- a level that passes leaves rows that are fine
+  level_fine : (s : Shape) (names : Names) (words : List Text) (has : Bool) → Each Usual s.rules → level_passes s names nothing_held words has ≡ true → AllFine (rows_after s.rules names words)
+  level_fine s names words has usual e =
+      let end = (walk s.rules names nothing_held words).held in
+      let rows = finished s.rules end in
+      let first = both (walk_passes s names (walk_from nothing_held) words) (settle_passes s.rules s.args_override_self end && (list_all default_passes s.rules && is_valid s rows has)) e in
+      let second = both (settle_passes s.rules s.args_override_self end) (list_all default_passes s.rules && is_valid s rows has) first.1 in
+      let third = both (list_all default_passes s.rules) (is_valid s rows has) second.1 in
+      let walked_fine = walk_fine s names usual (walk_from nothing_held) words first.0 tt in
+      let settled_well = settled_fine s.rules s.args_override_self usual end second.0 walked_fine in
+      defaults_fine s.rules (settled s.rules end).rows usual third.0 settled_well
+
+  -- the argument a value
   pub level_value : (s : Shape) (names : Names) (words : List Text) (has : Bool) → Each Usual s.rules → a.id ≡ id → IsIn a s.rules → IsExpected → s.subcommand_negates_reqs ≡ false
       → level_passes s names nothing_held words has ≡ true → HasValue (rows_after s.rules names words)
   level_value s names words has usual own here expected negates e =
@@ -460,10 +472,24 @@ module _ (id : Text) (a : Rule) where
       let first = both (walk_passes s names (walk_from nothing_held) words) (settle_passes s.rules s.args_override_self end && (list_all default_passes s.rules && is_valid s rows has)) e in
       let second = both (settle_passes s.rules s.args_override_self end) (list_all default_passes s.rules && is_valid s rows has) first.1 in
       let third = both (list_all default_passes s.rules) (is_valid s rows has) second.1 in
-      let walked_fine = walk_fine s names usual (walk_from nothing_held) words first.0 tt in
-      let settled_well = settled_fine s.rules s.args_override_self usual end second.0 walked_fine in
-      let fine = defaults_fine s.rules (settled s.rules end).rows usual third.0 settled_well in
-      has_value rows fine (elim expected [
+      has_value rows (level_fine s names words has usual e) (elim expected [
         | inl needs ↦ required_given s.rules rows own here needs (required_passes s rows has negates third.1)
         | inr some ↦ defaults_made s.rules (settled s.rules end).rows own here some
       ])
+
+  no_row : (rows : List Row) → has_row id rows ≡ false → first_of id rows ≡ None
+  no_row [] e = refl
+  no_row (r ∷ rs) e = go (bytes_eq r.id id) refl (no_row rs)
+    where
+      go : (t : Bool) → bytes_eq r.id id ≡ t → (has_row id rs ≡ false → first_of id rs ≡ None) → first_of id (r ∷ rs) ≡ None
+      go true t more = absurd (true≢false (rw t at e))
+      go false t more = rw t (more (rw t at e))
+
+  -- or, if it is not expected, maybe none
+  pub level_optional : (s : Shape) (names : Names) (words : List Text) (has : Bool) → Each Usual s.rules → level_passes s names nothing_held words has ≡ true
+      → (first_of id (rows_after s.rules names words) ≡ None) ⊎ HasValue (rows_after s.rules names words)
+  level_optional s names words has usual e = go (has_row id (rows_after s.rules names words)) refl
+    where
+      go : (t : Bool) → has_row id (rows_after s.rules names words) ≡ t → (first_of id (rows_after s.rules names words) ≡ None) ⊎ HasValue (rows_after s.rules names words)
+      go true t = inr (has_value (rows_after s.rules names words) (level_fine s names words has usual e) t)
+      go false t = inl (no_row (rows_after s.rules names words) t)

@@ -1,17 +1,17 @@
 -- An argument among others, by tests that compute: no two have one id, and a use that passes gives a
 -- value.
-use Rattle.std.proofs.Common.{◌≡◌, ◌∙◌, ◌<◌, ◌&&◌, ◌||◌, ◌⊎◌, not, inl, inr, subst, refl, sym, List, [], ◌∷◌, Bool, true, false, length, nat_lt, true≢false}
+use Rattle.std.proofs.Common.{◌≡◌, ◌∙◌, ◌<◌, ◌&&◌, ◌||◌, ◌⊎◌, not, inl, inr, subst, refl, sym, List, [], ◌∷◌, None, Bool, true, false, length, nat_lt, true≢false}
 use Rattle.std.specs.List.{list_all, list_any}
 use Rattle.std.specs.Str.{bytes_eq}
 use Rattle.std.proofs.lemmas.Bool.{ltb-true}
 use Rattle.std.proofs.lemmas.Slice.Eq.{bytes_eq-Decides}
 use Rattle.clap.specs.Facts.{unwrap_or_range}
-use Rattle.clap.specs.Walk.{Rule, Text, action_of, nothing_held, rows_after}
+use Rattle.clap.specs.Walk.{Rule, Text, action_of, first_of, nothing_held, rows_after}
 use Rattle.clap.specs.declared.builder.action.ArgAction.{ArgAction}
 use Rattle.clap.specs.declared.builder.action.ArgAction.TheVariants.{Set, SetTrue, Help, Append}
 use Rattle.clap.specs.Simple.{Shape}
 use Rattle.clap.specs.Takes.{level_passes}
-use Rattle.ffv1_words.proofs.TakenRows.{Each, HasValue, IsExpected, IsIn, Usual, both, either, level_value}
+use Rattle.ffv1_words.proofs.TakenRows.{Each, HasValue, IsExpected, IsIn, Usual, both, either, level_optional, level_value}
 
 -- no two have one id
 abbrev has_distinct_ids : List Rule → Bool
@@ -91,3 +91,8 @@ pub value_left : (s : Shape) (words : List Text) (a : Rule) → are_usual s.rule
     → level_passes s [] nothing_held words false ≡ true → HasValue a.id a (rows_after s.rules [] words)
 value_left s words a usual negates here wanted passes =
     level_value a.id a s [] words false (each_in (Usual a.id a) s.rules (λ b there. usual_in s.rules a b usual here there)) refl here (expected a wanted) negates passes
+
+-- and each other one a value or none
+pub optional_left : (s : Shape) (words : List Text) (a : Rule) → are_usual s.rules ≡ true → IsIn a s.rules → level_passes s [] nothing_held words false ≡ true
+    → (first_of a.id (rows_after s.rules [] words) ≡ None) ⊎ HasValue a.id a (rows_after s.rules [] words)
+optional_left s words a usual here passes = level_optional a.id a s [] words false (each_in (Usual a.id a) s.rules (λ b there. usual_in s.rules a b usual here there)) passes

@@ -22,6 +22,13 @@ number_rule name low high text = record (new_rule name) {
   defaults = text ∷ [];
 }
 
+-- the same without a default
+abbrev pub count_rule : Text → ℕ → ℕ → Rule
+count_rule name low high = record (new_rule name) {
+  long = Some name;
+  parser = Some (parser.Signed (pos low) (pos high));
+}
+
 -- words as clap holds them: references, of which it reads what they refer to
 abbrev pub Words : Type 0
 Words = Bor (List (Bor Text))
@@ -91,6 +98,11 @@ with_progress a = with_rule a (flag_rule (codes "progress"))
 abbrev pub with_no_clobber : App → App
 with_no_clobber a = with_rule a (flag_rule (codes "no-clobber"))
 
+-- some frames of a file
+abbrev pub with_range : App → App
+with_range a = with_rule (with_rule a (number_rule (codes "from") 0 4294967295 (codes "0")))
+    (count_rule (codes "frames") 1 4294967295)
+
 -- what Matroska says of colours
 abbrev pub with_colour : OptionWords → App → App
 with_colour words a = with_rule (with_rule (with_rule (with_rule (with_rule a
@@ -107,12 +119,16 @@ pack_app words =
     (with_pace (with_slices (with_model words.contexts (two_files (codes "pack"))))))))))
 
 abbrev pub unpack_app : App
-unpack_app = with_progress (with_no_clobber (two_files (codes "unpack")))
+unpack_app = with_progress (with_no_clobber (with_range (two_files (codes "unpack"))))
 
 abbrev pub check_app : App
-check_app = with_progress (with_rule (with_rule (with_rule (with_rule (some_files (codes "check"))
+check_app = with_progress (with_range
+    (with_rule (with_rule (with_rule (with_rule (some_files (codes "check"))
     (flag_rule (codes "all"))) (flag_rule (codes "place"))) (flag_rule (codes "quiet")))
-    (path_rule (codes "against")))
+    (path_rule (codes "against"))))
+
+abbrev pub framemd5_app : App
+framemd5_app = with_range (some_files (codes "framemd5"))
 
 abbrev pub show_app : App
 show_app = with_rule (some_files (codes "show")) (flag_rule (codes "cost"))
@@ -142,7 +158,7 @@ looks_app words =
 abbrev pub line_app : OptionWords → App
 line_app words =
     with_subcommand (with_subcommand (looks_app words)
-    (some_files (codes "framemd5")).top) (one_file (codes "trial")).top
+    framemd5_app.top) (one_file (codes "trial")).top
 
 -- the words that `--contexts` takes
 abbrev pub AreContexts : Words → Type 0

@@ -1,7 +1,7 @@
 -- What an order names of a command line, and when its files are in conflict.
 use Rattle.std.specs.Prelude.{◌≡◌, ◌≤◌, ◌⊎◌, ◌||◌, ◌&&◌, ◌==◌, ℕ, Bool, true, false, not, codes}
 use Rattle.std.specs.Prelude.{List, [], ◌∷◌, ◌+◌, ◌-◌, drop, find, length, map, nat_lt, Option}
-use Rattle.std.specs.Prelude.{Some, None}
+use Rattle.std.specs.Prelude.{Some, None, is_some}
 use Rattle.std.specs.Option.{option_and_then, option_map}
 use Rattle.std.specs.Borrow.{Bor}
 use Rattle.std.specs.Str.{bytes_eq, str_eq_ignore_ascii_case}
@@ -21,6 +21,7 @@ use Rattle.ffv1_words.specs.declared.order.CoderChoice.TheVariants as coder
 use Rattle.ffv1_words.specs.declared.order.ColourChoice.{ColourChoice}
 use Rattle.ffv1_words.specs.declared.order.ContainerChoice.{ContainerChoice}
 use Rattle.ffv1_words.specs.declared.order.ContainerChoice.TheVariants as container
+use Rattle.ffv1_words.specs.declared.order.FrameRange.{FrameRange}
 use Rattle.ffv1_words.specs.declared.order.Order.{Order}
 use Rattle.ffv1_words.specs.declared.order.Order.TheVariants as order
 use Rattle.ffv1_words.specs.declared.order.RangeChoice.{RangeChoice}
@@ -49,6 +50,16 @@ abbrev pub NamesNumber : List Row → Text → ℕ → ℕ → ℕ → Type 0
 NamesNumber rows id low high n =
     (t : Text) × (one_of id rows ≡ Some t) × IsNumeral 10 (without_leading_plus t)
     × (digits_value 10 (without_leading_plus t) ≡ n) × (low ≤ n) × (n ≤ high)
+
+-- the number of an option without a default, if the words give it
+abbrev pub NamesCount : List Row → Text → ℕ → ℕ → Option ℕ → Type 0
+NamesCount rows id low high None = first_of id rows ≡ None
+NamesCount rows id low high (Some n) = NamesNumber rows id low high n
+
+-- which frames of a file
+pub record NamesRange (rows : List Row) (r : FrameRange) : Type 0 where
+  pub first : NamesNumber rows (codes "from") 0 4294967295 r.first
+  pub count : NamesCount rows (codes "frames") 1 4294967295 r.count
 
 abbrev pub flag_word : Bool → Text
 flag_word false = codes "false"
@@ -139,17 +150,19 @@ Names (order.Pack i w c holder no_clobber progress) (Some p) = (p.0 ≡ codes "p
     × NamesFile p.1 (codes "IN") i.now × NamesFile p.1 (codes "OUT") w.now × NamesChoice p.1 c
     × (first_of (codes "container") p.1 ≡ Some (container_word holder))
     × NamesFlag p.1 (codes "no-clobber") no_clobber × NamesFlag p.1 (codes "progress") progress
-Names (order.Unpack i w no_clobber progress) (Some p) = (p.0 ≡ codes "unpack")
+Names (order.Unpack i w no_clobber progress range) (Some p) = (p.0 ≡ codes "unpack")
     × NamesFile p.1 (codes "IN") i.now × NamesFile p.1 (codes "OUT") w.now
     × NamesFlag p.1 (codes "no-clobber") no_clobber × NamesFlag p.1 (codes "progress") progress
-Names (order.Check is all place quiet progress against) (Some p) = (p.0 ≡ codes "check")
+    × NamesRange p.1 range
+Names (order.Check is all place quiet progress against range) (Some p) = (p.0 ≡ codes "check")
     × NamesFiles p.1 (codes "IN") (map (λ i. i.now) is.now) × NamesFlag p.1 (codes "all") all
     × NamesFlag p.1 (codes "place") place × NamesFlag p.1 (codes "quiet") quiet
     × NamesFlag p.1 (codes "progress") progress × NamesList p.1 (codes "against") against
+    × NamesRange p.1 range
 Names (order.Show is cost) (Some p) = (p.0 ≡ codes "show")
     × NamesFiles p.1 (codes "IN") (map (λ i. i.now) is.now) × NamesFlag p.1 (codes "cost") cost
-Names (order.FrameMd5 is) (Some p) = (p.0 ≡ codes "framemd5")
-    × NamesFiles p.1 (codes "IN") (map (λ i. i.now) is.now)
+Names (order.FrameMd5 is range) (Some p) = (p.0 ≡ codes "framemd5")
+    × NamesFiles p.1 (codes "IN") (map (λ i. i.now) is.now) × NamesRange p.1 range
 Names (order.Trial i) (Some p) = (p.0 ≡ codes "trial") × NamesFile p.1 (codes "IN") i.now
 
 -- no order is
@@ -242,16 +255,27 @@ abbrev pub is_list_in_conflict : Option (Bor Text) → Bool → Bool → List Te
 is_list_in_conflict None all place paths = false
 is_list_in_conflict (Some list) all place paths = opposes_list list.now all place paths
 
+-- it leaves out frames
+abbrev pub leaves_out : FrameRange → Bool
+leaves_out r = not (r.first == 0) || is_some r.count
+
+-- some frames are of one file, and not compared with a list
+abbrev pub is_range_in_conflict : FrameRange → Option (Bor Text) → List Text → Bool
+is_range_in_conflict r against paths =
+    leaves_out r && (is_some against || not (length paths == 1))
+
 abbrev pub is_in_conflict : Order → Bool
 is_in_conflict (order.Pack i w c holder no_clobber progress) =
     is_conflict i.now w.now || (is_misnamed holder w.now
     || (lacks_codec_id c holder w.now || lacks_colour c holder w.now))
-is_in_conflict (order.Unpack i w no_clobber progress) = is_conflict i.now w.now
-is_in_conflict (order.Check is all place quiet progress against) =
+is_in_conflict (order.Unpack i w no_clobber progress range) = is_conflict i.now w.now
+is_in_conflict (order.Check is all place quiet progress against range) =
     are_in_conflict (map (λ i. i.now) is.now)
-    || is_list_in_conflict against all place (map (λ i. i.now) is.now)
+    || (is_range_in_conflict range against (map (λ i. i.now) is.now)
+    || is_list_in_conflict against all place (map (λ i. i.now) is.now))
 is_in_conflict (order.Show is cost) = are_in_conflict (map (λ i. i.now) is.now)
-is_in_conflict (order.FrameMd5 is) = are_in_conflict (map (λ i. i.now) is.now)
+is_in_conflict (order.FrameMd5 is range) = are_in_conflict (map (λ i. i.now) is.now)
+    || is_range_in_conflict range None (map (λ i. i.now) is.now)
 is_in_conflict (order.Trial i) = false
 
 -- ---- what is answered to the words of a line

@@ -1,24 +1,28 @@
 //! The words of a command line.
 
 ghost use Rattle.std.specs.Prelude.{◌≡◌, ◌⊎◌, IfOk, IfErr, map, codes, false, true};
-ghost use Rattle.clap.specs.Words.{app_of, rule_of, kind_of, new_app};
+ghost use Rattle.clap.specs.Words.{app_of, kind_of, new_app};
 ghost use Rattle.clap.specs.declared.builder.command.Command.TheViews.{out-Command as fields_of};
 ghost use Rattle.clap.specs.declared.error.kind.ErrorKind.TheVariants as kind;
-ghost use Rattle.ffv1_words.specs.CommandLine.{file_rule, files_rule, flag_rule, number_rule};
+ghost use Rattle.ffv1_words.specs.CommandLine.{framemd5_app, with_range};
 ghost use Rattle.ffv1_words.specs.CommandLine.{one_file, some_files, two_files, with_model};
 ghost use Rattle.ffv1_words.specs.CommandLine.{with_codec_id, with_colour, with_container};
 ghost use Rattle.ffv1_words.specs.CommandLine.{with_no_clobber, with_pace, with_progress};
-ghost use Rattle.ffv1_words.specs.CommandLine.{with_slices, with_verify, word_rule};
+ghost use Rattle.ffv1_words.specs.CommandLine.{with_slices, with_verify};
 ghost use Rattle.ffv1_words.specs.CommandLine.{pack_app, unpack_app, check_app, show_app, top_app};
-ghost use Rattle.ffv1_words.specs.CommandLine.{files_app, looks_app, line_app, path_rule};
+ghost use Rattle.ffv1_words.specs.CommandLine.{files_app, looks_app, line_app};
 ghost use Rattle.ffv1_words.specs.CommandLine.{AreOptionWords};
 ghost use Rattle.ffv1_words.specs.CommandLine.{OnLine};
 ghost use Rattle.ffv1_words.specs.Order.{IsOrder, IsRefused, IsRefusedIfTaken, is_in_conflict};
 
+use crate::arguments::{
+    contexts_arg, count_arg, file_arg, files_arg, flag_arg, number_arg, path_arg, progress_arg,
+    word_arg,
+};
 use crate::matched::{order_of, paths};
 use crate::order::Order;
 use clap::error::ErrorKind;
-use clap::{Arg, ArgAction, Command, Error, value_parser};
+use clap::{Command, Error};
 use std::alloc::{AllocError, Global};
 
 static CONTEXTS: [&str; 2] = ["small", "large"];
@@ -60,89 +64,6 @@ const PICTURE_FILES: &str =
 
 const STATUSES: &str = "Exit status: 0 all done, 1 a fault, by its number, 2 a line refused";
 
-fn file_arg<'a>(alloc: Global, id: &'a str, help: &'a str) -> Arg<'a>
-    ensures rule { rule_of result ≡ file_rule id.entry.now }
-    ensures own { result.global ≡ false }
-{
-    Arg::new(alloc, id).required(true).help(help)
-}
-
-fn files_arg<'a>(alloc: Global, id: &'a str, help: &'a str) -> Arg<'a>
-    ensures rule { rule_of result ≡ files_rule id.entry.now }
-    ensures own { result.global ≡ false }
-{
-    file_arg(alloc, id, help).action(ArgAction::Append)
-}
-
-fn flag_arg<'a>(alloc: Global, id: &'a str, help: &'a str) -> Arg<'a>
-    ensures rule { rule_of result ≡ flag_rule id.entry.now }
-    ensures own { result.global ≡ false }
-{
-    Arg::new(alloc, id)
-        .long(id)
-        .action(ArgAction::SetTrue)
-        .help(help)
-}
-
-fn path_arg<'a>(alloc: Global, id: &'a str, help: &'a str) -> Arg<'a>
-    ensures rule { rule_of result ≡ path_rule id.entry.now }
-    ensures own { result.global ≡ false }
-{
-    Arg::new(alloc, id).long(id).help(help)
-}
-
-fn number_arg<'a>(
-    alloc: Global,
-    id: &'a str,
-    low: u32,
-    high: u32,
-    text: &'a str,
-    help: &'a str,
-) -> Arg<'a>
-    ensures rule { rule_of result ≡ number_rule id.entry.now low high text.entry.now }
-    ensures own { result.global ≡ false }
-{
-    Arg::new(alloc, id)
-        .long(id)
-        .value_parser(value_parser!(u32).range(i64::from(low)..=i64::from(high)))
-        .default_value(text)
-        .help(help)
-}
-
-fn word_arg<'a>(
-    alloc: Global,
-    id: &'a str,
-    words: &'a [&'a str],
-    text: &'a str,
-    help: &'a str,
-) -> Arg<'a>
-    ensures rule { rule_of result ≡ word_rule id.entry.now words.entry text.entry.now }
-    ensures own { result.global ≡ false }
-{
-    Arg::new(alloc, id)
-        .long(id)
-        .value_parser(words)
-        .default_value(text)
-        .help(help)
-}
-
-fn contexts_arg<'a>(alloc: Global, contexts: &'a [&'a str]) -> Arg<'a>
-    ensures rule { rule_of result
-        ≡ word_rule (codes "contexts") contexts.entry (codes "small") }
-    ensures own { result.global ≡ false }
-{
-    let help = "666 contexts, or 16638, which no other program reads";
-    word_arg(alloc, "contexts", contexts, "small", help)
-}
-
-fn progress_arg<'a>(alloc: Global) -> Arg<'a>
-    ensures rule { rule_of result ≡ flag_rule (codes "progress") }
-    ensures own { result.global ≡ false }
-{
-    let help = "Say on standard error, once a second, how much of IN is read";
-    flag_arg(alloc, "progress", help)
-}
-
 /// The flags of a command that makes a file.
 fn add_making<'a>(alloc: Global, command: Command<'a>) -> Result<Command<'a>, AllocError>
     requires { (fields_of command).has_globals ≡ false }
@@ -152,6 +73,18 @@ fn add_making<'a>(alloc: Global, command: Command<'a>) -> Result<Command<'a>, Al
     let help = "Refuse an OUT that exists, with status 2, and leave it as it is";
     let command = command.arg(flag_arg(alloc, "no-clobber", help))?;
     command.arg(progress_arg(alloc))
+}
+
+/// The options of which frames of a file are decoded.
+fn add_range<'a>(alloc: Global, command: Command<'a>) -> Result<Command<'a>, AllocError>
+    requires { (fields_of command).has_globals ≡ false }
+    ensures { IfOk result (λ c.
+        (app_of c ≡ with_range (app_of command.entry)) × ((fields_of c).has_globals ≡ false)) }
+{
+    let from = "Read the frames before this one, and do not decode them: the first is 0";
+    let frames = "Decode at most so many, 1 to 4294967295, and read no further";
+    let command = command.arg(number_arg(alloc, "from", 0, u32::MAX, "0", from))?;
+    command.arg(count_arg(alloc, "frames", 1, u32::MAX, frames))
 }
 
 /// A command by this name, with what help says of it.
@@ -327,6 +260,7 @@ fn unpack_command<'a>(alloc: Global) -> Result<Command<'a>, AllocError>
     let about = "Decode a file into YUV4MPEG2, or into PPM if it holds RGB";
     let output = "The video, or - for standard output: written anew as soon as it has a byte";
     let command = two_files_command(alloc, "unpack", about, CODED_FILE, output)?;
+    let command = add_range(alloc, command)?;
     add_making(alloc, command)
 }
 
@@ -339,12 +273,13 @@ fn check_command<'a>(alloc: Global) -> Result<Command<'a>, AllocError>
     let place = "Say where: slice, plane, line and column of a frame, or the byte of the file";
     let quiet = "Print one line of each file: that it is sound, or its first fault and the place";
     let against = "Compare each picture's MD5 with this list, of FFmpeg's framemd5";
-    some_files_command(alloc, "check", about, CODED_FILES)?
+    let command = some_files_command(alloc, "check", about, CODED_FILES)?
         .arg(flag_arg(alloc, "all", all))?
         .arg(flag_arg(alloc, "place", place))?
         .arg(flag_arg(alloc, "quiet", quiet))?
-        .arg(path_arg(alloc, "against", against))?
-        .arg(progress_arg(alloc))
+        .arg(path_arg(alloc, "against", against))?;
+    let command = add_range(alloc, command)?;
+    command.arg(progress_arg(alloc))
 }
 
 fn show_command<'a>(alloc: Global) -> Result<Command<'a>, AllocError>
@@ -358,10 +293,11 @@ fn show_command<'a>(alloc: Global) -> Result<Command<'a>, AllocError>
 
 fn framemd5_command<'a>(alloc: Global) -> Result<Command<'a>, AllocError>
     ensures { IfOk result (λ c.
-        (app_of c ≡ some_files (codes "framemd5")) × ((fields_of c).has_globals ≡ false)) }
+        (app_of c ≡ framemd5_app) × ((fields_of c).has_globals ≡ false)) }
 {
     let about = "Write the MD5 of each picture of files, as FFmpeg's framemd5 does";
-    some_files_command(alloc, "framemd5", about, PICTURE_FILES)
+    let command = some_files_command(alloc, "framemd5", about, PICTURE_FILES)?;
+    add_range(alloc, command)
 }
 
 fn trial_command<'a>(alloc: Global) -> Result<Command<'a>, AllocError>
@@ -481,8 +417,9 @@ fn read<'a>(alloc: Global, lists: OptionWords<'a>, words: &'a [&'a str]) -> Resu
 /// `/proc/self/fd/1`, if `pack` without a container writes to a name that ends in `.mov`,
 /// `.mp4`, `.mxf`, `.y4m` or `.ppm`, in letters of either case, if `pack` is given a codec ID, or
 /// something to say of colours, and does not write Matroska, or `check`, `show` or `framemd5` have
-/// `-` more than once, the list of `check` among them, or `check` has a list and also `--all`,
-/// `--place` or other than one file; or memory was refused. A line that clap takes names an order,
+/// `-` more than once, the list of `check` among them, `check` has a list and also `--all`,
+/// `--place` or other than one file, or `check` or `framemd5` leave out frames, and have a list or
+/// other than one file; or memory was refused. A line that clap takes names an order,
 /// and fails for want of memory and for such a conflict alone.
 ///
 /// The list of the files of `check`, `show` and `framemd5` is kept until the program ends.

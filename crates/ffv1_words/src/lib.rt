@@ -2,7 +2,8 @@
 //! The words of a command line, read as an order: what the program `ffv1` is asked for.
 //!
 //! `words` reads a line as an `Order`, by `clap`'s meaning of it. An `Order` has the paths and
-//! switches of one command, `Choice` how `pack` codes, and `ContainerChoice` what it writes.
+//! switches of one command, `Choice` how `pack` codes, `ContainerChoice` what it writes, and
+//! `FrameRange` which frames of a file are decoded.
 //! `help_topic` reads a line that asks for help on faults. The test `trials::example` of
 //! `ffv1_tests` runs this:
 //!
@@ -11,6 +12,7 @@
 //! ```
 #![tactic(auto)]
 
+mod arguments;
 mod command_line;
 mod matched;
 mod order;
@@ -18,7 +20,7 @@ mod topic;
 
 pub use command_line::{VERSION, words};
 pub use order::{
-    Choice, CodecIdChoice, CoderChoice, ColourChoice, ContainerChoice, Order, RangeChoice,
-    SitingChoice, is_hyphen,
+    Choice, CodecIdChoice, CoderChoice, ColourChoice, ContainerChoice, FrameRange, Order,
+    RangeChoice, SitingChoice, is_hyphen,
 };
 pub use topic::{Topic, help_topic};

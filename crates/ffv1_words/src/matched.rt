@@ -1,6 +1,6 @@
 //! The order that the matches of a subcommand name.
 
-ghost use Rattle.std.specs.Prelude.{◌≡◌, IfOk, IfSome, IsNone, ℕ, Bool, Some, codes};
+ghost use Rattle.std.specs.Prelude.{◌≡◌, IfOk, IfSome, IsNone, ℕ, Bool, Option, Some, codes};
 ghost use Rattle.std.specs.Option.{option_map};
 ghost use Rattle.clap.specs.Words.{all_of, found_of, first_of, rows_of};
 ghost use Rattle.ffv1_words.specs.declared.order.Choice.{Choice};
@@ -8,17 +8,18 @@ ghost use Rattle.ffv1_words.specs.declared.order.CodecIdChoice.{CodecIdChoice};
 ghost use Rattle.ffv1_words.specs.declared.order.CoderChoice.{CoderChoice};
 ghost use Rattle.ffv1_words.specs.declared.order.ColourChoice.{ColourChoice};
 ghost use Rattle.ffv1_words.specs.declared.order.ContainerChoice.{ContainerChoice};
+ghost use Rattle.ffv1_words.specs.declared.order.FrameRange.{FrameRange};
 ghost use Rattle.ffv1_words.specs.declared.order.RangeChoice.{RangeChoice};
 ghost use Rattle.ffv1_words.specs.declared.order.SitingChoice.{SitingChoice};
 ghost use Rattle.ffv1_words.specs.Order.{ArePaths, Names, NamesChoice, NamesFlag, NamesNone};
-ghost use Rattle.ffv1_words.specs.Order.{NamesColour, NamesNumber};
+ghost use Rattle.ffv1_words.specs.Order.{NamesColour, NamesCount, NamesNumber, NamesRange};
 ghost use Rattle.ffv1_words.specs.Order.{bit_number, codec_id_word, coder_number, container_word};
 ghost use Rattle.ffv1_words.specs.Order.{contexts_word, range_word, siting_word};
 ghost use Rattle.ffv1_words.specs.Order.{is_given, is_of_words, names_no_grid, names_rate};
 
 use crate::order::{
-    Choice, CodecIdChoice, CoderChoice, ColourChoice, ContainerChoice, Order, RangeChoice,
-    SitingChoice,
+    Choice, CodecIdChoice, CoderChoice, ColourChoice, ContainerChoice, FrameRange, Order,
+    RangeChoice, SitingChoice,
 };
 use clap::ArgMatches;
 use clap::parser::ValueSource;
@@ -54,6 +55,33 @@ fn number(rows: &ArgMatches<'_>, id: &str, low: u32, high: u32) -> Option<u32>
 {
     let n = rows.get_one::<u32>(id)?;
     if low <= n && n <= high { Some(n) } else { None }
+}
+
+/// The number of an option without a default, if the words give it.
+fn count(rows: &ArgMatches<'_>, id: &str, low: u32, high: u32) -> Option<Option<u32>>
+    ensures some { IfSome result (λ n.
+        NamesCount (rows_of (found_of rows.now)) id.now low high n) }
+    ensures none { IsNone result
+        → (n : Option ℕ) → NamesCount (rows_of (found_of rows.now)) id.now low high n → ⊥ }
+{
+    match path(rows, id) {
+        Some(_) => {
+            let n = number(rows, id, low, high)?;
+            Some(Some(n))
+        }
+        None => Some(None),
+    }
+}
+
+/// Which frames of a file the words give.
+fn range_of_frames(rows: &ArgMatches<'_>) -> Option<FrameRange>
+    ensures some { IfSome result (λ r. NamesRange (rows_of (found_of rows.now)) r) }
+    ensures none { IsNone result
+        → (r : FrameRange) → NamesRange (rows_of (found_of rows.now)) r → ⊥ }
+{
+    let first = number(rows, "from", 0, 4294967295)?;
+    let count = count(rows, "frames", 1, 4294967295)?;
+    Some(FrameRange { first, count })
 }
 
 fn coder(rows: &ArgMatches<'_>) -> Option<CoderChoice>
@@ -309,11 +337,13 @@ fn unpack_order<'a>(rows: &ArgMatches<'a>) -> Option<Order<'a>>
     let output = path(rows, "OUT")?;
     let no_clobber = flag(rows, "no-clobber")?;
     let progress = flag(rows, "progress")?;
+    let range = range_of_frames(rows)?;
     Some(Order::Unpack {
         input,
         output,
         no_clobber,
         progress,
+        range,
     })
 }
 
@@ -328,6 +358,7 @@ fn check_order<'a>(rows: &ArgMatches<'a>, inputs: Option<&'a [&'a str]>) -> Opti
     let place = flag(rows, "place")?;
     let quiet = flag(rows, "quiet")?;
     let progress = flag(rows, "progress")?;
+    let range = range_of_frames(rows)?;
     Some(Order::Check {
         inputs,
         all,
@@ -335,6 +366,7 @@ fn check_order<'a>(rows: &ArgMatches<'a>, inputs: Option<&'a [&'a str]>) -> Opti
         quiet,
         progress,
         against: path(rows, "against"),
+        range,
     })
 }
 
@@ -357,7 +389,8 @@ fn framemd5_order<'a>(rows: &ArgMatches<'a>, inputs: Option<&'a [&'a str]>) -> O
         NamesNone (Some (codes "framemd5", rows_of (found_of rows.now))) }
 {
     let inputs = inputs?;
-    Some(Order::FrameMd5 { inputs })
+    let range = range_of_frames(rows)?;
+    Some(Order::FrameMd5 { inputs, range })
 }
 
 fn trial_order<'a>(rows: &ArgMatches<'a>) -> Option<Order<'a>>

@@ -1,10 +1,11 @@
 //! What a command line asks for, and which files of it are in conflict.
 
-ghost use Rattle.std.specs.Prelude.{◌≡◌, ◌||◌, is_some, map};
+ghost use Rattle.std.specs.Prelude.{◌≡◌, ◌&&◌, ◌||◌, ◌==◌, None, is_some, length, map, not};
 ghost use Rattle.ffv1_words.specs.Order.{are_in_conflict, has_ending, is_another_name, is_conflict};
 ghost use Rattle.ffv1_words.specs.Order.{is_hyphen, is_in_conflict, is_matroska, is_matroska_name};
-ghost use Rattle.ffv1_words.specs.Order.{is_list_in_conflict, is_misnamed, is_standard_output};
-ghost use Rattle.ffv1_words.specs.Order.{lacks_codec_id, lacks_colour, opposes_list, says_colour};
+ghost use Rattle.ffv1_words.specs.Order.{is_list_in_conflict, is_misnamed, is_range_in_conflict};
+ghost use Rattle.ffv1_words.specs.Order.{is_standard_output, lacks_codec_id, lacks_colour};
+ghost use Rattle.ffv1_words.specs.Order.{leaves_out, opposes_list, says_colour};
 
 /// Which state transition table `pack` codes with.
 #[derive(Clone, Copy, Debug, PartialEq, Eq)]
@@ -138,6 +139,30 @@ impl Choice {
     }
 }
 
+/// Frames of a file that come one after the other.
+#[derive(Clone, Copy, Debug, PartialEq, Eq)]
+pub struct FrameRange {
+    /// The number of the first of them. That of the first frame of a file is 0.
+    pub first: u32,
+    /// How many they are at most, at least 1: all that come, if there is no number.
+    pub count: Option<u32>,
+}
+
+impl FrameRange {
+    /// All frames of a file.
+    pub const ALL: FrameRange = FrameRange {
+        first: 0,
+        count: None,
+    };
+
+    /// Whether it may leave out frames of a file.
+    fn leaves_out(self) -> bool
+        ensures { result ≡ leaves_out self }
+    {
+        self.first != 0 || self.count.is_some()
+    }
+}
+
 /// What a command line asks for.
 #[derive(Clone, Copy, Debug, PartialEq, Eq)]
 pub enum Order<'a> {
@@ -166,6 +191,8 @@ pub enum Order<'a> {
         no_clobber: bool,
         /// Whether to say how much of the file is read.
         progress: bool,
+        /// The frames that are decoded.
+        range: FrameRange,
     },
     /// Decodes the video of each file, and prints what its frames hold.
     Check {
@@ -181,6 +208,8 @@ pub enum Order<'a> {
         progress: bool,
         /// The path of a list of MD5s, if the frames of the file are compared with one.
         against: Option<&'a str>,
+        /// The frames that are decoded: of one file, if they are not all.
+        range: FrameRange,
     },
     /// Prints the configuration of each file.
     Show {
@@ -193,6 +222,8 @@ pub enum Order<'a> {
     FrameMd5 {
         /// The paths of the files, or of texts of pictures.
         inputs: &'a [&'a str],
+        /// The frames that are decoded: of one file, and of no text, if they are not all.
+        range: FrameRange,
     },
     /// Codes a mono picture of YUV4MPEG2, and decodes it again.
     Trial {
@@ -327,6 +358,23 @@ fn has_hyphens(paths: &[&str]) -> bool
     false
 }
 
+/// Why some frames of these files are not to be decoded, if they are not: more than one is
+/// named, or a list of the MD5s of all.
+fn range_conflict(range: FrameRange, against: bool, inputs: &[&str]) -> Option<&'static str>
+    ensures { is_some result ≡ (leaves_out range && (against || not (length inputs.now == 1))) }
+{
+    if !range.leaves_out() {
+        return None;
+    }
+    if against {
+        return Some("--against has the MD5s of all frames: without --from and --frames");
+    }
+    if inputs.len() != 1 {
+        return Some("--from and --frames are of one IN");
+    }
+    None
+}
+
 /// Why a list of MD5s does not go with these files, or with options, if it does not.
 fn list_conflict(list: &str, all: bool, place: bool, inputs: &[&str]) -> Option<&'static str>
     ensures { is_some result ≡ opposes_list list.now all place (map (λ p. p.now) inputs.now) }
@@ -348,17 +396,32 @@ fn check_conflict(
     all: bool,
     place: bool,
     against: Option<&str>,
+    range: FrameRange,
 ) -> Option<&'static str>
     ensures { is_some result ≡ (are_in_conflict (map (λ p. p.now) inputs.now)
-        || is_list_in_conflict against.entry all place (map (λ p. p.now) inputs.now)) }
+        || (is_range_in_conflict range against.entry (map (λ p. p.now) inputs.now)
+        || is_list_in_conflict against.entry all place (map (λ p. p.now) inputs.now))) }
 {
     if has_hyphens(inputs) {
         return Some(READ_ONCE);
+    }
+    if let Some(why) = range_conflict(range, against.is_some(), inputs) {
+        return Some(why);
     }
     match against {
         Some(list) => list_conflict(list, all, place, inputs),
         None => None,
     }
+}
+
+fn framemd5_conflict(inputs: &[&str], range: FrameRange) -> Option<&'static str>
+    ensures { is_some result ≡ (are_in_conflict (map (λ p. p.now) inputs.now)
+        || is_range_in_conflict range None (map (λ p. p.now) inputs.now)) }
+{
+    if has_hyphens(inputs) {
+        return Some(READ_ONCE);
+    }
+    range_conflict(range, false, inputs)
 }
 
 impl<'a> Order<'a> {
@@ -380,9 +443,11 @@ impl<'a> Order<'a> {
                 all,
                 place,
                 against,
+                range,
                 ..
-            } => check_conflict(inputs, all, place, against),
-            Order::Show { inputs, .. } | Order::FrameMd5 { inputs } => {
+            } => check_conflict(inputs, all, place, against, range),
+            Order::FrameMd5 { inputs, range } => framemd5_conflict(inputs, range),
+            Order::Show { inputs, .. } => {
                 if has_hyphens(inputs) {
                     return Some(READ_ONCE);
                 }
