@@ -10,10 +10,10 @@ use Rattle.ffv1_video.specs.Md5Text.{next_md5}
 use Rattle.ffv1_video.specs.RawPicture.{raw_bytes}
 
 module _ (rct : Bool) (depth : ℕ) where
-  abbrev line : ℕ → Planes → List ℕ
+  abbrev pub line : ℕ → Planes → List ℕ
   line i p = md5_line i (raw_bytes rct depth p)
 
-  lines_more : (i : ℕ) (ps : List Planes) (p : Planes) → md5_lines rct depth i (ps ++ (p ∷ [])) ≡ md5_lines rct depth i ps ++ line (i + length ps) p
+  pub lines_more : (i : ℕ) (ps : List Planes) (p : Planes) → md5_lines rct depth i (ps ++ (p ∷ [])) ≡ md5_lines rct depth i ps ++ line (i + length ps) p
   lines_more i [] p =
       let same : i ≡ i + 0 = omega arith in
       append-nil (line i p) ∙ ap (λ n. line n p) same
@@ -24,7 +24,7 @@ module _ (rct : Bool) (depth : ℕ) where
       ∙ ap (λ n. (line i q ++ md5_lines rct depth (suc i) qs) ++ line n p) same
 
   -- a count says the same of a line as its number
-  counted_line : (number n : ℕ) (p : Planes) → number ≡ saturated n → line n p ≡ line number p
+  pub counted_line : (number n : ℕ) (p : Planes) → number ≡ saturated n → line n p ≡ line number p
   counted_line number n p is =
       let bytes = raw_bytes rct depth p in
       let twice : saturated n ≡ saturated number = omega (arith, is) in

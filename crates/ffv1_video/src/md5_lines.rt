@@ -5,9 +5,9 @@ ghost use Rattle.ffv1_range.specs.Counts.{saturated};
 ghost use Rattle.ffv1_codec.specs.Picture.{planes_of};
 ghost use Rattle.ffv1_matroska.specs.Rates.{common_up_to};
 ghost use Rattle.ffv1_video.specs.Md5Text.{aspect_of, field, line_of, md5_head};
-ghost use Rattle.ffv1_video.specs.Md5Text.{next_md5};
+ghost use Rattle.ffv1_video.specs.Md5Text.{md5_line, next_md5};
 ghost use Rattle.ffv1_video.specs.Md5Text.{small_digit, small_hexadecimal, time_base};
-ghost use Rattle.ffv1_video.specs.RawPicture.{AreEven};
+ghost use Rattle.ffv1_video.specs.RawPicture.{AreEven, raw_bytes};
 
 use crate::number_lines::push_pair;
 use crate::picture_md5::picture_md5;
@@ -123,7 +123,7 @@ fn aspect(num: u16, den: u16) -> (u32, u32)
 
 /// The lines before those of the pictures, in place of what the text has.
 #[tactic(auto, unfolding(crate::specs::Md5Text::md5_head))]
-fn put_head<A: Allocator>(text: &mut Vec<u8, A>, head: &VideoHead) -> Result<(), AllocError>
+pub fn put_head<A: Allocator>(text: &mut Vec<u8, A>, head: &VideoHead) -> Result<(), AllocError>
     ensures { OnOk result (text.new.items ≡ md5_head head.now) }
 {
     let (scale, rate) = time_base(head.rate, head.scale);
@@ -138,6 +138,22 @@ fn put_head<A: Allocator>(text: &mut Vec<u8, A>, head: &VideoHead) -> Result<(),
     push_pair(text, b"#sar 0: ", num, b"/", den)?;
     text.extend_from_slice(b"#stream#, dts,        pts, duration,     size, hash\n")?;
     Ok(())
+}
+
+/// Appends the line of the picture with this number, which has these planes.
+pub fn push_picture<A: Allocator>(
+    text: &mut Vec<u8, A>,
+    number: u64,
+    rct: bool,
+    depth: u32,
+    planes: &[Vec<u8, A>],
+) -> Result<(), AllocError>
+    requires { rct ≡ true → AreEven (planes_of planes.now) }
+    ensures { OnOk result (text.new.items
+        ≡ text.old.items ++ md5_line number (raw_bytes rct depth (planes_of planes.now))) }
+{
+    let (size, hash) = picture_md5(rct, depth, planes);
+    push_line(text, number, size, &hash)
 }
 
 /// The line of the picture with this number, and before the first one the head, in place of what
@@ -158,7 +174,6 @@ pub fn put_picture<A: Allocator>(
     if number == 0 {
         put_head(text, head)?;
     }
-    let (size, hash) = picture_md5(rct, depth, planes);
-    push_line(text, number, size, &hash)?;
+    push_picture(text, number, rct, depth, planes)?;
     Ok(())
 }
