@@ -11,6 +11,7 @@ mod KeptSeries
 mod KeptPlanes
 mod SegmentLooked
 mod ColumnsOpen
+mod RowGoesOn
 mod RunsInRow
 mod Ranges
 mod PlanesReads

@@ -4,8 +4,10 @@ pub mod Finished
 pub mod Opened
 pub mod Places
 pub mod Progress
+pub mod RowParts
 pub mod Rows
 pub mod Shared
 pub mod Stands
+pub mod Steps
 pub mod Tallies
 pub mod Tied

@@ -1,29 +1,24 @@
 //! Decodes a row of slices.
 
-ghost use Rattle.std.specs.Prelude.{◌≡◌, ℕ, ◌+◌, ◌-◌, ◌*◌, ◌≤◌, ◌<◌, List, None, IsSome};
+ghost use Rattle.std.specs.Prelude.{◌≡◌, ℕ, ◌+◌, ◌*◌, ◌<◌, List, None, IsSome};
 ghost use Rattle.std.specs.Prelude.{MatchResult, OnOk, length};
-ghost use Rattle.std.specs.List.{range_with_len};
-ghost use Rattle.ffv1_range.specs.Symbols.{AllHeld};
 ghost use Rattle.ffv1_wire.specs.Runs.{Grows};
-ghost use Rattle.ffv1_slice.specs.Grid.{division_of, down, shared_of};
-ghost use Rattle.ffv1_frame.specs.Picture.{plane_count, width_bytes};
+ghost use Rattle.ffv1_frame.specs.Picture.{width_bytes};
 ghost use Rattle.ffv1_frame.specs.SliceList.{bits_of};
-ghost use Rattle.ffv1_frame.specs.Order.{lines_down, line_events, series_events};
 ghost use Rattle.ffv1_frame.specs.Decoding.{State};
-ghost use Rattle.ffv1_decode.specs.Internal.Tied.{IsFrame, AreOpen, column_at, line_length};
-ghost use Rattle.ffv1_decode.specs.Internal.Tied.{TiedColumns, TiedPlanes, row_slices};
-ghost use Rattle.ffv1_decode.specs.Internal.Tied.{output_length, rolling_lines, row_slots};
-ghost use Rattle.ffv1_decode.specs.Internal.Tied.{IsKept, TiedKept, plane_group};
+ghost use Rattle.ffv1_decode.specs.Internal.Tied.{IsFrame, IsKept, column_at, row_slots};
+ghost use Rattle.ffv1_decode.specs.Internal.Tied.{output_length, rolling_lines, plane_group};
 ghost use Rattle.ffv1_decode.specs.Internal.Opened.{IsCutOf, coded_by};
 ghost use Rattle.ffv1_decode.specs.Internal.Buffers.{HoldBits, KeepsSlices, KeepsLengths};
 ghost use Rattle.ffv1_decode.specs.Internal.Buffers.{capacity_of_lines, length_of_lines};
 ghost use Rattle.ffv1_decode.specs.Internal.Buffers.{samples_of_lines};
-ghost use Rattle.ffv1_decode.specs.Internal.Shared.{AreAbove, KeepsChroma, KeepsLine, kept_in};
-ghost use Rattle.ffv1_decode.specs.Internal.Finished.{IsTogether};
-ghost use Rattle.ffv1_decode.specs.Internal.Progress.{FailsIn, LineDecoded, SeriesKept};
+ghost use Rattle.ffv1_decode.specs.Internal.Shared.{AreAbove, KeepsLine, kept_in};
+ghost use Rattle.ffv1_decode.specs.Internal.Progress.{FailsIn};
 ghost use Rattle.ffv1_decode.specs.OwnFaults.{CountsSink};
-ghost use Rattle.ffv1_decode.specs.Internal.Progress.{DecodesPlanes, series_at};
 ghost use Rattle.ffv1_decode.specs.Internal.Rows.{IsBetween, RowDecoded, open_events};
+ghost use Rattle.ffv1_decode.specs.Internal.RowParts.{IsRow, ArePlanes, IsLine, AreLong, HasLines};
+ghost use Rattle.ffv1_decode.specs.Internal.RowParts.{slices_of};
+ghost use Rattle.ffv1_decode.specs.Internal.Steps.{DecodesLine, DecodesSeries, DecodesPlanes};
 
 use crate::buffers::{Buffers, Lines, Slices};
 use crate::finish::FinishedWord;
@@ -53,61 +48,23 @@ fn decode_whole_line<W: FinishedWord, A: Allocator, S: LineSink>(
     out: &mut [u8],
     sink: &mut S,
 ) -> Result<(), FrameFault>
-    requires frame { IsFrame frame.now }
+    requires row { IsRow frame.now line.now.row (slices_of slices.old) }
     requires bits { W.holds (bits_of frame.now.checked.now.configuration) }
-    requires row { line.now.row < frame.now.checked.now.configuration.rows }
-    requires together { IsTogether frame.now.checked.now.configuration line.now.first
-        line.now.count }
-    requires planes { line.now.first + line.now.count
-        ≤ plane_count frame.now.checked.now.configuration }
-    requires some { 0 < line.now.count }
-    requires few { line.now.first + line.now.count ≤ 4 }
-    requires shared { line.now.shared ≡ shared_of
-        (down (division_of frame.now.checked.now.configuration) line.now.first) line.now.row }
-    requires y { (i : ℕ) → i < line.now.count →
-        line.now.y < lines_down frame.now.checked.now.configuration (line.now.first + i)
-        line.now.row }
-    requires height { (i : ℕ) → i < line.now.count →
-        line.now.height ≡ lines_down frame.now.checked.now.configuration (line.now.first + i)
-        line.now.row }
-    requires many { length slices.old.columns.items ≡ frame.now.checked.now.configuration.columns }
-    requires open { AreOpen frame.now.payload.now frame.now.checked.now.configuration.sets
-        slices.old.columns.items }
-    requires two_long { length above.now.two.now ≡ line.now.count
-        * frame.now.checked.now.configuration.width }
-    requires one_long { length above.now.one.now ≡ line.now.count
-        * frame.now.checked.now.configuration.width }
+    requires line { IsLine frame.now.checked.now.configuration line.now }
+    requires long { AreLong (λ n. n ≡ line.now.count * frame.now.checked.now.configuration.width)
+        (length above.now.two.now) (length above.now.one.now) (length cur.old) }
     requires kept { (i : ℕ) → i < line.now.count →
         IsKept frame.now.checked.now.configuration line.now.row (line.now.first + i) line.now.y
         (length above.now.kept.now) }
-    requires cur_long { length cur.old ≡ line.now.count
-        * frame.now.checked.now.configuration.width }
     requires out_long { length out.old ≡ line.now.count
         * width_bytes frame.now.checked.now.configuration }
-    requires room { length slices.old.states.items ≡ row_slots frame.now.checked.now.configuration }
-    requires held { AllHeld frame.now.checked.now.table slices.old.states.items }
-    ensures exact { (coded : ℕ → List ℕ) (next : ℕ) (initial : S) (s : State) →
-        let a = frame.now.checked.now in
-        line.now.first + line.now.count ≤ next →
-        TiedColumns a coded line.now.row next frame.now.payload.now
-        (row_slices slices.old.columns.items slices.old.states.items) s →
-        TiedPlanes a.configuration (plane_group line.now.first line.now.count) 0 0 line.now.y
+    ensures exact { DecodesLine frame.now.checked.now frame.now.payload.now S.takes S.refuses
+        line.now (slices_of slices.old) (slices_of slices.new)
         (rolling_lines (W.samples above.now.two.now) (W.samples above.now.one.now)
-        (W.samples cur.old)) s →
-        ((i : ℕ) → i < line.now.count → TiedKept a.configuration line.now.row
-        (line.now.first + i) line.now.y (W.samples above.now.kept.now) s) →
-        Grows S.takes initial s.lines sink.old →
-        MatchResult result
-        (λ _. LineDecoded S.takes S.refuses a coded initial line.now.row next frame.now.payload.now
-        line.now.first line.now.count line.now.y slices.new.columns.items slices.new.states.items
-        (W.samples above.now.one.now) (W.samples cur.new) sink.new s)
-        (λ f. FailsIn S.takes S.refuses a coded initial line.now.row slices.new.columns.items
-        (line_events a.configuration line.now.row (range_with_len line.now.first line.now.count)
-        line.now.y) f sink.new s) }
+        (W.samples cur.old)) (W.samples above.now.kept.now) (W.samples cur.new) sink.old sink.new
+        result }
     ensures counted { CountsSink (S.failures sink.old) (S.failures sink.new) result }
-    ensures open { OnOk result (AreOpen frame.now.payload.now
-        frame.now.checked.now.configuration.sets slices.new.columns.items) }
-    ensures held { OnOk result (AllHeld frame.now.checked.now.table slices.new.states.items) }
+    ensures row { OnOk result (IsRow frame.now line.now.row (slices_of slices.new)) }
     ensures same { KeepsSlices slices.old slices.new }
 {
     places::slices_lie_beside_one_another();
@@ -138,19 +95,10 @@ fn decode_series<W: FinishedWord, A: Allocator, S: LineSink>(
     out: &mut [u8],
     sink: &mut S,
 ) -> Result<(), FrameFault>
-    requires frame { IsFrame planes.now.frame.now }
+    requires row { IsRow planes.now.frame.now planes.now.row (slices_of slices.old) }
     requires bits { W.holds (bits_of planes.now.frame.now.checked.now.configuration) }
-    requires row { planes.now.row < planes.now.frame.now.checked.now.configuration.rows }
-    requires together { IsTogether planes.now.frame.now.checked.now.configuration planes.now.first
+    requires planes { ArePlanes planes.now.frame.now.checked.now.configuration planes.now.first
         planes.now.count }
-    requires planes { planes.now.first + planes.now.count ≤ plane_count
-        planes.now.frame.now.checked.now.configuration }
-    requires some { 0 < planes.now.count }
-    requires few { planes.now.first + planes.now.count ≤ 4 }
-    requires many { length slices.old.columns.items
-        ≡ planes.now.frame.now.checked.now.configuration.columns }
-    requires open { AreOpen planes.now.frame.now.payload.now
-        planes.now.frame.now.checked.now.configuration.sets slices.old.columns.items }
     requires lines_long { length lines.old ≡ 3 * (planes.now.count *
         planes.now.frame.now.checked.now.configuration.width) }
     requires kept { (i : ℕ) → i < planes.now.count →
@@ -158,29 +106,13 @@ fn decode_series<W: FinishedWord, A: Allocator, S: LineSink>(
         (length kept.old) }
     requires out_long { length out.old ≡ planes.now.count *
         width_bytes planes.now.frame.now.checked.now.configuration }
-    requires room { length slices.old.states.items
-        ≡ row_slots planes.now.frame.now.checked.now.configuration }
-    requires held { AllHeld planes.now.frame.now.checked.now.table slices.old.states.items }
-    ensures exact { (coded : ℕ → List ℕ) (initial : S) (s : State) →
-        let a = planes.now.frame.now.checked.now in
-        TiedColumns a coded planes.now.row planes.now.first planes.now.frame.now.payload.now
-        (row_slices slices.old.columns.items slices.old.states.items) s →
-        ((i y : ℕ) → i < planes.now.count → TiedKept a.configuration planes.now.row
-        (planes.now.first + i) y (W.samples kept.old) s) →
-        Grows S.takes initial s.lines sink.old →
-        MatchResult result
-        (λ _. SeriesKept S.takes S.refuses a coded initial planes.now.row
-        planes.now.frame.now.payload.now planes.now.first planes.now.count
-        slices.new.columns.items slices.new.states.items (W.samples kept.new) sink.new s)
-        (λ f. FailsIn S.takes S.refuses a coded initial planes.now.row slices.new.columns.items
-        (series_events a.configuration planes.now.row (series_at a.configuration planes.now.row
-        planes.now.first planes.now.count)) f sink.new
-        s) }
+    ensures exact { DecodesSeries planes.now.frame.now.checked.now
+        planes.now.frame.now.payload.now S.takes S.refuses planes.now.row
+        (plane_group planes.now.first planes.now.count) (slices_of slices.old)
+        (slices_of slices.new) (W.samples kept.old) (W.samples kept.new) sink.old sink.new
+        result }
     ensures counted { CountsSink (S.failures sink.old) (S.failures sink.new) result }
-    ensures open { OnOk result (AreOpen planes.now.frame.now.payload.now
-        planes.now.frame.now.checked.now.configuration.sets slices.new.columns.items) }
-    ensures held { OnOk result (AllHeld planes.now.frame.now.checked.now.table
-        slices.new.states.items) }
+    ensures row { OnOk result (IsRow planes.now.frame.now planes.now.row (slices_of slices.new)) }
     ensures same { KeepsSlices slices.old slices.new }
 {
     places::slices_lie_beside_one_another();
@@ -234,21 +166,12 @@ fn decode_planes<W: FinishedWord, A: Allocator, S: LineSink>(
     out: &mut [u8],
     sink: &mut S,
 ) -> Result<(), FrameFault>
-    requires frame { IsFrame frame.now }
+    requires row { IsRow frame.now row (slices_of slices.old) }
     requires bits { W.holds (bits_of frame.now.checked.now.configuration) }
-    requires row { row < frame.now.checked.now.configuration.rows }
-    requires many { length slices.old.columns.items ≡ frame.now.checked.now.configuration.columns }
-    requires open { AreOpen frame.now.payload.now frame.now.checked.now.configuration.sets
-        slices.old.columns.items }
-    requires lines_long { 3 * line_length frame.now.checked.now.configuration ≤ length lines.old }
-    requires kept { KeepsChroma frame.now.checked.now.configuration
-        (length lines.old - 3 * line_length frame.now.checked.now.configuration) }
+    requires lines { HasLines frame.now.checked.now.configuration (length lines.old) }
     requires out_long { length out.old ≡ output_length frame.now.checked.now.configuration }
-    requires room { length slices.old.states.items ≡ row_slots frame.now.checked.now.configuration }
-    requires held { AllHeld frame.now.checked.now.table slices.old.states.items }
-    ensures exact { DecodesPlanes S.takes S.refuses frame.now.checked.now row frame.now.payload.now
-        (row_slices slices.old.columns.items slices.old.states.items)
-        (row_slices slices.new.columns.items slices.new.states.items)
+    ensures exact { DecodesPlanes frame.now.checked.now frame.now.payload.now S.takes S.refuses
+        row (slices_of slices.old) (slices_of slices.new)
         (kept_in frame.now.checked.now.configuration (W.samples lines.old))
         (kept_in frame.now.checked.now.configuration (W.samples lines.new)) sink.old sink.new
         result }
@@ -297,22 +220,12 @@ fn decode_lines<A: Allocator, S: LineSink>(
     out: &mut [u8],
     sink: &mut S,
 ) -> Result<(), FrameFault>
-    requires frame { IsFrame frame.now }
+    requires row { IsRow frame.now row (slices_of slices.old) }
     requires bits { HoldBits lines.old (bits_of frame.now.checked.now.configuration) }
-    requires row { row < frame.now.checked.now.configuration.rows }
-    requires many { length slices.old.columns.items ≡ frame.now.checked.now.configuration.columns }
-    requires open { AreOpen frame.now.payload.now frame.now.checked.now.configuration.sets
-        slices.old.columns.items }
-    requires lines_long { 3 * line_length frame.now.checked.now.configuration
-        ≤ length_of_lines lines.old }
-    requires kept { KeepsChroma frame.now.checked.now.configuration
-        (length_of_lines lines.old - 3 * line_length frame.now.checked.now.configuration) }
+    requires lines { HasLines frame.now.checked.now.configuration (length_of_lines lines.old) }
     requires out_long { length out.old ≡ output_length frame.now.checked.now.configuration }
-    requires room { length slices.old.states.items ≡ row_slots frame.now.checked.now.configuration }
-    requires held { AllHeld frame.now.checked.now.table slices.old.states.items }
-    ensures exact { DecodesPlanes S.takes S.refuses frame.now.checked.now row frame.now.payload.now
-        (row_slices slices.old.columns.items slices.old.states.items)
-        (row_slices slices.new.columns.items slices.new.states.items)
+    ensures exact { DecodesPlanes frame.now.checked.now frame.now.payload.now S.takes S.refuses
+        row (slices_of slices.old) (slices_of slices.new)
         (kept_in frame.now.checked.now.configuration (samples_of_lines lines.old))
         (kept_in frame.now.checked.now.configuration (samples_of_lines lines.new)) sink.old
         sink.new result }
@@ -345,10 +258,8 @@ pub(crate) fn decode_row<A: Allocator, B: Allocator, S: LineSink>(
     requires closed { (k : ℕ) → k < length buffers.old.slices.columns.items → (column_at
         buffers.old.slices.columns.items k).parked ≡ None }
     requires bits { HoldBits buffers.old.lines (bits_of frame.now.checked.now.configuration) }
-    requires lines_long { 3 * line_length frame.now.checked.now.configuration
-        ≤ length_of_lines buffers.old.lines }
-    requires kept { KeepsChroma frame.now.checked.now.configuration
-        (length_of_lines buffers.old.lines - 3 * line_length frame.now.checked.now.configuration) }
+    requires lines { HasLines frame.now.checked.now.configuration
+        (length_of_lines buffers.old.lines) }
     requires out_long { length buffers.old.out.items
         ≡ output_length frame.now.checked.now.configuration }
     requires room { length buffers.old.slices.states.items ≡

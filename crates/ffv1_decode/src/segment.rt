@@ -1,25 +1,21 @@
 //! Reads the segment of a line that lies in one slice.
 
-ghost use Rattle.std.specs.Prelude.{◌≡◌, ℕ, ◌+◌, ◌-◌, ◌*◌, ◌^◌, ◌≤◌, ◌<◌, ◌⊎◌, List, IsSome, OnOk};
-ghost use Rattle.std.specs.Prelude.{IfErr, MatchResult, length, slice_index, take, [], ◌∷◌};
+ghost use Rattle.std.specs.Prelude.{◌≡◌, ℕ, ◌+◌, ◌*◌, ◌^◌, ◌≤◌, ◌<◌, List, IsSome, OnOk};
+ghost use Rattle.std.specs.Prelude.{IfErr, MatchResult, length, slice_index, take};
 ghost use Rattle.ffv1_range.specs.Symbols.{AllHeld, Step};
 ghost use Rattle.ffv1_plane.specs.Quantisation.{contexts_of};
 ghost use Rattle.ffv1_line.specs.Cell.{Rolls};
+ghost use Rattle.ffv1_line.specs.Coding.{coding_by};
 ghost use Rattle.ffv1_frame.specs.Picture.{plane_count};
 ghost use Rattle.ffv1_frame.specs.SliceList.{class_of, base_of, bits_of, set_at};
-ghost use Rattle.ffv1_decode.specs.OwnFaults.{IsOwn};
 ghost use Rattle.ffv1_frame.specs.Order.{lines_down};
-ghost use Rattle.ffv1_frame.specs.Order.Event.{Read};
-ghost use Rattle.ffv1_frame.specs.Decoding.{State, fault_in, left_of, width_in, slice_number};
+ghost use Rattle.ffv1_frame.specs.Decoding.{fault_in, left_of, width_in};
+ghost use Rattle.ffv1_decode.specs.OwnFaults.{IsOwn};
 ghost use Rattle.ffv1_decode.specs.Internal.Stands.{Stands, SegmentRead, SegmentRefused};
-ghost use Rattle.ffv1_frame.specs.Windows.{window};
-ghost use Rattle.ffv1_decode.specs.Internal.Tied.{KeepsBeside, IsFrame, IsOpen, AreOpen, bytes_in};
-ghost use Rattle.ffv1_decode.specs.Internal.Tied.{IsKept, TiedKept};
-ghost use Rattle.ffv1_decode.specs.Internal.Tied.{HasPlane, row_slots, slots_in};
-ghost use Rattle.ffv1_decode.specs.Internal.Tied.{TiedColumns, TiedLine, SegmentMade};
-ghost use Rattle.ffv1_decode.specs.Internal.Tied.{StepMade, Stopped, overread_in, row_slices};
-ghost use Rattle.ffv1_decode.specs.Internal.Tied.{rolling_lines};
-ghost use Rattle.ffv1_line.specs.Coding.{coding_by};
+ghost use Rattle.ffv1_decode.specs.Internal.Tied.{KeepsBeside, IsFrame, IsOpen, IsKept, HasPlane};
+ghost use Rattle.ffv1_decode.specs.Internal.Tied.{bytes_in, slots_in, row_slices, rolling_lines};
+ghost use Rattle.ffv1_decode.specs.Internal.RowParts.{IsRow, IsSegment, AreLong};
+ghost use Rattle.ffv1_decode.specs.Internal.Steps.{ReadsSegment, StepsSegment};
 
 use crate::column::Column;
 use crate::ending::lacks_ending;
@@ -207,47 +203,20 @@ fn read_on<W: LineWord, A: Allocator>(
     above: &Above<'_, W>,
     cur: &mut [W],
 ) -> Result<(), FrameFault>
-    requires frame { IsFrame frame.now }
+    requires row { IsRow frame.now segment.now.row (row_slices columns.old states.old) }
     requires bits { W.holds (bits_of frame.now.checked.now.configuration) }
-    requires row { segment.now.row < frame.now.checked.now.configuration.rows }
-    requires column { segment.now.column < frame.now.checked.now.configuration.columns }
-    requires plane { segment.now.plane < plane_count frame.now.checked.now.configuration }
-    requires few { segment.now.index < 4 }
-    requires y { segment.now.y < lines_down frame.now.checked.now.configuration
-        segment.now.plane segment.now.row }
-    requires many { length columns.old ≡ frame.now.checked.now.configuration.columns }
-    requires open { AreOpen frame.now.payload.now frame.now.checked.now.configuration.sets
-        columns.old }
-    requires two_long { HasPlane frame.now.checked.now.configuration segment.now.index
-        (length above.now.two.now) }
-    requires one_long { HasPlane frame.now.checked.now.configuration segment.now.index
-        (length above.now.one.now) }
-    requires cur_long { HasPlane frame.now.checked.now.configuration segment.now.index
-        (length cur.old) }
-    requires room { length states.old ≡ row_slots frame.now.checked.now.configuration }
-    requires held { AllHeld frame.now.checked.now.table states.old }
-    ensures exact { (coded : ℕ → List ℕ) (next : ℕ) (s : State) →
-        let a = frame.now.checked.now in
-        let offset = segment.now.index * a.configuration.width in
-        segment.now.plane < next →
-        TiedColumns a coded segment.now.row next frame.now.payload.now
-        (row_slices columns.old states.old) s →
-        TiedLine a.configuration segment.now.plane offset segment.now.column segment.now.y
+    requires segment { IsSegment frame.now.checked.now.configuration segment.now }
+    requires long { AreLong (HasPlane frame.now.checked.now.configuration segment.now.index)
+        (length above.now.two.now) (length above.now.one.now) (length cur.old) }
+    ensures exact { ReadsSegment frame.now.checked.now frame.now.payload.now segment.now
+        (row_slices columns.old states.old) (row_slices columns.new states.new)
         (rolling_lines (W.samples above.now.two.now) (W.samples above.now.one.now)
-        (W.samples cur.old)) s →
-        MatchResult result
-        (λ _. SegmentMade a coded segment.now.row next frame.now.payload.now segment.now.plane
-        offset segment.now.y segment.now.column columns.new states.new
-        (W.samples above.now.two.now) (W.samples above.now.one.now) (W.samples cur.new) s)
-        (λ f. Stopped a coded columns.new
-        (Read segment.now.row segment.now.column segment.now.plane segment.now.y ∷ []) f s) }
+        (W.samples cur.old)) (W.samples cur.new) result }
     ensures beside { KeepsBeside
         (segment.now.index * frame.now.checked.now.configuration.width)
         frame.now.checked.now.configuration.width (W.samples cur.old) (W.samples cur.new) }
     ensures own { IfErr result IsOwn }
-    ensures open { AreOpen frame.now.payload.now frame.now.checked.now.configuration.sets
-        columns.new }
-    ensures held { AllHeld frame.now.checked.now.table states.new }
+    ensures row { IsRow frame.now segment.now.row (row_slices columns.new states.new) }
 {
     record_laws::accepted_configuration_is_in_range();
     record_laws::accepted_configuration_has_sound_parts();
@@ -285,53 +254,22 @@ pub(crate) fn read_at<W: LineWord, A: Allocator>(
     above: &LinesAbove<'_, W>,
     cur: &mut [W],
 ) -> Result<(), FrameFault>
-    requires frame { IsFrame frame.now }
+    requires row { IsRow frame.now segment.now.row (row_slices columns.old states.old) }
     requires bits { W.holds (bits_of frame.now.checked.now.configuration) }
-    requires row { segment.now.row < frame.now.checked.now.configuration.rows }
-    requires column { segment.now.column < frame.now.checked.now.configuration.columns }
-    requires plane { segment.now.plane < plane_count frame.now.checked.now.configuration }
-    requires few { segment.now.index < 4 }
-    requires y { segment.now.y < lines_down frame.now.checked.now.configuration
-        segment.now.plane segment.now.row }
-    requires height { segment.now.height ≡ lines_down frame.now.checked.now.configuration
-        segment.now.plane segment.now.row }
-    requires many { length columns.old ≡ frame.now.checked.now.configuration.columns }
-    requires open { AreOpen frame.now.payload.now frame.now.checked.now.configuration.sets
-        columns.old }
-    requires two_long { HasPlane frame.now.checked.now.configuration segment.now.index
-        (length above.now.two.now) }
-    requires one_long { HasPlane frame.now.checked.now.configuration segment.now.index
-        (length above.now.one.now) }
-    requires cur_long { HasPlane frame.now.checked.now.configuration segment.now.index
-        (length cur.old) }
+    requires segment { IsSegment frame.now.checked.now.configuration segment.now }
+    requires long { AreLong (HasPlane frame.now.checked.now.configuration segment.now.index)
+        (length above.now.two.now) (length above.now.one.now) (length cur.old) }
     requires kept { IsKept frame.now.checked.now.configuration segment.now.row
         segment.now.plane segment.now.y (length above.now.kept.now) }
-    requires room { length states.old ≡ row_slots frame.now.checked.now.configuration }
-    requires held { AllHeld frame.now.checked.now.table states.old }
-    ensures exact { (coded : ℕ → List ℕ) (next : ℕ) (s : State) →
-        let a = frame.now.checked.now in
-        let offset = segment.now.index * a.configuration.width in
-        segment.now.plane < next →
-        TiedColumns a coded segment.now.row next frame.now.payload.now
-        (row_slices columns.old states.old) s →
-        TiedLine a.configuration segment.now.plane offset segment.now.column segment.now.y
+    ensures exact { StepsSegment frame.now.checked.now frame.now.payload.now segment.now
+        (row_slices columns.old states.old) (row_slices columns.new states.new)
         (rolling_lines (W.samples above.now.two.now) (W.samples above.now.one.now)
-        (W.samples cur.old)) s →
-        TiedKept a.configuration segment.now.row segment.now.plane segment.now.y
-        (W.samples above.now.kept.now) s →
-        MatchResult result
-        (λ _. StepMade a coded segment.now.row next frame.now.payload.now segment.now.plane offset
-        segment.now.y segment.now.column columns.new states.new (W.samples above.now.two.now)
-        (W.samples above.now.one.now) (W.samples cur.new) s)
-        (λ f. Stopped a coded columns.new
-        (Read segment.now.row segment.now.column segment.now.plane segment.now.y ∷ []) f s) }
+        (W.samples cur.old)) (W.samples above.now.kept.now) (W.samples cur.new) result }
     ensures beside { KeepsBeside
         (segment.now.index * frame.now.checked.now.configuration.width)
         frame.now.checked.now.configuration.width (W.samples cur.old) (W.samples cur.new) }
     ensures own { IfErr result IsOwn }
-    ensures open { AreOpen frame.now.payload.now frame.now.checked.now.configuration.sets
-        columns.new }
-    ensures held { AllHeld frame.now.checked.now.table states.new }
+    ensures row { IsRow frame.now segment.now.row (row_slices columns.new states.new) }
 {
     range_laws::counters_from_zero_show_all_steps();
     places::slices_lie_beside_one_another();

@@ -1,7 +1,7 @@
 -- What some events of decoding leave, and a sink with them: they were made, one was refused, or the
 -- sink refused a line.
 use Rattle.std.specs.Prelude.{◌≡◌, ◌⊎◌, ℕ, ◌+◌, ◌*◌, ◌<◌, List, [], ◌∷◌}
-use Rattle.std.specs.Prelude.{◌++◌, Result, MatchResult, length}
+use Rattle.std.specs.Prelude.{◌++◌, length}
 use Rattle.std.proofs.Common.{get_or, suc}
 use Rattle.std.specs.List.{flat_map, range_with_len}
 use Rattle.ffv1_wire.specs.Runs.{LineStep, Grows}
@@ -10,16 +10,16 @@ use Rattle.ffv1_record.specs.Accepted.{Accepted}
 use Rattle.ffv1_decode.specs.declared.column.Column.{Column}
 use Rattle.ffv1_frame.specs.declared.fault.CodecFault.TheVariants as fault
 use Rattle.ffv1_frame.specs.declared.fault.FrameFault.{FrameFault}
-use Rattle.ffv1_frame.specs.Picture.{line_bytes, plane_count, width_bytes}
+use Rattle.ffv1_frame.specs.Picture.{line_bytes, width_bytes}
 use Rattle.ffv1_frame.specs.Runs.{Runs, Stops}
 use Rattle.ffv1_frame.specs.Order.{Event, Series, hand_events, line_events}
 use Rattle.ffv1_frame.specs.Order.{series_events, series_of, lines_down}
 use Rattle.ffv1_frame.specs.Order.Event.{Hand}
 use Rattle.ffv1_frame.specs.Decoding.{State, StepsBy, FaultsWith, fault_in, top_of}
 use Rattle.ffv1_frame.specs.Windows.{window}
-use Rattle.ffv1_decode.specs.Internal.Tied.{AreTold, RowSlices, TiedColumns, TiedPlanes}
+use Rattle.ffv1_decode.specs.Internal.Tied.{AreTold, TiedColumns, TiedPlanes}
 use Rattle.ffv1_decode.specs.Internal.Tied.{row_slices, rolling_lines, plane_group}
-use Rattle.ffv1_decode.specs.Internal.Shared.{AreAbove, AreLast, IsLast}
+use Rattle.ffv1_decode.specs.Internal.Shared.{AreLast, IsLast}
 
 -- the lines that are handed over next stand in a line of output, in bytes
 abbrev pub StandsIn : Configuration → ℕ → ℕ → List ℕ → State → Type 0
@@ -138,17 +138,3 @@ module _ {S : Type 0} (takes refuses : LineStep S) (a : Accepted) (coded : ℕ �
           (rolling_lines two one one) state
       pub kept : Kept s state
       pub grows : Grows takes initial state.lines now
-
--- the planes of row r are decoded, of columns, states and kept lines with what is known of them
--- before, and after; a sink has taken the lines, or what stopped it is known
-abbrev pub DecodesPlanes : {S : Type 0} → LineStep S → LineStep S → Accepted → ℕ → List ℕ →
-    RowSlices → RowSlices → List ℕ → List ℕ → S → S → Result (Unit {0}) FrameFault → Type 0
-DecodesPlanes {S = S} takes refuses a r payload old new kept last before after result =
-    (coded : ℕ → List ℕ) (initial : S) (s : State) → TiedColumns a coded r 0 payload old s →
-    AreAbove a.configuration r kept s →
-    Grows takes initial s.lines before →
-    MatchResult result
-    (λ _. PlanesKept takes refuses a coded initial r (plane_count a.configuration) payload
-    (planes_events a.configuration r) new.columns new.states last after s)
-    (λ f. FailsIn takes refuses a coded initial r new.columns (planes_events a.configuration r) f
-    after s)

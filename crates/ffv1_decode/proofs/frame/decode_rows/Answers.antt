@@ -71,22 +71,18 @@ module _ (g : Over) (c : After-close g) where
   accepted = subst (λ (x : Accepted). IsAccepted x.configuration x.table)
       c.new-frame.ensures.checked c.new-frame.ensures.frame.accepted
 
-pub decode_row-decoded-requires-clause-lines_long :
-    goal.decode_row-decoded-requires-clause-lines_long
-decode_row-decoded-requires-clause-lines_long g c =
-    let here = (goal.at.decode_row-decoded-requires-clause-lines_long g c).After-close in
+pub decode_row-decoded-requires-clause-lines : goal.decode_row-decoded-requires-clause-lines
+decode_row-decoded-requires-clause-lines g c =
+    let here = (goal.at.decode_row-decoded-requires-clause-lines g c).After-close in
     let a = c.args.checked.now in
     let long = c.slices_lie_beside_one_another.ensures.lines a.configuration in
-    rw c.new-frame.ensures.checked (omega (arith, long, samples_are g here))
-
-pub decode_row-decoded-requires-clause-kept : goal.decode_row-decoded-requires-clause-kept
-decode_row-decoded-requires-clause-kept g c =
-    let here = (goal.at.decode_row-decoded-requires-clause-kept g c).After-close in
-    let a = c.args.checked.now in
     let keeps = c.slices_lie_beside_one_another.ensures.kept a.configuration a.table
     (accepted g here) in
-    rw c.new-frame.ensures.checked (subst (λ n. KeepsChroma a.configuration
-    (n - 3 * line_length a.configuration)) (samples_are g here) keeps)
+    rw c.new-frame.ensures.checked (record {
+      rolling = omega (arith, long, samples_are g here);
+      kept = subst (λ n. KeepsChroma a.configuration (n - 3 * line_length a.configuration))
+          (samples_are g here) keeps;
+    })
 
 pub returns-in_err-decoded-clause-exact : goal.returns-in_err-decoded-clause-exact
 returns-in_err-decoded-clause-exact g c =

@@ -3,8 +3,33 @@ use Rattle.std.proofs.Common.{◌≡◌, suc, ◌+◌, ◌*◌, ◌<◌, ◌≤�
 use Rattle.std.proofs.lemmas.Result.{err_from_is_err_and}
 use Rattle.ffv1_frame.specs.Decoding.{State}
 use Rattle.ffv1_decode.specs.Internal.Tied.{PlanesRead}
+use Rattle.ffv1_frame.proofs.Sizes.{part_apart}
 use Rattle.ffv1_decode.proofs.PlanesReads.{plane_more, column_done, planes_stopped, kept_stays}
 use Rattle.ffv1_decode.proofs.plane_lines.read_planes.Goals as goal
+
+pub read_at-requires-clause-segment : goal.read_at-requires-clause-segment
+read_at-requires-clause-segment g c =
+    let i = c.planes.index in
+    let less : i < c.args.line.now.count = omega arith in
+    record {
+      column = omega (arith, c.requires.row.many);
+      plane = omega (arith, less, c.requires.line.planes.inside);
+      few = omega (arith, less, c.requires.line.planes.few);
+      y = c.requires.line.y i less;
+      height = c.requires.line.height i less;
+    }
+
+pub read_at-requires-clause-long : goal.read_at-requires-clause-long
+read_at-requires-clause-long g c =
+    let few : c.planes.index < c.args.line.now.count = omega arith in
+    let part = part_apart c.planes.index c.args.line.now.count
+    c.args.frame.now.checked.now.configuration.width few in
+    let cur_long : length c.planes.cur ≡ length c.args.cur.now = omega arith in
+    record {
+      two = omega (arith, part, c.requires.long.two);
+      one = omega (arith, part, c.requires.long.one);
+      cur = omega (arith, part, cur_long, c.requires.long.cur);
+    }
 
 pub returns-in_err-read_at-clause-exact : goal.returns-in_err-read_at-clause-exact
 returns-in_err-read_at-clause-exact g c = λ coded next s less tied lines kept.
@@ -25,7 +50,7 @@ returns-in_err-read_at-clause-exact g c = λ coded next s less tied lines kept.
     rw (p.1, p.2) (planes_stopped a coded line.row next c.args.frame.now.payload.now line.first
     line.count line.y s two one k i c.planes.columns c.read_at.new.columns c.planes.states
     (g.W.Word.samples c.planes.cur) c.in_err-read_at.field-0.0
-    a.configuration.columns few (omega (arith, c.requires.many)) before made)
+    a.configuration.columns few (omega (arith, c.requires.row.many)) before made)
 
 pub planes-preserved : goal.planes-preserved
 planes-preserved g c =
@@ -36,8 +61,7 @@ planes-preserved g c =
     let k = c.columns.column in
     let i = c.planes.index in
     record {
-      opened = c.in_ok-read_at.ensures.open;
-      held = c.in_ok-read_at.ensures.held;
+      row = c.in_ok-read_at.ensures.row;
       line = λ coded next s less tied lines kept.
           let before = c.planes.invariant.line coded next s less tied lines kept in
           let few : i < line.count = omega arith in
@@ -50,14 +74,14 @@ planes-preserved g c =
           let cur_is = g.met.W.Word.lengths c.planes.cur in
           let cur_long : length c.planes.cur ≡ length c.args.cur.now = omega arith in
           let room : line.count * a.configuration.width ≤ length (g.W.Word.samples c.planes.cur) =
-          omega (arith, cur_is, cur_long, c.requires.cur_long) in
+          omega (arith, cur_is, cur_long, c.requires.long.cur) in
           let more = plane_more a coded line.row next c.args.frame.now.payload.now line.first
           line.count line.y s two one k i c.planes.columns c.read_at.new.columns c.planes.states
           c.read_at.new.states
           (g.W.Word.samples c.planes.cur) (g.W.Word.samples c.read_at.new.cur) few
-          (omega (arith, c.requires.many))
+          (omega (arith, c.requires.row.many))
           (λ p. c.slices_lie_beside_one_another.ensures.across a.configuration a.table p
-          c.requires.frame.accepted) room c.in_ok-read_at.ensures.beside before made in
+          c.requires.row.frame.accepted) room c.in_ok-read_at.ensures.beside before made in
           let at : suc i ≡ i + 1 = omega arith in
           subst (λ n. PlanesRead a coded line.row next c.args.frame.now.payload.now line.first
           line.count line.y k n c.read_at.new.columns c.read_at.new.states two one
@@ -72,8 +96,7 @@ columns-preserved g c =
     let line = c.args.line.now in
     let k = c.columns.column in
     record {
-      opened = c.planes.invariant.opened;
-      held = c.planes.invariant.held;
+      row = c.planes.invariant.row;
       line = λ coded next s less tied lines kept.
           let all : c.planes.index ≡ line.count = omega arith in
           let before = subst (λ n. PlanesRead a coded line.row next c.args.frame.now.payload.now
@@ -95,7 +118,7 @@ returns-clause-exact g c = λ coded next s less tied lines kept.
     let two = g.W.Word.samples c.args.above.now.two.now in
     let one = g.W.Word.samples c.args.above.now.one.now in
     let line = c.args.line.now in
-    let all : c.columns.column ≡ a.configuration.columns = omega (arith, c.requires.many) in
+    let all : c.columns.column ≡ a.configuration.columns = omega (arith, c.requires.row.many) in
     subst (λ n. PlanesRead a coded line.row next c.args.frame.now.payload.now line.first line.count
     line.y n 0 c.columns.columns c.columns.states two one (g.W.Word.samples c.columns.cur) s)
     all

@@ -7,7 +7,7 @@ use Rattle.ffv1_wire.specs.Runs.{LineStep}
 use Rattle.ffv1_record.specs.Accepted.{Accepted}
 use Rattle.ffv1_frame.specs.declared.fault.FrameFault.{FrameFault}
 use Rattle.ffv1_decode.specs.Internal.Buffers.{samples_of_lines}
-use Rattle.ffv1_decode.specs.Internal.Progress.{DecodesPlanes}
+use Rattle.ffv1_decode.specs.Internal.Steps.{DecodesPlanes}
 use Rattle.ffv1_decode.specs.Internal.Shared.{kept_in}
 use Rattle.ffv1_decode.specs.Internal.Tied.{RowSlices, row_slices}
 use Rattle.ffv1_decode.proofs.row.decode_lines.Goals as goal
@@ -16,12 +16,12 @@ use Rattle.ffv1_decode.proofs.row.decode_lines.Goals as goal
 carried : {S : Type 0} (takes refuses : LineStep S) (a : Accepted) (r : ℕ) (payload : List ℕ)
     (old new : RowSlices) (kept kept_now last last_now : List ℕ) (before after : S)
     (result : Result (Unit {0}) FrameFault) → kept_now ≡ kept → last_now ≡ last →
-    DecodesPlanes takes refuses a r payload old new kept_now last_now before after result →
-    DecodesPlanes takes refuses a r payload old new kept last before after result
+    DecodesPlanes a payload takes refuses r old new kept_now last_now before after result →
+    DecodesPlanes a payload takes refuses r old new kept last before after result
 carried takes refuses a r payload old new kept kept_now last last_now before after result first
     second made =
-    subst (λ z. DecodesPlanes takes refuses a r payload old new z last before after result) first
-    (subst (λ z. DecodesPlanes takes refuses a r payload old new kept_now z before after result)
+    subst (λ z. DecodesPlanes a payload takes refuses r old new z last before after result) first
+    (subst (λ z. DecodesPlanes a payload takes refuses r old new kept_now z before after result)
     second made)
 
 pub returns-in-Narrow-clause-exact : goal.returns-in-Narrow-clause-exact

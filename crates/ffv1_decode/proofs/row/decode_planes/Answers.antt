@@ -3,7 +3,9 @@ use Rattle.std.proofs.Common.{◌≡◌, ℕ, ◌+◌, ◌-◌, ◌*◌, ◌<◌
 use Rattle.std.proofs.Common.{false, length}
 use Rattle.std.proofs.Common.{List, take, drop, refl, inl, arith}
 use Rattle.ffv1_slice.specs.Grid.{division_of, across}
+use Rattle.ffv1_decode.specs.Internal.Finished.{AreTogether}
 use Rattle.ffv1_decode.specs.Internal.Places.{AreParts}
+use Rattle.ffv1_frame.proofs.LastLine.{planes_some}
 use Rattle.ffv1_decode.proofs.LineFinished.{rct_is}
 use Rattle.std.proofs.lemmas.Result.{err_from_is_err_and, MatchResult-weaker}
 use Rattle.ffv1_record.specs.Configuration.{Configuration, is_rct}
@@ -30,7 +32,7 @@ use Rattle.ffv1_decode.proofs.row.decode_planes.Goals as goal
 -- there are as many planes as the configuration has
 planes_are : (g : Over) (c : After-planes-planes g) → c.planes-planes.result ≡ plane_count
     c.args.frame.now.checked.now.configuration
-planes_are g c = rw c.requires.frame.grid at c.planes-planes.ensures
+planes_are g c = rw c.requires.row.frame.grid at c.planes-planes.ensures
 
 -- the colours are those of no RCT
 no_rct : (g : Over) (c : In-YCbCr g) → is_rct c.args.frame.now.checked.now.configuration.colour
@@ -91,7 +93,7 @@ module _ (g : Over) (c : After-kept_range-from g) where
       let size = size_apart g (goal.at.After-kept_range-from g c).In-YCbCr in
       let long : length c.args.lines.now - 3 * line_length conf ≡ length c.loop-plane.kept =
       omega (arith, size, c.loop-plane.auto.kept, c.split_at_mut-rolling.ensures.back_len) in
-      subst (KeepsChroma conf) long c.requires.kept
+      subst (KeepsChroma conf) long c.requires.lines.kept
 
   keeps_samples : KeepsChroma conf (length kept)
   keeps_samples = subst (KeepsChroma conf) (sym lengths) keeps
@@ -100,8 +102,8 @@ module _ (g : Over) (c : After-kept_range-from g) where
   some_wide =
       let t = c.args.frame.now.checked.now.table in
       wide conf (c.slices_lie_beside_one_another.ensures.across conf t 1
-      c.requires.frame.accepted)
-      (c.accepted_configuration_is_in_range.ensures.columns conf t c.requires.frame.accepted).0
+      c.requires.row.frame.accepted)
+      (c.accepted_configuration_is_in_range.ensures.columns conf t c.requires.row.frame.accepted).0
 
   abbrev from : ℕ
   from = c.kept_range-from.result.0
@@ -139,7 +141,7 @@ module _ (g : Over) (c : After-kept_range-from g) where
       (g.W.Word.samples (take (upto - from) (drop from c.loop-plane.kept))) t) plane_is
       (tied_part conf c.args.row c.loop-plane.plane y kept first
       (g.W.Word.samples (take (upto - from) (drop from c.loop-plane.kept))) s t keeps_samples few
-      c.requires.row some_wide long
+      c.requires.row.row some_wide long
       (λ some is.
       let at = range some is in
       window_samples g.W.Word.samples law.takes law.drops law.joins from (upto - from)
@@ -148,6 +150,21 @@ module _ (g : Over) (c : After-kept_range-from g) where
       ∙ c.loop-plane.invariant.todo (omega (arith, some, lengths)) c.loop-plane.plane is
       (omega arith))
       above done)
+
+pub decode_series-requires-in-loop-plane-clause-planes :
+    goal.decode_series-requires-in-loop-plane-clause-planes
+decode_series-requires-in-loop-plane-clause-planes g c =
+    let at = goal.at.decode_series-requires-in-loop-plane-clause-planes g c in
+    let conf = c.args.frame.now.checked.now.configuration in
+    let plane = plane_inside g at.After-kept_range-from in
+    let few = planes_few conf.chroma_planes conf.extra_plane in
+    record {
+      together = subst (λ b. AreTogether b conf c.loop-plane.plane 1) (sym (no_rct g at.In-YCbCr))
+          (refl, plane);
+      inside = omega (arith, plane);
+      some = omega arith;
+      few = omega (arith, plane, few);
+    }
 
 pub decode_series-requires-in-loop-plane-clause-kept :
     goal.decode_series-requires-in-loop-plane-clause-kept
@@ -195,8 +212,7 @@ loop-plane-init g c = record {
     columns_capacity = refl;
     states_capacity = refl;
   };
-  opened = c.requires.open;
-  held = c.requires.held;
+  row = c.requires.row;
   counted = refl;
   todo = λ some p is from. refl;
   planes = λ coded initial s tied above grows. record {
@@ -244,8 +260,7 @@ loop-plane-preserved g c =
     ++ drop (upto - from) (drop from c.loop-plane.kept)))) ∙ ap length new_is ∙ long in
     record {
       same = slices_kept c.in_ok-decode_series-in-YCbCr.ensures.same c.loop-plane.invariant.same;
-      opened = c.in_ok-decode_series-in-YCbCr.ensures.open;
-      held = c.in_ok-decode_series-in-YCbCr.ensures.held;
+      row = c.in_ok-decode_series-in-YCbCr.ensures.row;
       counted = c.in_ok-decode_series-in-YCbCr.ensures.counted ∙ c.loop-plane.invariant.counted;
       todo = λ some p is least.
           let some : 0 < length c.loop-plane.kept =
@@ -260,9 +275,9 @@ loop-plane-preserved g c =
           (λ i y less. tied g here s before.decoded.state above before.decoded.kept.done i y less)
           before.decoded.grows in
           let last = last_more takes refuses a coded initial c.args.row payload s
-          c.requires.row
+          c.requires.row.row
           (λ p. c.slices_lie_beside_one_another.ensures.down conf a.table p
-          c.requires.frame.accepted) q _ c.loop-plane.slices.columns.items
+          c.requires.row.frame.accepted) q _ c.loop-plane.slices.columns.items
           c.loop-plane.slices.states.items kept c.loop-plane.sink before
           (no_rct g at.In-YCbCr) (plane_inside g here)
           c.decode_series-in-loop-plane.new.slices.columns.items
@@ -290,9 +305,9 @@ returns-in-Rct-clause-exact g c = λ coded initial s tied above grows.
     let law = g.met.W.Word in
     let e : is_rct conf.colour ≡ true = ap (λ (z : Configuration). is_rct z.colour)
     c.config-2.ensures.value ∙ ap is_rct c.in-Rct.is in
-    let none = line_of_rct conf _ c.requires.kept e in
+    let none = line_of_rct conf _ c.requires.lines.kept e in
     let chroma = (c.accepted_configuration_has_sound_parts.ensures.rct conf a.table
-    c.requires.frame.accepted (rct_is conf.colour e)).0 in
+    c.requires.row.frame.accepted (rct_is conf.colour e)).0 in
     let count = planes_are g (goal.at.returns-in-Rct-clause-exact g c).After-planes-planes in
     let size = length_together conf e chroma in
     let long : length c.decode_series.new.lines ≡ 3 * line_length conf =
@@ -314,7 +329,7 @@ returns-in-Rct-clause-exact g c = λ coded initial s tied above grows.
       long,
     ) in
     let made = rw count at (c.decode_series.ensures.exact coded initial s tied
-    (λ i y less shared. absurd (let apart = none.1 (0 + i) c.args.row c.requires.row in
+    (λ i y less shared. absurd (let apart = none.1 (0 + i) c.args.row c.requires.row.row in
     omega (arith, shared, apart))) grows) in
     MatchResult-weaker c.decode_series.result made
     (λ u done. record {
@@ -326,15 +341,31 @@ returns-in-Rct-clause-exact g c = λ coded initial s tied above grows.
     (λ f stopped. together_fails takes refuses a coded initial c.args.row payload s
     c.decode_series.new.slices.columns.items f c.decode_series.new.sink e stopped)
 
+pub decode_series-requires-clause-planes : goal.decode_series-requires-clause-planes
+decode_series-requires-clause-planes g c =
+    let conf = c.args.frame.now.checked.now.configuration in
+    let e : is_rct conf.colour ≡ true = ap (λ (z : Configuration). is_rct z.colour)
+    c.config-2.ensures.value ∙ ap is_rct c.in-Rct.is in
+    let count = planes_are g (goal.at.decode_series-requires-clause-planes g c).After-planes-planes
+    in
+    let least = planes_some conf in
+    let most = planes_few conf.chroma_planes conf.extra_plane in
+    record {
+      together = subst (λ b. AreTogether b conf 0 c.planes-planes.result) (sym e) (refl, count);
+      inside = omega (arith, count);
+      some = omega (arith, count, least);
+      few = omega (arith, count, most);
+    }
+
 pub decode_series-requires-clause-kept : goal.decode_series-requires-clause-kept
 decode_series-requires-clause-kept g c = λ i less.
     let conf = c.args.frame.now.checked.now.configuration in
     let t = c.args.frame.now.checked.now.table in
     let e : is_rct conf.colour ≡ true = ap (λ (z : Configuration). is_rct z.colour)
     c.config-2.ensures.value ∙ ap is_rct c.in-Rct.is in
-    let none = line_of_rct conf _ c.requires.kept e in
+    let none = line_of_rct conf _ c.requires.lines.kept e in
     let chroma = (c.accepted_configuration_has_sound_parts.ensures.rct conf t
-    c.requires.frame.accepted (rct_is conf.colour e)).0 in
+    c.requires.row.frame.accepted (rct_is conf.colour e)).0 in
     let count = planes_are g (goal.at.decode_series-requires-clause-kept g c).After-planes-planes in
     let long = together_long c.planes-planes.result (plane_count conf) c.config.result.now.width
     conf.width (line_length conf) (length c.split_at_mut-together.result.0.now) count

@@ -1,17 +1,18 @@
 -- Decodes a line: reads it, makes of it what is handed over, and hands it over.
-use Rattle.std.proofs.Common.{◌≡◌, ℕ, List, ◌+◌, ◌<◌, ◌++◌, inl, inr, ◌∙◌, ap, sym, subst, length}
+use Rattle.std.proofs.Common.{◌≡◌, ℕ, List, ◌+◌, ◌<◌, ◌++◌, inl, inr, ◌∙◌, ap, subst, length}
 use Rattle.std.proofs.Common.{take, Result, Ok, Err}
 use Rattle.std.specs.Prelude.{OnOk}
 use Rattle.std.proofs.Common.{drop, arith}
-use Rattle.std.proofs.lemmas.List.{with_items_is}
 use Rattle.std.proofs.lemmas.Result.{err_from_is_err_and, MatchResult-weaker}
 use Rattle.std.specs.List.{range_with_len}
 use Rattle.std.proofs.lemmas.Grind.{common_steps}
 use Rattle.ffv1_frame.specs.Order.{lines_down, line_events}
-use Rattle.ffv1_decode.specs.Internal.Tied.{AreOpen, AreTold, PlanesRead, TiedColumns, row_slices}
+use Rattle.ffv1_decode.specs.Internal.RowParts.{IsRow, slices_of}
+use Rattle.ffv1_decode.specs.Internal.Tied.{AreTold, PlanesRead, RowSlices, TiedColumns, row_slices}
 use Rattle.ffv1_decode.specs.Internal.Finished.{StandRead}
 use Rattle.ffv1_frame.specs.Decoding.{State}
 use Rattle.ffv1_decode.specs.Internal.Progress.{FailsIn, LineDecoded}
+use Rattle.ffv1_decode.proofs.RowGoesOn.{lent, given_back}
 use Rattle.ffv1_decode.proofs.SegmentTied.{tied_told}
 use Rattle.ffv1_decode.proofs.LineEnds.{stand_read}
 use Rattle.ffv1_decode.proofs.LineDecodes.{read_fails, finish_fails, hand_fails, finished}
@@ -28,26 +29,20 @@ ok_with (Err e) p = tt
 
 -- what was read is lent back to the slices
 module _ (g : Over) (c : After-read_planes g) where
-  columns_back : take c.args.slices.now.columns.len (c.read_planes.new.columns
-      ++ drop (length c.read_planes.new.columns) c.args.slices.now.columns.items)
-      ≡ c.read_planes.new.columns
-  columns_back = with_items_is c.args.slices.now.columns c.read_planes.new.columns
-      (c.read_planes.auto.columns ∙ c.deref_mut.ensures.len)
+  lent_to : (P : RowSlices → Type 0) → P (slices_of c.args.slices.now) →
+      P (row_slices c.deref_mut.result.now c.deref_mut-2.result.now)
+  lent_to P = lent c.args.slices.now c.deref_mut.result.now c.deref_mut-2.result.now P
+      c.deref_mut.ensures.value c.deref_mut-2.ensures.value
 
-  lent : (coded : ℕ → List ℕ) (next : ℕ) (s : State) →
-      let slices = c.args.slices.now in
-      TiedColumns c.args.frame.now.checked.now coded c.args.line.now.row next
-      c.args.frame.now.payload.now (row_slices slices.columns.items slices.states.items) s →
-      TiedColumns c.args.frame.now.checked.now coded c.args.line.now.row next
-      c.args.frame.now.payload.now (row_slices c.deref_mut.result.now c.deref_mut-2.result.now) s
-  lent coded next s tied =
-      let a = c.args.frame.now.checked.now in
-      let row = c.args.line.now.row in
-      let payload = c.args.frame.now.payload.now in
-      subst (λ z. TiedColumns a coded row next payload (row_slices z c.deref_mut-2.result.now) s)
-      (sym c.deref_mut.ensures.value)
-      (subst (λ z. TiedColumns a coded row next payload
-      (row_slices c.args.slices.now.columns.items z) s) (sym c.deref_mut-2.ensures.value) tied)
+  back : (P : RowSlices → Type 0) →
+      P (row_slices c.read_planes.new.columns c.read_planes.new.states) →
+      P (row_slices (take c.args.slices.now.columns.len (c.read_planes.new.columns
+      ++ drop (length c.read_planes.new.columns) c.args.slices.now.columns.items))
+      (take c.args.slices.now.states.len (c.read_planes.new.states
+      ++ drop (length c.read_planes.new.states) c.args.slices.now.states.items)))
+  back P = given_back c.args.slices.now c.read_planes.new.columns c.read_planes.new.states P
+      (c.read_planes.auto.columns ∙ c.deref_mut.ensures.len)
+      (c.read_planes.auto.states ∙ c.deref_mut-2.ensures.len)
 
 -- what was read stands in the line
 module _ (g : Over) (c : After-finish g) (coded : ℕ → List ℕ) (next : ℕ) (s : State)
@@ -60,7 +55,7 @@ module _ (g : Over) (c : After-finish g) (coded : ℕ → List ℕ) (next : ℕ)
   told =
       let long : length c.read_planes.new.columns ≡
       c.args.frame.now.checked.now.configuration.columns =
-      c.read_planes.auto.columns ∙ ap length c.deref_mut.ensures.value ∙ c.requires.many in
+      c.read_planes.auto.columns ∙ ap length c.deref_mut.ensures.value ∙ c.requires.row.many in
       tied_told c.args.frame.now.checked.now coded c.args.line.now.row next
       c.args.frame.now.payload.now c.read_planes.new.columns c.read_planes.new.states read.state
       read.columns_are c.counters_from_zero_show_all_steps.ensures long
@@ -71,23 +66,23 @@ module _ (g : Over) (c : After-finish g) (coded : ℕ → List ℕ) (next : ℕ)
       let a = c.args.frame.now.checked.now in
       let line = c.args.line.now in
       let columns = c.accepted_configuration_is_in_range.ensures.columns a.configuration a.table
-      c.requires.frame.accepted in
+      c.requires.row.frame.accepted in
       stand_read a coded line.row next c.args.frame.now.payload.now c.read_planes.new.columns
       c.read_planes.new.states (g.W.Word.samples c.args.above.now.two.now)
       (g.W.Word.samples c.args.above.now.one.now) (g.W.Word.samples c.read_planes.new.cur)
       line.first line.count line.y read.state read.columns_are (omega (arith, columns))
       read.planes_are (λ p. c.slices_lie_beside_one_another.ensures.across a.configuration a.table p
-      c.requires.frame.accepted)
+      c.requires.row.frame.accepted)
 
 pub finish-requires-clause-y : goal.finish-requires-clause-y
 finish-requires-clause-y g c =
     let line = c.args.line.now in
     let at : line.first + 0 ≡ line.first = omega arith in
     subst (λ p. line.y < lines_down c.args.frame.now.checked.now.configuration p line.row) at
-    (c.requires.y 0 c.requires.some)
+    (c.requires.line.y 0 c.requires.line.planes.some)
 
 pub returns-in_err-read_planes-clause-exact : goal.returns-in_err-read_planes-clause-exact
-returns-in_err-read_planes-clause-exact g c = λ coded next initial s less tied planes kept grows.
+returns-in_err-read_planes-clause-exact g c = λ coded next s less tied planes kept initial grows.
     let a = c.args.frame.now.checked.now in
     let line = c.args.line.now in
     let payload = c.args.frame.now.payload.now in
@@ -95,14 +90,17 @@ returns-in_err-read_planes-clause-exact g c = λ coded next initial s less tied 
     let refuses = g.S.LineSink.refuses in
     let here = goal.at.returns-in_err-read_planes-clause-exact g c in
     let p = err_from_is_err_and c.from_residual.result c.from_residual.ensures.1 in
-    rw (p.1, p.2, columns_back g here.After-read_planes)
+    rw (p.1, p.2) (back g here.After-read_planes (λ z. FailsIn takes refuses a coded initial
+    line.row z.columns (line_events a.configuration line.row (range_with_len line.first line.count)
+    line.y) c.in_err-read_planes.field-0.0 c.args.sink.now s)
     (inl (read_fails takes refuses a coded initial line.row next payload
     line.first line.count line.y s c.read_planes.new.columns c.in_err-read_planes.field-0.0
     c.args.sink.now grows (c.in_err-read_planes.ensures.exact coded next
-    s less (lent g here.After-read_planes coded next s tied) planes kept)))
+    s less (lent_to g here.After-read_planes (λ z. TiedColumns a coded
+    line.row next payload z s) tied) planes kept))))
 
 pub returns-in_err-finish-clause-exact : goal.returns-in_err-finish-clause-exact
-returns-in_err-finish-clause-exact g c = λ coded next initial s less tied planes kept grows.
+returns-in_err-finish-clause-exact g c = λ coded next s less tied planes kept initial grows.
     let a = c.args.frame.now.checked.now in
     let line = c.args.line.now in
     let payload = c.args.frame.now.payload.now in
@@ -113,21 +111,22 @@ returns-in_err-finish-clause-exact g c = λ coded next initial s less tied plane
     let refuses = g.S.LineSink.refuses in
     let here = goal.at.returns-in_err-finish-clause-exact g c in
     let read = c.in_ok-read_planes.ensures.exact coded next s less
-    (lent g here.After-read_planes coded next s tied) planes kept in
+    (lent_to g here.After-read_planes (λ z. TiedColumns a coded
+    line.row next payload z s) tied) planes kept in
     let told = told g here.After-finish coded next s read in
     let stand = stand g here.After-finish coded next s read in
     let p = err_from_is_err_and c.from_residual-in_err-finish.result
     c.from_residual-in_err-finish.ensures.1 in
-    rw (p.1, p.2) (subst (λ z. FailsIn takes refuses a coded initial line.row z
-    (line_events a.configuration line.row (range_with_len line.first line.count) line.y)
-    c.in_err-finish.field-0.0 c.args.sink.now s) (sym (columns_back g here.After-read_planes))
-    (inl (finish_fails takes refuses a coded initial line.row next payload line.first line.count
+    rw (p.1, p.2) (back g here.After-read_planes (λ z. FailsIn takes refuses a coded initial
+    line.row z.columns (line_events a.configuration line.row (range_with_len line.first line.count)
+    line.y) c.in_err-finish.field-0.0 c.args.sink.now s) (inl (finish_fails takes refuses a coded
+    initial line.row next payload line.first line.count
     line.y s c.read_planes.new.columns c.read_planes.new.states two one cur c.args.sink.now
     grows read told c.in_err-finish.field-0.0
     (c.in_err-finish.ensures.exact coded read.state stand))))
 
 pub returns-then-line-clause-exact : goal.returns-then-line-clause-exact
-returns-then-line-clause-exact g c = λ coded next initial s less tied planes kept grows.
+returns-then-line-clause-exact g c = λ coded next s less tied planes kept initial grows.
     let a = c.args.frame.now.checked.now in
     let line = c.args.line.now in
     let payload = c.args.frame.now.payload.now in
@@ -137,33 +136,25 @@ returns-then-line-clause-exact g c = λ coded next initial s less tied planes ke
     let takes = g.S.LineSink.takes in
     let refuses = g.S.LineSink.refuses in
     let here = goal.at.returns-then-line-clause-exact g c in
-    let states_back : take c.args.slices.now.states.len
-    (c.read_planes.new.states ++ drop (length c.read_planes.new.states)
-    c.args.slices.now.states.items) ≡ c.read_planes.new.states =
-    with_items_is c.args.slices.now.states c.read_planes.new.states
-    (c.read_planes.auto.states ∙ c.deref_mut-2.ensures.len) in
     let read = c.in_ok-read_planes.ensures.exact coded next s less
-    (lent g here.After-read_planes coded next s tied) planes kept in
+    (lent_to g here.After-read_planes (λ z. TiedColumns a coded
+    line.row next payload z s) tied) planes kept in
     let told = told g here.After-finish coded next s read in
     let stand = stand g here.After-finish coded next s read in
     let made = c.in_ok-finish.ensures.exact coded read.state stand in
-    let none = line_old a.configuration line.row line.first line.count line.y c.requires.some
-    (omega (arith, c.requires.shared, c.if-line.true)) in
-    subst (λ z. LineDecoded takes refuses a coded initial line.row next payload line.first
-    line.count line.y (take c.args.slices.now.columns.len
-    (c.read_planes.new.columns ++ drop (length c.read_planes.new.columns)
-    c.args.slices.now.columns.items)) z one cur c.args.sink.now s) (sym states_back)
-    (subst (λ z. LineDecoded takes refuses a coded initial line.row next payload line.first
-    line.count line.y z c.read_planes.new.states one cur c.args.sink.now s)
-    (sym (columns_back g here.After-read_planes))
+    let none = line_old a.configuration line.row line.first line.count line.y
+    c.requires.line.planes.some
+    (omega (arith, c.requires.line.shared, c.if-line.true)) in
+    back g here.After-read_planes (λ z. LineDecoded takes refuses a coded initial line.row next
+    payload line.first line.count line.y z.columns z.states one cur c.args.sink.now s)
     (line_kept takes refuses a coded initial line.row next payload
     line.first line.count line.y s c.read_planes.new.columns c.read_planes.new.states two one
     cur c.args.sink.now grows read told c.finish.new.out made none
     (λ p. c.slices_lie_beside_one_another.ensures.across a.configuration a.table p
-    c.requires.frame.accepted)))
+    c.requires.row.frame.accepted))
 
 pub returns-clause-exact : goal.returns-clause-exact
-returns-clause-exact g c = λ coded next initial s less tied planes kept grows.
+returns-clause-exact g c = λ coded next s less tied planes kept initial grows.
     let a = c.args.frame.now.checked.now in
     let line = c.args.line.now in
     let payload = c.args.frame.now.payload.now in
@@ -173,18 +164,15 @@ returns-clause-exact g c = λ coded next initial s less tied planes kept grows.
     let takes = g.S.LineSink.takes in
     let refuses = g.S.LineSink.refuses in
     let here = goal.at.returns-clause-exact g c in
-    let states_back : take c.args.slices.now.states.len
-    (c.read_planes.new.states ++ drop (length c.read_planes.new.states)
-    c.args.slices.now.states.items) ≡ c.read_planes.new.states =
-    with_items_is c.args.slices.now.states c.read_planes.new.states
-    (c.read_planes.auto.states ∙ c.deref_mut-2.ensures.len) in
     let read = c.in_ok-read_planes.ensures.exact coded next s less
-    (lent g here.After-read_planes coded next s tied) planes kept in
+    (lent_to g here.After-read_planes (λ z. TiedColumns a coded
+    line.row next payload z s) tied) planes kept in
     let told = told g here.After-finish coded next s read in
     let stand = stand g here.After-finish coded next s read in
     let made = c.in_ok-finish.ensures.exact coded read.state stand in
-    let new = line_new a.configuration line.row line.first line.count line.y c.requires.some
-    (omega (arith, c.requires.shared, c.if-line.false)) in
+    let new = line_new a.configuration line.row line.first line.count line.y
+    c.requires.line.planes.some
+    (omega (arith, c.requires.line.shared, c.if-line.false)) in
     let handed = c.hand_lines.ensures.exact coded initial c.read_planes.new.columns
     (finished takes refuses a coded initial line.row next payload line.first line.count line.y s
     c.read_planes.new.columns c.read_planes.new.states two one cur c.args.sink.now grows read
@@ -195,27 +183,31 @@ returns-clause-exact g c = λ coded next initial s less tied planes kept grows.
     line.y s c.read_planes.new.columns c.read_planes.new.states two one cur c.args.sink.now
     grows read told c.finish.new.out made) made.stands in
     MatchResult-weaker c.hand_lines.result handed
-    (λ u done. subst (λ z. LineDecoded takes refuses a coded initial line.row next payload
-    line.first line.count line.y (take c.args.slices.now.columns.len
-    (c.read_planes.new.columns ++ drop (length c.read_planes.new.columns)
-    c.args.slices.now.columns.items)) z one cur c.hand_lines.new.sink s) (sym states_back)
-    (subst (λ z. LineDecoded takes refuses a coded initial line.row next payload line.first
-    line.count line.y z c.read_planes.new.states one cur c.hand_lines.new.sink s)
-    (sym (columns_back g here.After-read_planes))
-    (line_decoded takes refuses a coded initial line.row next payload
+    (λ u done. back g here.After-read_planes (λ z. LineDecoded takes refuses a coded initial
+    line.row next payload line.first line.count line.y z.columns z.states one cur
+    c.hand_lines.new.sink s) (line_decoded takes refuses a coded initial line.row next payload
     line.first line.count line.y s c.read_planes.new.columns c.read_planes.new.states two one
     cur c.args.sink.now grows read told c.finish.new.out made new
     (λ p. c.slices_lie_beside_one_another.ensures.across a.configuration a.table p
-    c.requires.frame.accepted) c.hand_lines.new.sink done)))
-    (λ f stopped. subst (λ z. FailsIn takes refuses a coded initial line.row z
-    (line_events a.configuration line.row (range_with_len line.first line.count) line.y) f
-    c.hand_lines.new.sink s) (sym (columns_back g here.After-read_planes))
-    (inr (hand_fails takes refuses a coded initial line.row next payload line.first line.count
+    c.requires.row.frame.accepted) c.hand_lines.new.sink done))
+    (λ f stopped. back g here.After-read_planes (λ z. FailsIn takes refuses a coded initial
+    line.row z.columns (line_events a.configuration line.row (range_with_len line.first line.count)
+    line.y) f c.hand_lines.new.sink s) (inr (hand_fails takes refuses a coded initial line.row next
+    payload line.first line.count
     line.y s c.read_planes.new.columns c.read_planes.new.states two one cur c.args.sink.now
     grows read told c.finish.new.out made new f c.hand_lines.new.sink stopped)))
 
-pub read_planes-requires-clause-open : goal.read_planes-requires-clause-open
-read_planes-requires-clause-open g c = grind (arith, common_steps)
+pub read_planes-requires-clause-row : goal.read_planes-requires-clause-row
+read_planes-requires-clause-row g c = lent c.args.slices.now c.deref_mut.result.now
+    c.deref_mut-2.result.now (IsRow c.args.frame.now c.args.line.now.row)
+    c.deref_mut.ensures.value c.deref_mut-2.ensures.value c.requires.row
+
+pub read_planes-requires-clause-long : goal.read_planes-requires-clause-long
+read_planes-requires-clause-long g c = record {
+  two = omega (arith, c.requires.long.two);
+  one = omega (arith, c.requires.long.one);
+  cur = omega (arith, c.requires.long.cur);
+}
 
 pub returns-in_err-read_planes-clause-same : goal.returns-in_err-read_planes-clause-same
 returns-in_err-read_planes-clause-same g c = grind (arith, common_steps)
@@ -223,14 +215,15 @@ returns-in_err-read_planes-clause-same g c = grind (arith, common_steps)
 pub returns-in_err-finish-clause-same : goal.returns-in_err-finish-clause-same
 returns-in_err-finish-clause-same g c = grind (arith, common_steps)
 
-pub returns-clause-open : goal.returns-clause-open
-returns-clause-open g c =
-    let back = columns_back g (goal.at.returns-clause-open g c).After-read_planes in
-    ok_with c.hand_lines.result (subst (AreOpen c.args.frame.now.payload.now
-    c.args.frame.now.checked.now.configuration.sets) (sym back) c.in_ok-read_planes.ensures.open)
+pub returns-then-line-clause-row : goal.returns-then-line-clause-row
+returns-then-line-clause-row g c = back g (goal.at.returns-then-line-clause-row g
+    c).After-read_planes
+    (IsRow c.args.frame.now c.args.line.now.row) c.in_ok-read_planes.ensures.row
 
-pub returns-clause-held : goal.returns-clause-held
-returns-clause-held g c = grind (arith, common_steps)
+pub returns-clause-row : goal.returns-clause-row
+returns-clause-row g c =
+    ok_with c.hand_lines.result (back g (goal.at.returns-clause-row g c).After-read_planes
+    (IsRow c.args.frame.now c.args.line.now.row) c.in_ok-read_planes.ensures.row)
 
 pub returns-clause-same : goal.returns-clause-same
 returns-clause-same g c = grind (arith, common_steps)

@@ -24,10 +24,10 @@ use Rattle.ffv1_decode.proofs.segment.read_at.Goals as goal
 -- the column that was read
 module _ (g : Over) (c : After-index-columns-segment g) where
   long : length c.read_on.new.columns ≡ c.args.frame.now.checked.now.configuration.columns
-  long = c.read_on.auto.columns ∙ c.requires.many
+  long = c.read_on.auto.columns ∙ c.requires.row.many
 
   few : c.args.segment.now.column < length c.read_on.new.columns
-  few = omega (arith, c.requires.column, long)
+  few = omega (arith, c.requires.segment.column, long)
 
   column_is : slice_index_or c.read_on.new.columns c.args.segment.now.column
       c.index-columns-segment.result ≡ column_at c.read_on.new.columns c.args.segment.now.column
@@ -52,7 +52,7 @@ module _ (g : Over) (c : After-index-columns-segment g) where
 
     sides : AreParts (across (division_of conf) c.args.segment.now.plane)
     sides = c.slices_lie_beside_one_another.ensures.across conf c.args.frame.now.checked.now.table
-        c.args.segment.now.plane c.requires.frame.accepted
+        c.args.segment.now.plane c.requires.row.frame.accepted
 
     agrees : (count : ℕ) → count ≤ width_in conf c.args.segment.now.plane
         c.args.segment.now.column → (0 < shared_of (across (division_of conf)
@@ -72,7 +72,7 @@ module _ (g : Over) (c : After-index-columns-segment g) where
         agrees_upto conf segment.row segment.column segment.plane (segment.index * conf.width)
         segment.y (g.W.Word.samples c.args.above.now.two.now)
         (g.W.Word.samples c.args.above.now.one.now) (g.W.Word.samples c.args.cur.now)
-        (g.W.Word.samples c.read_on.new.cur) row s sides c.requires.column line row_is
+        (g.W.Word.samples c.read_on.new.cur) row s sides c.requires.segment.column line row_is
         (length c.args.above.now.kept.now) (g.W.Word.samples c.args.above.now.kept.now)
         c.requires.kept kept count few (λ some. same some ∙ c.said_left-said.ensures.value some)
         stands
@@ -86,20 +86,20 @@ pub is_overread-requires-clause-rises : goal.is_overread-requires-clause-rises
 is_overread-requires-clause-rises g c =
     let k = c.args.segment.now.column in
     let here = (goal.at.is_overread-requires-clause-rises g c).After-index-columns-segment in
-    rw (column_is g here) ((c.in_ok-read_on.ensures.open k (few g here)).rises)
+    rw (column_is g here) ((c.in_ok-read_on.ensures.row.opened k (few g here)).rises)
 
 pub is_overread-requires-clause-inside : goal.is_overread-requires-clause-inside
 is_overread-requires-clause-inside g c =
     let k = c.args.segment.now.column in
     let here = (goal.at.is_overread-requires-clause-inside g c).After-index-columns-segment in
-    rw (column_is g here) ((c.in_ok-read_on.ensures.open k (few g here)).inside)
+    rw (column_is g here) ((c.in_ok-read_on.ensures.row.opened k (few g here)).inside)
 
 pub fault_at-requires-clause-x : goal.fault_at-requires-clause-x
 fault_at-requires-clause-x g c =
     let sides = c.slices_lie_beside_one_another.ensures.across
     c.args.frame.now.checked.now.configuration c.args.frame.now.checked.now.table
-    c.args.segment.now.plane c.requires.frame.accepted in
-    let some = sides.some c.args.segment.now.column c.requires.column in
+    c.args.segment.now.plane c.requires.row.frame.accepted in
+    let some = sides.some c.args.segment.now.column c.requires.segment.column in
     elim c.in-Some.ensures.some [
       | inl left ↦ omega (arith, left.0, some)
       | inr above ↦ above.1.inside
@@ -109,13 +109,13 @@ pub lacks_ending-requires-clause-rises : goal.lacks_ending-requires-clause-rises
 lacks_ending-requires-clause-rises g c =
     let k = c.args.segment.now.column in
     let here = (goal.at.lacks_ending-requires-clause-rises g c).After-index-columns-segment in
-    rw (column_is g here) ((c.in_ok-read_on.ensures.open k (few g here)).rises)
+    rw (column_is g here) ((c.in_ok-read_on.ensures.row.opened k (few g here)).rises)
 
 pub lacks_ending-requires-clause-inside : goal.lacks_ending-requires-clause-inside
 lacks_ending-requires-clause-inside g c =
     let k = c.args.segment.now.column in
     let here = (goal.at.lacks_ending-requires-clause-inside g c).After-index-columns-segment in
-    rw (column_is g here) ((c.in_ok-read_on.ensures.open k (few g here)).inside)
+    rw (column_is g here) ((c.in_ok-read_on.ensures.row.opened k (few g here)).inside)
 
 pub returns-then-is_overread-clause-exact : goal.returns-then-is_overread-clause-exact
 returns-then-is_overread-clause-exact g c = λ coded next s less tied line kept.
@@ -132,7 +132,7 @@ returns-then-is_overread-clause-exact g c = λ coded next s less tied line kept.
     (segment.index * a.configuration.width) segment.y k columns c.read_on.new.states
     (g.W.Word.samples c.args.above.now.two.now) (g.W.Word.samples c.args.above.now.one.now)
     (g.W.Word.samples c.read_on.new.cur) s
-    (c.in_ok-read_on.ensures.exact coded next s less tied line) c.requires.column
+    (c.in_ok-read_on.ensures.exact coded next s less tied line) c.requires.segment.column
     c.counters_from_zero_show_all_steps.ensures over (long g here))
 
 pub returns-in-Some-clause-exact : goal.returns-in-Some-clause-exact
@@ -153,7 +153,7 @@ returns-in-Some-clause-exact g c = λ coded next s less tied line kept.
     let old = g.W.Word.samples c.args.cur.now in
     let lines = g.W.Word.samples c.args.above.now.kept.now in
     let sides = sides g here s made.row line made.row_is kept in
-    let some = sides.some k c.requires.column in
+    let some = sides.some k c.requires.segment.column in
     subst (λ (f : FrameFault). Stopped a coded columns
     (Read segment.row k segment.plane segment.y ∷ []) f s) (sym c.fault_at.ensures)
     (elim c.in-Some.ensures.some [
@@ -165,21 +165,24 @@ returns-in-Some-clause-exact g c = λ coded next s less tied line kept.
           subst (λ n. Stopped a coded columns (Read segment.row k segment.plane segment.y ∷ [])
           (overlap_in a.configuration segment.row k segment.plane segment.y n) s) (sym left.0)
           (differs_looked a coded segment.row next c.args.frame.now.payload.now segment.plane
-          offset segment.y k columns c.read_on.new.states two one cur s made c.requires.column
+          offset segment.y k columns c.read_on.new.states two one cur s made
+          c.requires.segment.column
           c.counters_from_zero_show_all_steps.ensures within 0
           (left_sample a.configuration s k segment.plane segment.y) some
           (λ x v less. absurd (omega (arith, less))) (inl (shared, refl))
           (differs_left a.configuration segment.row k segment.plane offset segment.y two one old
-          cur made.row s sides c.requires.column line made.row_is shared other) (long g here))
+          cur made.row s sides c.requires.segment.column line made.row_is shared other) (long g
+          here))
       | inr above ↦
           let x = c.in-Some.x in
           let first = above.1 in
           let differs = differs_above a.configuration segment.row k segment.plane offset segment.y
-          two one old cur made.row s sides c.requires.column line made.row_is
+          two one old cur made.row s sides c.requires.segment.column line made.row_is
           (length c.args.above.now.kept.now) lines c.requires.kept kept above.0 x first.inside
           first.other in
           differs_looked a coded segment.row next c.args.frame.now.payload.now segment.plane
-          offset segment.y k columns c.read_on.new.states two one cur s made c.requires.column
+          offset segment.y k columns c.read_on.new.states two one cur s made
+          c.requires.segment.column
           c.counters_from_zero_show_all_steps.ensures within x
           (above_sample a.configuration s segment.row k segment.plane x) first.inside
           (agrees g here s made.row line made.row_is kept x (omega (arith, first.inside)) above.2
@@ -208,7 +211,7 @@ returns-then-lacks_ending-clause-exact g c = λ coded next s less tied line kept
     c.fault_in-then-lacks_ending.ensures)
     (unended_looked a coded segment.row next c.args.frame.now.payload.now segment.plane offset
     segment.y k
-    columns c.read_on.new.states two one cur s made c.requires.column
+    columns c.read_on.new.states two one cur s made c.requires.segment.column
     c.counters_from_zero_show_all_steps.ensures within lacks
     (agrees g here s made.row line made.row_is
     kept (width_in a.configuration segment.plane k) (omega arith) alike.0 alike.1) (long g here))
@@ -232,7 +235,7 @@ returns-clause-exact g c = λ coded next s less tied line kept.
     let ended = rw (column_is g here) at (c.if-lacks_ending.ensures.no refl) in
     step_looked a coded segment.row next c.args.frame.now.payload.now segment.plane offset
     segment.y k
-    columns c.read_on.new.states two one cur s made c.requires.column
+    columns c.read_on.new.states two one cur s made c.requires.segment.column
     c.counters_from_zero_show_all_steps.ensures within ended
     (agrees g here s made.row line made.row_is
     kept (width_in a.configuration segment.plane k) (omega arith) alike.0 alike.1)

@@ -2,18 +2,22 @@
 use Rattle.std.proofs.Common.{◌≡◌, ℕ, ◌++◌, ◌+◌, ◌-◌, ◌*◌, ◌<◌, ◌≤◌, ◌⊎◌, inl, inr, ap, sym, subst}
 use Rattle.std.proofs.Common.{◌∙◌, rules, Fits, w64}
 use Rattle.std.proofs.Math.Nat.{mul-le-mul_right}
-use Rattle.std.proofs.Common.{length, slice_index_or, take, drop, arith}
+use Rattle.std.proofs.Common.{length, slice_index_or, slice_set, length-set, take, drop, arith}
+use Rattle.std.specs.Prelude.{IsSome}
+use Rattle.ffv1_range.specs.Symbols.{AllHeld}
 use Rattle.std.proofs.lemmas.List.{get_or_default, length-take-le}
 use Rattle.ffv1_record.specs.Held.{classes_of}
 use Rattle.ffv1_frame.specs.Picture.{plane}
 use Rattle.ffv1_frame.specs.Windows.{window}
 use Rattle.ffv1_frame.specs.Decoding.{slice_at, left_of, width_in}
-use Rattle.ffv1_decode.specs.Internal.Tied.{IsOpen, column_at, no_column, slots_in}
+use Rattle.ffv1_decode.specs.Internal.RowParts.{IsRow}
+use Rattle.ffv1_decode.specs.Internal.Tied.{IsOpen, column_at, no_column, slots_in, row_slices}
 use Rattle.ffv1_frame.proofs.Sizes.{slots_small, part_small, part_apart}
 use Rattle.ffv1_decode.proofs.ClassRoom.{classes_most}
-use Rattle.ffv1_frame.proofs.WrittenParts.{put_held, put_other, part_held, part_long}
+use Rattle.ffv1_frame.proofs.WrittenParts.{put, put_long, put_held, put_other, part_held, part_long}
 use Rattle.ffv1_decode.proofs.WordLines.{piece_long, window_samples, put_samples}
 use Rattle.ffv1_decode.proofs.ColumnsOpen.{open_next}
+use Rattle.ffv1_decode.proofs.RowGoesOn.{row_goes_on}
 use Rattle.ffv1_decode.proofs.SegmentTied.{step_made, stopped, stands_here}
 use Rattle.ffv1_decode.proofs.segment.read_on.Given.{Over}
 use Rattle.ffv1_decode.proofs.segment.read_on.Goals.{After-index-columns-k, After-read_column}
@@ -37,7 +41,7 @@ column_is : (g : Over) (c : After-index-columns-k g) →
     slice_index_or c.args.columns.now c.args.segment.now.column c.index-columns-k.result
     ≡ column_at c.args.columns.now c.args.segment.now.column
 column_is g c = get_or_default c.args.columns.now c.args.segment.now.column c.index-columns-k.result
-    no_column (omega (arith, c.requires.column, c.requires.many))
+    no_column (omega (arith, c.requires.segment.column, c.requires.row.many))
 
 -- the column was read
 module _ (g : Over) (c : After-read_column g) where
@@ -47,7 +51,7 @@ module _ (g : Over) (c : After-read_column g) where
     arith,
     c.extent-left.ensures.some,
     c.extent-left.ensures.inside,
-    c.requires.cur_long,
+    c.requires.long.cur,
   )
 
   row_long : length (g.W.Word.samples c.read_column.new.cur) ≡ c.extent-left.result.1 -
@@ -64,7 +68,7 @@ module _ (g : Over) (c : After-read_column g) where
       c.read_column.auto.states ∙ part_long (k * slots) slots (k * slots + slots - k * slots)
       c.args.states.now (thick k slots) (fits c.args.segment.now.column
       c.args.frame.now.checked.now.configuration.columns c.args.frame.now.slots _ _
-      c.requires.column c.requires.frame.slots c.requires.room)
+      c.requires.segment.column c.requires.row.frame.slots c.requires.row.room)
 
   -- the line has what was read in its place, and beside it what it had
   others : (b n : ℕ) → b + n ≤ length (g.W.Word.samples c.args.cur.now) →
@@ -96,6 +100,36 @@ module _ (g : Over) (c : After-read_column g) where
       c.read_column.new.cur) (put_other cur (g.W.Word.samples c.read_column.new.cur) left width
       cur_fits row_long b n within apart)
 
+  -- the row goes on with the column and the states that were read
+  row_after : c.read_column.new.column ≡ record (column_at c.args.columns.now
+      c.args.segment.now.column) { parked = c.read_column.new.column.parked } →
+      IsSome c.read_column.new.column.parked →
+      AllHeld c.args.frame.now.checked.now.table c.read_column.new.states →
+      IsRow c.args.frame.now c.args.segment.now.row (row_slices
+      (slice_set c.args.columns.now c.args.segment.now.column c.read_column.new.column)
+      (put (c.args.segment.now.column * c.args.frame.now.slots)
+      (c.args.segment.now.column * c.args.frame.now.slots + c.args.frame.now.slots
+      - c.args.segment.now.column * c.args.frame.now.slots) c.args.states.now
+      c.read_column.new.states))
+  row_after same parked held =
+      let a = c.args.frame.now.checked.now in
+      let columns = c.args.columns.now in
+      let states = c.args.states.now in
+      let k = c.args.segment.now.column in
+      let slots = c.args.frame.now.slots in
+      let fits = fits k a.configuration.columns slots _ _ c.requires.segment.column
+      c.requires.row.frame.slots c.requires.row.room in
+      rw (thick k slots) (row_goes_on c.args.frame.now c.args.segment.now.row
+      (row_slices columns states) (row_slices (slice_set columns k c.read_column.new.column)
+      (put (k * slots) slots states c.read_column.new.states)) c.requires.row
+      (length-set columns k c.read_column.new.column)
+      (put_long states c.read_column.new.states (k * slots) slots fits states_long)
+      (open_next c.args.frame.now.payload.now a.configuration.sets columns k
+      c.read_column.new.column (omega (arith, c.requires.segment.column, c.requires.row.many))
+      c.requires.row.opened same parked)
+      (put_held states c.read_column.new.states (k * slots) slots fits states_long a.table
+      c.requires.row.held held))
+
 -- the states of a column end at a place that a number can say
 end_small : (g : Over) (c : After-extent-left g) →
     c.args.segment.now.column * c.args.frame.now.slots
@@ -106,13 +140,13 @@ end_small g c =
     let k = c.args.segment.now.column in
     let slots = c.args.frame.now.slots in
     let most = c.accepted_configuration_has_sound_parts.ensures.most conf a.table
-    c.requires.frame.accepted in
+    c.requires.row.frame.accepted in
     let few = slots_small (classes_of conf.chroma_planes conf.extra_plane) _
     (classes_most conf.chroma_planes conf.extra_plane) most in
     let columns = c.accepted_configuration_is_in_range.ensures.columns conf a.table
-    c.requires.frame.accepted in
-    part_small k slots (omega (arith, c.requires.column, columns))
-    (omega (arith, few, c.requires.frame.slots))
+    c.requires.row.frame.accepted in
+    part_small k slots (omega (arith, c.requires.segment.column, columns))
+    (omega (arith, few, c.requires.row.frame.slots))
 
 pub overflow_mul-at : goal.overflow_mul-at
 overflow_mul-at g c =
@@ -130,7 +164,7 @@ begins g c = omega (
   arith,
   c.extent-left.ensures.some,
   c.extent-left.ensures.inside,
-  c.requires.cur_long,
+  c.requires.long.cur,
 )
 
 -- and so does it in bytes
@@ -155,24 +189,30 @@ fault_at-requires-clause-x g c =
 
 pub slice_bounds-read_column-end : goal.slice_bounds-read_column-end
 slice_bounds-read_column-end g c = fits c.args.segment.now.column
-    c.args.frame.now.checked.now.configuration.columns c.args.frame.now.slots _ _ c.requires.column
-    c.requires.frame.slots c.requires.room
+    c.args.frame.now.checked.now.configuration.columns c.args.frame.now.slots _ _
+    c.requires.segment.column
+    c.requires.row.frame.slots c.requires.row.room
 
 pub read_column-requires-clause-open : goal.read_column-requires-clause-open
 read_column-requires-clause-open g c =
     let is = column_is g (goal.at.read_column-requires-clause-open g c).After-index-columns-k in
     subst (IsOpen c.args.frame.now.payload.now c.args.frame.now.checked.now.configuration.sets)
     (sym is)
-    (c.requires.open c.args.segment.now.column (omega (arith, c.requires.column, c.requires.many)))
+    (c.requires.row.opened c.args.segment.now.column (omega (
+      arith,
+      c.requires.segment.column,
+      c.requires.row.many,
+    )))
 
 pub read_column-requires-clause-held : goal.read_column-requires-clause-held
 read_column-requires-clause-held g c =
     let k = c.args.segment.now.column in
     let slots = c.args.frame.now.slots in
     let fits = fits c.args.segment.now.column c.args.frame.now.checked.now.configuration.columns
-    c.args.frame.now.slots _ _ c.requires.column c.requires.frame.slots c.requires.room in
+    c.args.frame.now.slots _ _ c.requires.segment.column c.requires.row.frame.slots
+    c.requires.row.room in
     rw (thick k slots) (part_held c.args.frame.now.checked.now.table c.args.states.now (k * slots)
-    slots fits c.requires.held)
+    slots fits c.requires.row.held)
 
 pub returns-in-Ok-clause-exact : goal.returns-in-Ok-clause-exact
 returns-in-Ok-clause-exact g c = λ coded next s less tied line.
@@ -198,17 +238,17 @@ returns-in-Ok-clause-exact g c = λ coded next s less tied line.
     let two_is = part_is c.args.above.now.two.now in
     let one_is = part_is c.args.above.now.one.now in
     let same = rw column_is at c.in-Ok.ensures.same in
-    let slots_are : slots ≡ slots_in conf = c.requires.frame.slots in
+    let slots_are : slots ≡ slots_in conf = c.requires.row.frame.slots in
     let left_is : left ≡ c.args.segment.now.index * conf.width + left_of conf p k =
     c.extent-left.ensures.left in
     let exact = rw (column_is, thick, slots_are, two_is, one_is, right, left_is) at
     c.in-Ok.ensures.exact in
     let old = slice_at s k in
-    let rolls = line.unread k (omega arith) c.requires.column in
+    let rolls = line.unread k (omega arith) c.requires.segment.column in
     let stands = stands_here a coded c.args.segment.now.row next c.args.frame.now.payload.now
     c.args.columns.now c.args.states.now s tied p c.args.segment.now.index c.args.segment.now.y
     k two one cur row
-    c.read_column.new.column c.requires.column c.requires.many same in
+    c.read_column.new.column c.requires.segment.column c.requires.row.many same in
     let raw = rw row_is at (exact old.past (plane old.cells p) c.args.segment.now.y stands
     (rw row_is rolls)) in
     let cur_back = put_samples samples law.takes law.drops law.joins left width c.args.cur.now
@@ -217,38 +257,27 @@ returns-in-Ok-clause-exact g c = λ coded next s less tied line.
     let long : length c.read_column.new.states ≡ slots_in conf = states_long g
     here.After-read_column ∙ slots_are in
     let are = c.slices_lie_beside_one_another.ensures.across conf a.table p
-    c.requires.frame.accepted in
+    c.requires.row.frame.accepted in
     rw (cur_back, thick, slots_are, right, left_is)
     (step_made a coded c.args.segment.now.row next c.args.frame.now.payload.now
     c.args.columns.now c.args.states.now s tied p c.args.segment.now.index c.args.segment.now.y
     k two one cur row
-    c.read_column.new.column c.requires.column c.requires.many same rolls c.read_column.new.states
-    c.in-Ok.ensures.small row_is less c.requires.plane c.requires.room long raw are
+    c.read_column.new.column c.requires.segment.column c.requires.row.many same rolls
+    c.read_column.new.states
+    c.in-Ok.ensures.small row_is less c.requires.segment.plane c.requires.row.room long raw are
     c.reading_its_rows_reads_the_cell.ensures.rolls
-    (omega (arith, cur_long, c.requires.cur_long)) line)
+    (omega (arith, cur_long, c.requires.long.cur)) line)
 
 pub returns-in-Ok-clause-beside : goal.returns-in-Ok-clause-beside
 returns-in-Ok-clause-beside g c = others g
     (goal.at.returns-in-Ok-clause-beside g c).After-read_column
 
-pub returns-in-Ok-clause-open : goal.returns-in-Ok-clause-open
-returns-in-Ok-clause-open g c =
-    let is = column_is g (goal.at.returns-in-Ok-clause-open g c).After-index-columns-k in
+pub returns-in-Ok-clause-row : goal.returns-in-Ok-clause-row
+returns-in-Ok-clause-row g c =
+    let here = goal.at.returns-in-Ok-clause-row g c in
+    let is = column_is g here.After-index-columns-k in
     let same = rw is at c.in-Ok.ensures.same in
-    open_next c.args.frame.now.payload.now c.args.frame.now.checked.now.configuration.sets
-    c.args.columns.now c.args.segment.now.column c.read_column.new.column
-    (omega (arith, c.requires.column, c.requires.many)) c.requires.open same c.in-Ok.ensures.open
-
-pub returns-in-Ok-clause-held : goal.returns-in-Ok-clause-held
-returns-in-Ok-clause-held g c =
-    let here = goal.at.returns-in-Ok-clause-held g c in
-    let k = c.args.segment.now.column in
-    let slots = c.args.frame.now.slots in
-    let long = states_long g here.After-read_column in
-    rw (thick k slots) (put_held c.args.states.now c.read_column.new.states (k * slots) slots
-    (fits c.args.segment.now.column c.args.frame.now.checked.now.configuration.columns
-    c.args.frame.now.slots _ _ c.requires.column c.requires.frame.slots c.requires.room) long
-    c.args.frame.now.checked.now.table c.requires.held c.in-Ok.ensures.held)
+    row_after g here.After-read_column same c.in-Ok.ensures.open c.in-Ok.ensures.held
 
 pub returns-in-Err-clause-exact : goal.returns-in-Err-clause-exact
 returns-in-Err-clause-exact g c = λ coded next s less tied line.
@@ -274,17 +303,17 @@ returns-in-Err-clause-exact g c = λ coded next s less tied line.
     let two_is = part_is c.args.above.now.two.now in
     let one_is = part_is c.args.above.now.one.now in
     let same = rw column_is at c.in-Err.ensures.same in
-    let slots_are : slots ≡ slots_in conf = c.requires.frame.slots in
+    let slots_are : slots ≡ slots_in conf = c.requires.row.frame.slots in
     let left_is : left ≡ c.args.segment.now.index * conf.width + left_of conf p k =
     c.extent-left.ensures.left in
     let exact = rw (column_is, thick, slots_are, two_is, one_is, right, left_is) at
     c.in-Err.ensures.exact in
     let old = slice_at s k in
-    let rolls = line.unread k (omega arith) c.requires.column in
+    let rolls = line.unread k (omega arith) c.requires.segment.column in
     let stands = stands_here a coded c.args.segment.now.row next c.args.frame.now.payload.now
     c.args.columns.now c.args.states.now s tied p c.args.segment.now.index c.args.segment.now.y
     k two one cur (take c.in-Err.refused.x row)
-    c.read_column.new.column c.requires.column c.requires.many same in
+    c.read_column.new.column c.requires.segment.column c.requires.row.many same in
     let raw = rw row_is at (exact old.past (plane old.cells p) c.args.segment.now.y stands
     (rw row_is rolls)) in
     let x = c.in-Err.refused.x in
@@ -293,28 +322,16 @@ returns-in-Err-clause-exact g c = λ coded next s less tied line.
     stopped a coded c.args.segment.now.row next c.args.frame.now.payload.now c.args.columns.now
     c.args.states.now s tied p c.args.segment.now.index c.args.segment.now.y k two one cur
     (take x row)
-    c.read_column.new.column c.requires.column c.requires.many same rolls x taken few
+    c.read_column.new.column c.requires.segment.column c.requires.row.many same rolls x taken few
     c.counters_from_zero_show_all_steps.ensures raw c.fault_at.result c.fault_at.ensures
 
 pub returns-in-Err-clause-beside : goal.returns-in-Err-clause-beside
 returns-in-Err-clause-beside g c = others g
     (goal.at.returns-in-Err-clause-beside g c).After-read_column
 
-pub returns-in-Err-clause-open : goal.returns-in-Err-clause-open
-returns-in-Err-clause-open g c =
-    let is = column_is g (goal.at.returns-in-Err-clause-open g c).After-index-columns-k in
+pub returns-in-Err-clause-row : goal.returns-in-Err-clause-row
+returns-in-Err-clause-row g c =
+    let here = goal.at.returns-in-Err-clause-row g c in
+    let is = column_is g here.After-index-columns-k in
     let same = rw is at c.in-Err.ensures.same in
-    open_next c.args.frame.now.payload.now c.args.frame.now.checked.now.configuration.sets
-    c.args.columns.now c.args.segment.now.column c.read_column.new.column
-    (omega (arith, c.requires.column, c.requires.many)) c.requires.open same c.in-Err.ensures.open
-
-pub returns-in-Err-clause-held : goal.returns-in-Err-clause-held
-returns-in-Err-clause-held g c =
-    let here = goal.at.returns-in-Err-clause-held g c in
-    let k = c.args.segment.now.column in
-    let slots = c.args.frame.now.slots in
-    let long = states_long g here.After-read_column in
-    rw (thick k slots) (put_held c.args.states.now c.read_column.new.states (k * slots) slots
-    (fits c.args.segment.now.column c.args.frame.now.checked.now.configuration.columns
-    c.args.frame.now.slots _ _ c.requires.column c.requires.frame.slots c.requires.room) long
-    c.args.frame.now.checked.now.table c.requires.held c.in-Err.ensures.held)
+    row_after g here.After-read_column same c.in-Err.ensures.open c.in-Err.ensures.held
