@@ -1,12 +1,14 @@
 -- Lines that stand one after the other, and what is made of them.
 use Rattle.std.proofs.Common.{◌≡◌, refl, ℕ, zero, suc, ◌+◌, ◌*◌, ◌^◌, ◌<◌, ◌≤◌, true, false, List}
+use Rattle.std.specs.Prelude.{Bool, if◌then◌else◌}
 use Rattle.std.proofs.Common.{◌++◌, length, slice_index, take, drop, ap, sym, subst, ◌∙◌, arith}
 use Rattle.std.proofs.Common.{length-drop}
 use Rattle.std.proofs.Math.Seq.{drop-append-add, take-append_seam, take-length}
 use Rattle.std.proofs.lemmas.List.{take-append-drop, take-append-le, drop-append-le}
 use Rattle.ffv1_rct.specs.Lines.{AreOnlyColoursIn, HasColourAtIn}
 use Rattle.ffv1_frame.specs.Windows.{window}
-use Rattle.ffv1_decode.specs.Internal.Finished.{line_at, Colouring, AreMade, HasBoth, IsFirstWithout}
+use Rattle.ffv1_decode.specs.Internal.Finished.{line_at, Colouring, AreMade, AreInOrder, HasBoth}
+use Rattle.ffv1_decode.specs.Internal.Finished.{IsFirstWithout}
 
 pub window_front : (at n : ℕ) (xs ys : List ℕ) → at + n ≤ length xs → window at n (xs ++ ys) ≡
     window at n xs
@@ -128,6 +130,34 @@ module _ (w : ℕ) (read y cb cr : List ℕ) (is : read ≡ y ++ (cb ++ cr)) (y_
       none = λ both. none (has_at depth (line_at w 0 read) (line_at w 1 read) (line_at w 2 read) y
           cb cr x (sym read_0) (sym read_1) (sym read_2) both.0);
     }
+
+-- where green and blue stand in an order
+abbrev pub green_at : Bool → ℕ
+green_at swapped = if swapped then 2 else 1
+
+abbrev pub blue_at : Bool → ℕ
+blue_at swapped = if swapped then 1 else 2
+
+pub green_few : (swapped : Bool) → green_at swapped < 3
+green_few true = omega arith
+green_few false = omega arith
+
+pub blue_few : (swapped : Bool) → blue_at swapped < 3
+blue_few true = omega arith
+blue_few false = omega arith
+
+pub in_order : (swapped : Bool) (depth w : ℕ) (read y cb cr r s t : List ℕ) → read ≡ y ++ (cb ++ cr)
+    → length y ≡ w → length cb ≡ w → length cr ≡ w → length r ≡ w → length s ≡ w → length t ≡ w →
+    AreInOrder swapped depth (length y) y cb cr r s t →
+    AreMade (plain depth w (green_at swapped) (blue_at swapped)) read (r ++ (s ++ t))
+in_order true depth w read y cb cr r s t is y_long cb_long cr_long r_long s_long t_long made =
+    colours_made w read y cb cr is y_long cb_long cr_long depth 2 1 (r ++ (s ++ t)) r t s
+    (line_0 w r s t r_long s_long t_long) (line_2 w r s t r_long s_long t_long)
+    (line_1 w r s t r_long s_long t_long) made
+in_order false depth w read y cb cr r s t is y_long cb_long cr_long r_long s_long t_long made =
+    colours_made w read y cb cr is y_long cb_long cr_long depth 1 2 (r ++ (s ++ t)) r s t
+    (line_0 w r s t r_long s_long t_long) (line_1 w r s t r_long s_long t_long)
+    (line_2 w r s t r_long s_long t_long) made
 
 -- a line among four
 line_fits : (w n i : ℕ) → n ≡ 3 * w → i < 3 → i * w + w ≤ n

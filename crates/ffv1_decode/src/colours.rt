@@ -2,8 +2,9 @@
 
 ghost use Rattle.std.specs.Prelude.{◌≡◌, ◌*◌, ◌^◌, ◌≤◌, ◌<◌, ℕ, OnOk, IfErr};
 ghost use Rattle.std.specs.Prelude.{Bool, length, slice_index, true, false};
+ghost use Rattle.ffv1_rct.specs.Lines.{HasColourAtIn};
 ghost use Rattle.ffv1_samples.specs.Samples.{AreBelow, bytes_of, sample_bytes, samples_of};
-ghost use Rattle.ffv1_decode.specs.Internal.Finished.{AreMade, IsFirstWithout};
+ghost use Rattle.ffv1_decode.specs.Internal.Finished.{AreMade, AreInOrder, IsFirstWithout};
 ghost use Rattle.ffv1_decode.specs.Internal.Finished.{bytes_colouring, words_colouring};
 
 use ffv1_rct::{CodedWords, inverse_line, inverse_words, narrow_line, narrow_words};
@@ -132,52 +133,67 @@ pub struct Words {
     pub extra: bool,
 }
 
-/// Red, green and blue of a line of samples of more than 8 bits, if they come in this order.
-fn straight(words: &Words, samples: &[u16], out: &mut [u8]) -> Result<(), usize>
-    requires deep { 8 < words.now.depth }
-    requires shallow { words.now.depth ≤ 15 }
-    requires samples { length samples.now ≡ 3 * words.now.width }
-    requires out { length out.old ≡ 2 * (3 * words.now.width) }
-    requires few { words.now.width ≤ 8192 }
-    ensures ok { OnOk result (AreMade (words_colouring words.now.depth words.now.width false false)
-        samples.now (samples_of words.now.depth out.new)) }
-    ensures err { IfErr result (IsFirstWithout
-        (words_colouring words.now.depth words.now.width false false) samples.now) }
+/// Red of coded lines, and green and blue in the lines after it, or the other way round.
+fn inverse_in_order(
+    swaps: bool,
+    coded: &CodedWords<'_>,
+    red: &mut [u8],
+    second: &mut [u8],
+    third: &mut [u8],
+) -> Result<(), usize>
+    requires deep { 8 < coded.now.depth }
+    requires shallow { coded.now.depth ≤ 15 }
+    requires cb { length coded.now.cb.now ≡ length coded.now.y.now }
+    requires cr { length coded.now.cr.now ≡ length coded.now.y.now }
+    requires red { length red.old ≡ 2 * length coded.now.y.now }
+    requires second { length second.old ≡ 2 * length coded.now.y.now }
+    requires third { length third.old ≡ 2 * length coded.now.y.now }
+    ensures ok { OnOk result (AreInOrder swaps coded.now.depth (length coded.now.y.now)
+        coded.now.y.now coded.now.cb.now coded.now.cr.now (samples_of coded.now.depth red.new)
+        (samples_of coded.now.depth second.new) (samples_of coded.now.depth third.new)) }
+    ensures inside { IfErr result (λ x. x < length coded.now.y.now) }
+    ensures filled { IfErr result (λ x. AreInOrder swaps coded.now.depth x
+        coded.now.y.now coded.now.cb.now coded.now.cr.now (samples_of coded.now.depth red.new)
+        (samples_of coded.now.depth second.new) (samples_of coded.now.depth third.new)) }
+    ensures none { IfErr result (λ x. HasColourAtIn coded.now.depth coded.now.y.now
+        coded.now.cb.now coded.now.cr.now x → ⊥) }
 {
-    let Words { depth, width, .. } = *words;
-    let (y, chroma) = samples.split_at(width);
-    let (cb, cr) = chroma.split_at(width);
-    let (red, rest) = out.split_at_mut(2 * width);
-    let (second, third) = rest.split_at_mut(2 * width);
-    let coded = CodedWords { y, cb, cr, depth };
-    match inverse_words(&coded, red, second, third) {
+    if swaps {
+        return match inverse_words(coded, red, third, second) {
+            Ok(()) => Ok(()),
+            Err(none) => Err(none.x),
+        };
+    }
+    match inverse_words(coded, red, second, third) {
         Ok(()) => Ok(()),
         Err(none) => Err(none.x),
     }
 }
 
-/// The same if green and blue change places.
-fn swapped(words: &Words, samples: &[u16], out: &mut [u8]) -> Result<(), usize>
+/// Red, green and blue of a line of samples of more than 8 bits, or the first place that has none.
+fn coloured_words(words: &Words, samples: &[u16], out: &mut [u8]) -> Result<(), usize>
     requires deep { 8 < words.now.depth }
     requires shallow { words.now.depth ≤ 15 }
     requires samples { length samples.now ≡ 3 * words.now.width }
     requires out { length out.old ≡ 2 * (3 * words.now.width) }
     requires few { words.now.width ≤ 8192 }
-    ensures ok { OnOk result (AreMade (words_colouring words.now.depth words.now.width true false)
-        samples.now (samples_of words.now.depth out.new)) }
-    ensures err { IfErr result (IsFirstWithout
-        (words_colouring words.now.depth words.now.width true false) samples.now) }
+    ensures ok { OnOk result (AreMade (words_colouring words.now.depth words.now.width
+        words.now.swaps false) samples.now (samples_of words.now.depth out.new)) }
+    ensures err { IfErr result (IsFirstWithout (words_colouring words.now.depth words.now.width
+        words.now.swaps false) samples.now) }
 {
-    let Words { depth, width, .. } = *words;
+    let Words {
+        depth,
+        width,
+        swaps,
+        ..
+    } = *words;
     let (y, chroma) = samples.split_at(width);
     let (cb, cr) = chroma.split_at(width);
     let (red, rest) = out.split_at_mut(2 * width);
     let (second, third) = rest.split_at_mut(2 * width);
     let coded = CodedWords { y, cb, cr, depth };
-    match inverse_words(&coded, red, third, second) {
-        Ok(()) => Ok(()),
-        Err(none) => Err(none.x),
-    }
+    inverse_in_order(swaps, &coded, red, second, third)
 }
 
 /// Transparency of a line of samples of more than 8 bits, or the first place that has more bits.
@@ -204,15 +220,15 @@ fn transparent_words(words: &Words, samples: &[u16], out: &mut [u8]) -> Result<(
     requires samples { length samples.now ≡ 4 * words.now.width }
     requires out { length out.old ≡ 2 * (4 * words.now.width) }
     requires few { words.now.width ≤ 8192 }
-    ensures ok { OnOk result (AreMade (words_colouring words.now.depth words.now.width false true)
-        samples.now (samples_of words.now.depth out.new)) }
-    ensures err { IfErr result (IsFirstWithout
-        (words_colouring words.now.depth words.now.width false true) samples.now) }
+    ensures ok { OnOk result (AreMade (words_colouring words.now.depth words.now.width
+        words.now.swaps true) samples.now (samples_of words.now.depth out.new)) }
+    ensures err { IfErr result (IsFirstWithout (words_colouring words.now.depth words.now.width
+        words.now.swaps true) samples.now) }
 {
     let Words { depth, width, .. } = *words;
     let (coded, alpha) = samples.split_at(3 * width);
     let (three, fourth) = out.split_at_mut(2 * (3 * width));
-    match straight(words, coded, three) {
+    match coloured_words(words, coded, three) {
         Ok(()) => transparency_words(depth, alpha, fourth),
         Err(x) => {
             transparency_words(depth, &alpha[..x], &mut fourth[..2 * x])?;
@@ -225,7 +241,6 @@ fn transparent_words(words: &Words, samples: &[u16], out: &mut [u8]) -> Result<(
 pub(crate) fn word_colours(words: &Words, samples: &[u16], out: &mut [u8]) -> Result<(), usize>
     requires deep { 8 < words.now.depth }
     requires shallow { words.now.depth ≤ 15 }
-    requires apart { words.now.extra ≡ true → words.now.swaps ≡ false }
     requires four { words.now.extra ≡ true → length samples.now ≡ 4 * words.now.width }
     requires three { words.now.extra ≡ false → length samples.now ≡ 3 * words.now.width }
     requires out { length out.old ≡ 2 * length samples.now }
@@ -238,8 +253,5 @@ pub(crate) fn word_colours(words: &Words, samples: &[u16], out: &mut [u8]) -> Re
     if words.extra {
         return transparent_words(words, samples, out);
     }
-    if words.swaps {
-        return swapped(words, samples, out);
-    }
-    straight(words, samples, out)
+    coloured_words(words, samples, out)
 }

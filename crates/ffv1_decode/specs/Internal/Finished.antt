@@ -29,6 +29,12 @@ pub record Colouring : Type 0 where
   pub blue : ℕ
   pub extra : Bool
 
+-- red, and green and blue in the lines after it, or the other way round, of the first n places
+abbrev pub AreInOrder : Bool → ℕ → ℕ → List ℕ → List ℕ → List ℕ → List ℕ → List ℕ → List ℕ → Type 0
+AreInOrder swapped depth n y cb cr red second third =
+    AreOnlyColoursIn depth n y cb cr red (if swapped then third else second)
+    (if swapped then second else third)
+
 -- of samples of 8 bits; of more bits, whose green and blue may change places
 abbrev pub bytes_colouring : ℕ → Bool → Colouring
 bytes_colouring width extra =

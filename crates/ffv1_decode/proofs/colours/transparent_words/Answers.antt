@@ -9,7 +9,7 @@ use Rattle.ffv1_samples.proofs.Depths.{samples_back}
 use Rattle.ffv1_decode.specs.Internal.Finished.{AreMade}
 use Rattle.ffv1_frame.proofs.Words.{words_append, words_long}
 use Rattle.ffv1_decode.proofs.FinishedLines.{full, two_parts, both_made, alpha_end, colour_end}
-use Rattle.ffv1_decode.proofs.FinishedLines.{sooner_end}
+use Rattle.ffv1_decode.proofs.FinishedLines.{sooner_end, green_at, blue_at, green_few, blue_few}
 use Rattle.ffv1_decode.proofs.colours.transparent_words.Goals.{After-split_at}
 use Rattle.ffv1_decode.proofs.colours.transparent_words.Goals as goal
 
@@ -33,18 +33,20 @@ returns-in-Ok-clause-ok c =
     let is = parts_are here in
     let coded_long : length coded ≡ 3 * w = c.split_at.ensures.front_len in
     let alpha_long = rest_long here in
-    let three = c.straight.new.out in
+    let three = c.coloured_words.new.out in
     let fourth = c.transparency_words.new.out in
-    let room : length three ≡ 2 * (3 * w) = c.straight.auto.out ∙
+    let room : length three ≡ 2 * (3 * w) = c.coloured_words.auto.out ∙
     c.split_at_mut-three.ensures.front_len in
     let long : length (samples_of d three) ≡ 3 * w = words_long d (3 * w) c.requires.deep three
     room in
     let all = words_append d (3 * w) c.requires.deep three fourth room in
     ok_both c.transparency_words.result c.transparency_words.ensures.ok
     c.transparency_words.ensures.small
-    (λ u made small. subst (AreMade (full d w 1 2) c.args.samples.now) (sym all)
-    (both_made w c.args.samples.now coded alpha is coded_long alpha_long d 1 2 (omega arith)
-    (omega arith) (samples_of d three) (samples_of d fourth) long c.in-Ok.ensures.ok
+    (λ u made small. subst (AreMade (full d w (green_at k.swaps) (blue_at k.swaps))
+    c.args.samples.now) (sym all)
+    (both_made w c.args.samples.now coded alpha is coded_long alpha_long d (green_at k.swaps)
+    (blue_at k.swaps) (green_few k.swaps) (blue_few k.swaps) (samples_of d three) (samples_of d
+    fourth) long c.in-Ok.ensures.ok
     (ap (samples_of d) made ∙ samples_back d alpha) small))
 
 pub returns-in-Ok-clause-err : goal.returns-in-Ok-clause-err
@@ -61,7 +63,8 @@ returns-in-Ok-clause-err c =
     err_all c.transparency_words.result c.transparency_words.ensures.inside
     c.transparency_words.ensures.before c.transparency_words.ensures.above
     (λ x inside before above. alpha_end w c.args.samples.now coded alpha is coded_long alpha_long d
-    1 2 (samples_of d c.straight.new.out) x c.in-Ok.ensures.ok inside before above)
+    (green_at k.swaps) (blue_at k.swaps) (samples_of d c.coloured_words.new.out) x
+    c.in-Ok.ensures.ok inside before above)
 
 pub returns-in_ok-transparency_words-in-Err-clause-err :
     goal.returns-in_ok-transparency_words-in-Err-clause-err
@@ -78,7 +81,8 @@ returns-in_ok-transparency_words-in-Err-clause-err c =
     let x = c.in-Err.x in
     let small : (y : ℕ) → y < x → slice_index alpha y < 2 ^ d = λ y h. subst (λ z. z < 2 ^ d)
     (get_or-take x alpha y 0 h) (c.in_ok-transparency_words-in-Err.ensures.small y) in
-    colour_end w c.args.samples.now coded alpha is coded_long alpha_long d 1 2 x
+    colour_end w c.args.samples.now coded alpha is coded_long alpha_long d
+    (green_at k.swaps) (blue_at k.swaps) x
     c.in-Err.ensures.err small
 
 pub returns-in_err-transparency_words-in-Err-clause-err :
@@ -105,5 +109,5 @@ returns-in_err-transparency_words-in-Err-clause-err c =
     let above : 2 ^ d ≤ slice_index alpha y = subst (λ v. 2 ^ d ≤ v) (get_or-take x alpha y 0 less)
     c.in_err-transparency_words-in-Err.ensures.above in
     let stop = err_from_is_err_and c.from_residual.result c.from_residual.ensures.1 in
-    rw (stop.1, stop.2) (sooner_end w c.args.samples.now coded alpha is coded_long alpha_long d 1 2
-    x y end less before above)
+    rw (stop.1, stop.2) (sooner_end w c.args.samples.now coded alpha is coded_long alpha_long d
+    (green_at k.swaps) (blue_at k.swaps) x y end less before above)
