@@ -75,7 +75,8 @@ module _ (first : Option ℕ) (old mid new : Option (List ℕ)) (before now afte
   pub matroska_reached : (r : matroska_reader.Standing) (offset : ℕ) → matroska.OffsetOpened handed (Ok r) offset → Reached scope.Whole old new (in_matroska r)
   matroska_reached r offset (count, inl whole, is) =
       record { whole = inl (r.track.head, record { first = r.place; between = new; before = count; after = 0; opened = whole_with first old mid new gives whole; framed = reads_none (matroska.element_taken r.track.numbers) r.place new; offset_is = is ∙ offset_same 0 count (2 ^ 64 - 1) }) }
-  matroska_reached r offset (count, inr ends, is) = record { whole = inr ends }
+  matroska_reached r offset (count, inr (over, ends), is) =
+      record { whole = inr (over, r.track.head, (count, record { here = ends.here; between = ends.between; before = whole_with first old mid ends.between gives ends.before; none = ends.none }, is)) }
 
   pub matroska_stopped : (f : FileFault) (offset : ℕ) → matroska.OffsetOpened handed (Err f) offset → StopsAt scope.Whole all f offset
   matroska_stopped f offset h = record { whole = inr (inl (h.0, h.1, opening_with first old mid new before now after f same gives h.2, h.3)) }
@@ -141,13 +142,13 @@ not_over : (f : FileFault) → ◌≡◌ {A = Result Bool FileFault} (Err f) (Ok
 not_over f e = cc
 
 matroska_on : (text : Option (List ℕ)) (old new : matroska_reader.Standing) (p : Passage) → new.track ≡ old.track → Over old (Ok true) → matroska.OffsetAfter old p (Ok true) new → MatroskaReached text p.old old.track.numbers old.place old.offset → MatroskaReached text p.new new.track.numbers new.place new.offset
-matroska_on text old new p same over h (inr ends) = absurd (not_false (over ends))
+matroska_on text old new p same over h (inr ends) = absurd (not_false (over ends.0))
 matroska_on text old new p same over (n, whole, is) (inl (head, h)) =
     subst (λ (t : Track). MatroskaReached text p.new t.numbers new.place new.offset) (sym same)
     (inl (head, through_on n h whole (is ∙ rw h.offset_is (goes_on h.before h.after n (2 ^ 64 - 1)))))
 
 matroska_stops_on : (text : Option (List ℕ)) (old new : matroska_reader.Standing) (p : Passage) (f : FileFault) → Over old (Err f) → matroska.OffsetAfter old p (Err f) new → MatroskaReached text p.old old.track.numbers old.place old.offset → MatroskaStops (record p { old = text }) f new.offset
-matroska_stops_on text old new p f over h (inr ends) = absurd (not_over f (over ends))
+matroska_stops_on text old new p f over h (inr ends) = absurd (not_over f (over ends.0))
 matroska_stops_on text old new p f over (to, n, stops, is) (inl (head, h)) = inr (record { numbers = old.track.numbers; head = head }, stops_on p f n h stops (is ∙ rw h.offset_is (goes_on h.before h.after n (2 ^ 64 - 1))))
 
 pub matroska_located : (s : Scope) (text : Option (List ℕ)) (old new : matroska_reader.Standing) (p : Passage) (r : Result Bool FileFault) → matroska_reader.StandsAfter old r new → matroska.OffsetAfter old p r new → Over old r → Reached s text p.old (in_matroska old) → LocatedNext s text p r (in_matroska new)

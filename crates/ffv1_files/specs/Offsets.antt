@@ -73,7 +73,7 @@ AviStops extent p f offset =
     × (offset ≡ offset_after 0 count))
     ⊎ ((head : Head) × StopsThrough (avi_layout extent head) p f offset)
 
--- a Matroska file, whose Segment may end before any Cluster
+-- a Matroska file
 abbrev pub matroska_layout : Track → Layout matroska.Spot MatroskaPlace
 matroska_layout track = record {
   opening = matroska.spot_taken;
@@ -82,13 +82,20 @@ matroska_layout track = record {
   begun = λ first. matroska.BeforeFrames track first;
 }
 
+-- its Segment ended before any Cluster, after elements of as many bytes as the offset says
+abbrev pub EndsEarly : Option (List ℕ) → Option (List ℕ) → Track → ℕ → Type 0
+EndsEarly text left track offset =
+    (count : ℕ) × matroska.EndsBeforeFrames matroska.Start text left track count
+    × (offset ≡ offset_after 0 count)
+
 abbrev pub MatroskaReached : Option (List ℕ) → Option (List ℕ) → TrackNumbers → MatroskaPlace → ℕ →
     Type 0
 MatroskaReached text left numbers place offset =
     ((head : Head)
     × ReadsThrough (matroska_layout (record { numbers = numbers; head = head })) text left place
     offset)
-    ⊎ (place ≡ ended)
+    ⊎ ((place ≡ ended) × (head : Head)
+    × EndsEarly text left (record { numbers = numbers; head = head }) offset)
 
 abbrev pub MatroskaStops : Passage → FileFault → ℕ → Type 0
 MatroskaStops p f offset =

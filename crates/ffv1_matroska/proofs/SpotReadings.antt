@@ -175,4 +175,4 @@ opening_from {to = to} {c = c} {last = last} {f = f} same h stops =
 pub frames_from : {from between : Spot} {a b c : Option (List ℕ)} {m n : ℕ} (before mid last : ℕ) (track : Track) (place : Place) → ReadsWhole spot_taken from a b between m → FramesBegin between (record { old = b; new = c; before = mid; after = last }) track place n →
     FramesBegin from (record { old = a; new = c; before = before; after = last }) track place (m + n)
 frames_from before mid last track place h (inl whole) = inl (reads_then h whole)
-frames_from before mid last track place h (inr is) = inr is
+frames_from before mid last track place h (inr (is, ends)) = inr (is, record { here = ends.here; between = ends.between; before = reads_then h ends.before; none = ends.none })

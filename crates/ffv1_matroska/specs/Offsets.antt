@@ -3,7 +3,7 @@
 use Rattle.std.specs.Prelude.{◌≡◌, ◌⊎◌, ◌+◌, ◌==◌, if◌then◌else◌, ℕ, Bool, true, false, List}
 use Rattle.std.specs.Prelude.{Option, Some, None, Result, Ok, Err, ⊤}
 use Rattle.ffv1_wire.specs.Passage.{Passage}
-use Rattle.ffv1_reads.specs.Ends.{RefusedOrFaults}
+use Rattle.ffv1_reads.specs.Ends.{ReadOrNone, RefusedOrFaults}
 use Rattle.ffv1_reads.specs.declared.fault.FileFault.TheVariants as fault
 use Rattle.ffv1_matroska.specs.Internal.{track_kept}
 use Rattle.ffv1_matroska.specs.declared.track.Numbers.{Numbers}
@@ -76,10 +76,20 @@ pub record OpeningStops (from : Spot) (p : Passage) (f : FileFault) (to : Spot) 
   pub refused : RefusedOrFaults fault.NoTracks (λ _. Unit {0}) (spot_taken to)
       between p.new p.before p.after f
 
--- the frames of a file begin after elements of so many bytes; or it ends before them
+-- elements of so many bytes were read whole, Tracks among them, and no element of the Segment comes
+-- next
+pub record EndsBeforeFrames (from : Spot) (old new : Option (List ℕ)) (track : Track) (count : ℕ)
+    : Type 0 where
+  pub here : Place
+  pub between : Option (List ℕ)
+  pub before : ReadsWhole spot_taken from old between (InSegment (Some track) here) count
+  pub none : ReadOrNone (header_read here) between new None
+
+-- the frames of a file begin after elements of so many bytes; or it ends after these, before any
 abbrev pub FramesBegin : Spot → Passage → Track → Place → ℕ → Type 0
 FramesBegin from p track place count =
-    ReadsWhole spot_taken from p.old p.new (BeforeFrames track place) count ⊎ (place ≡ ended)
+    ReadsWhole spot_taken from p.old p.new (BeforeFrames track place) count
+    ⊎ ((place ≡ ended) × EndsBeforeFrames from p.old p.new track count)
 
 -- the elements of a Segment before the frames: if these begin, `here` is the place where they do;
 -- if an element was refused, it is the place before that

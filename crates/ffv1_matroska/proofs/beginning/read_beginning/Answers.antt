@@ -259,5 +259,14 @@ returns-in_default-found-2-clause-from g c =
     )
 
 pub returns-clause-from : goal.returns-clause-from
-returns-clause-from g c = let inv = c.loop-element.invariant in
-    (inv.4, inr c.ended.ensures, λ flat. (inv.6 flat).1)
+returns-clause-from g c =
+    let inv = c.loop-element.invariant in
+    let before = rw c.in-Some-found-2.is at inv.5 in
+    let answer = rw c.in_default.is at c.in_ok-element.ensures.answer in (
+      inv.4,
+      inr (
+        c.ended.ensures,
+        record { here = c.loop-element.here; between = _; before = before; none = answer.1 },
+      ),
+      λ flat. (inv.6 flat).1,
+    )
