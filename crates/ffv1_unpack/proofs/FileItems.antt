@@ -1,5 +1,5 @@
 -- All items of a file are judged.
-use Rattle.std.proofs.Common.{◌≡◌, refl, ℕ, ◌+◌, ◌<◌, Bool, true, false, Option, Some, None, Ok, Err, List, [], ◌∷◌, ◌++◌, length, take, inl, inr, ap, sym, subst, ◌∙◌, arith}
+use Rattle.std.proofs.Common.{◌≡◌, refl, ℕ, Bool, Option, Some, None, Ok, Err, List, [], ◌∷◌, ◌++◌, length, inl, inr, ap, sym, subst, ◌∙◌, arith}
 use Rattle.std.specs.Io.KnownBytes.{Appends}
 use Rattle.std.proofs.KnownBytes.{Appends-trans, Appends-kept}
 use Rattle.ffv1_range.specs.Counts.{saturated}
@@ -20,8 +20,8 @@ use Rattle.ffv1_video.specs.Faults.Cause.{Reading, Writing, Memory, Content}
 use Rattle.ffv1_video.specs.Profiles.{byte_told, scope_in}
 use Rattle.ffv1_video.proofs.KnownTexts.{known_map, known_then}
 use Rattle.ffv1_unpack.specs.declared.judging.JudgedCounts.{JudgedCounts}
-use Rattle.ffv1_unpack.specs.Judged.{counts_line, with_refusal}
-use Rattle.ffv1_unpack.specs.JudgedItems.{CountFailsBy, ItemsAll, ItemsCame, ItemsDone, ItemsFault, ItemsFrom, ItemsGo, ItemsLack, ItemsNext, ItemsOver, ItemsStay, ItemsStopBy, ItemsThen, ItemsWant, ItemsWritten, JudgedItem, OfFrame, ToldAt, fault_of, faults_of, frames_of, item_count, item_lines}
+use Rattle.ffv1_unpack.specs.Judged.{counts_line}
+use Rattle.ffv1_unpack.specs.JudgedItems.{CountFailsBy, ItemsAll, ItemsCame, ItemsDone, ItemsFault, ItemsFrom, ItemsGo, ItemsLack, ItemsNext, ItemsOver, ItemsStay, ItemsStopBy, ItemsThen, ItemsWant, ItemsWritten, JudgedItem, OfFrame, ToldAt, faults_of, frames_of, item_count, item_lines}
 use Rattle.ffv1_unpack.specs.Located.{LocatedFault, WritesLine, located_text}
 use Rattle.ffv1_unpack.specs.Opens.{LacksOpening}
 use Rattle.ffv1_unpack.specs.Internal.JudgedItems.{AreItemCounts}

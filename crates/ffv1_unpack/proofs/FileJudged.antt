@@ -1,64 +1,83 @@
--- All frames of a file are judged.
-use Rattle.std.proofs.Common.{◌≡◌, refl, ℕ, Bool, Option, None, Ok, Err, List, ◌++◌, length, subst, ◌∙◌, arith}
+-- The frames of a range are judged.
+use Rattle.std.proofs.Common.{◌≡◌, refl, ℕ, Bool, Option, Err, List, ◌++◌, length, inl, inr, subst, ◌∙◌, arith}
 use Rattle.std.specs.Io.KnownBytes.{Appends}
 use Rattle.std.proofs.KnownBytes.{Appends-trans}
 use Rattle.ffv1_range.specs.Counts.{saturated}
 use Rattle.ffv1_wire.specs.Passage.{between}
 use Rattle.ffv1_record.specs.Accepted.{Accepted}
+use Rattle.ffv1_record.specs.Configuration.{Configuration}
+use Rattle.ffv1_files.specs.Offsets.{Reached}
 use Rattle.ffv1_files.specs.Places.{Place}
-use Rattle.ffv1_files.specs.Files.{frame_read, open_read}
 use Rattle.ffv1_files.specs.Readers.{Standing}
+use Rattle.ffv1_reads.specs.Known.{Known}
+use Rattle.ffv1_words.specs.declared.order.FrameRange.{FrameRange}
 use Rattle.ffv1_video.specs.declared.profile.Profile.{Profile}
-use Rattle.ffv1_video.specs.Profiles.{scope_in}
+use Rattle.ffv1_video.specs.Profiles.{byte_told, scope_in}
 use Rattle.ffv1_video.specs.declared.fault.Fault.{Fault}
 use Rattle.ffv1_video.specs.declared.fault.Fault.TheVariants as fault
+use Rattle.ffv1_video.specs.Faults.{cause_of}
 use Rattle.ffv1_unpack.specs.declared.judging.JudgedCounts.{JudgedCounts}
-use Rattle.ffv1_unpack.specs.CheckAll.{CheckAllDone, CheckAllStops, judged_count}
-use Rattle.ffv1_unpack.specs.Judged.{IsJudged, Judged, counts_line, judged_lines, payload_of, payloads_of}
+use Rattle.ffv1_unpack.specs.CheckAll.{CheckAllRangeDone, CheckAllRangeStops, judged_count}
+use Rattle.ffv1_unpack.specs.Judged.{IsJudged, Judged, counts_line, judged_from, payload_of}
 use Rattle.ffv1_unpack.specs.Internal.Judged.{AreCounts}
-use Rattle.ffv1_unpack.specs.Internal.Opens.{OpensStream, stream_of}
-use Rattle.ffv1_unpack.specs.Plays.{FileThen, HasThen, NextOver}
-use Rattle.ffv1_unpack.specs.Internal.Plays.{PlaysAll}
-use Rattle.ffv1_unpack.specs.Stream.{HoldsPayloads, ReadsFrames}
+use Rattle.ffv1_unpack.specs.Internal.Located.{LocatedAfter}
+use Rattle.ffv1_unpack.specs.Internal.Opens.{OpensRange, stream_of}
+use Rattle.ffv1_unpack.specs.Plays.{GoesFrom, HasThen, NextBehind}
+use Rattle.ffv1_unpack.specs.Ranges.{RangeThen, number_in}
+use Rattle.ffv1_unpack.specs.Internal.Plays.{PlaysMost}
 use Rattle.ffv1_unpack.specs.Internal.Told.{WritesFrame}
-use Rattle.ffv1_unpack.proofs.FileChecked.{last_stops, no_frames}
-use Rattle.ffv1_unpack.proofs.FilePlayed.{file_has}
+use Rattle.ffv1_unpack.proofs.FileChecked.{check_goes, last_stops, no_frames}
+use Rattle.ffv1_unpack.proofs.FilePlayed.{goes_file}
 use Rattle.ffv1_unpack.proofs.FileRead.{positive}
-use Rattle.ffv1_video.proofs.KnownTexts.{known_map}
+use Rattle.ffv1_unpack.proofs.FramesPassed.{range_has}
 
-module _ (profile : Profile) (place : Bool) (i0 i1 i2 o0 o1 o2 : Option (List ℕ)) (ib im ia ob om oa : ℕ) (r : Standing) (a : Accepted) (opens : OpensStream profile r a (between i0 i1 ib im))
-    (js : List Judged) (counts : JudgedCounts) (counted : AreCounts counts js)
-    (all : PlaysAll (IsJudged a) payload_of (HasThen r.place) (judged_lines place a.configuration) (between i1 i2 im ia) (between o0 o1 ob om) js) where
-  pub none_judged : counts.frames ≡ 0 → CheckAllStops profile place (between i0 i2 ib ia) (between o0 o1 ob om) fault.NoFrames
-  none_judged none =
-      let is = counted.frames in
-      let few : length js ≡ 0 = omega (arith, is, none) in
-      no_frames IsJudged payload_of (judged_lines place) judged_count profile place i0 i1 i2 o0 o1 o2 ib im ia ob om oa r a opens js all refl few
+module _ (profile : Profile) (place : Bool) (range : FrameRange) (i0 i1 i2 o0 o1 o2 : Option (List ℕ)) (ib im ia ob om oa : ℕ) (r : Standing) (a : Accepted)
+    (opens : OpensRange profile range.first r a (between i0 i1 ib im)) where
+  abbrev told : Configuration → List Judged → List ℕ
+  told c = judged_from place c range.first
 
-  pub count_stops : (f : Fault) → WritesFrame (counts_line counts.frames counts.faults) (between o1 o2 om oa) (Err f) → CheckAllStops profile place (between i0 i2 ib ia) (between o0 o2 ob oa) f
-  count_stops f h =
-      last_stops IsJudged payload_of (judged_lines place) judged_count profile place i0 i1 i2 o0 o1 o2 ib im ia ob om oa r a opens js all f
-      (subst (λ n. WritesFrame (counts_line (saturated (length js)) n) (between o1 o2 om oa) (Err f)) counted.faults
-      (subst (λ n. WritesFrame (counts_line n counts.faults) (between o1 o2 om oa) (Err f)) counted.frames h))
+  abbrev leads : (ps : List (List ℕ)) (Next : Place → List ℕ → List ℕ → Type 0) → Known i1 i2 (HasThen r.place ps Next) → Known i0 i2 (RangeThen profile range.first r.head ps Next)
+  leads = range_has profile range.first r.head r.place i0 i1 i2 opens.known
 
-  pub all_done : (counts.frames ≡ 0 → ⊥) →
-      ((file behind rest : List ℕ) (from to : Place) (at : List ℕ) → open_read (scope_in profile) file ≡ Ok ((r.head, from), behind) → ReadsFrames from behind (payloads_of js) to at →
-      frame_read to at ≡ Ok (None, rest) → HoldsPayloads profile file rest r.head (payloads_of js)) →
-      oa ≡ om → Appends o1 o2 (counts_line counts.frames counts.faults) → CheckAllDone profile place (between i0 i2 ib ia) (between o0 o2 ob oa) counts.first
-  all_done some_frames holds kept writes = record {
-    stream = stream_of r a;
-    judged = js;
-    some = positive js (λ none. some_frames (let is = counted.frames in let zero_is : counts.frames ≡ 0 = omega (arith, is, none) in zero_is));
-    is = opens.stream;
-    are = all.plays.goes.are;
-    reads =
-        known_map i0 i2 (FileThen profile r.head (payloads_of js) NextOver) (λ file rest. HoldsPayloads profile file rest r.head (payloads_of js))
-        (λ file rest p. holds file p.1 rest p.0 p.3.0 p.3.1 p.2 p.3.2 p.3.3) (file_has profile i0 i1 i2 r.head r.place opens.known (payloads_of js) NextOver all.plays.goes.has);
-    kept = all.kept ∙ opens.kept;
-    written = kept ∙ all.plays.wrote.written;
-    writes =
-        subst (λ n. Appends o0 o2 (judged_lines place a.configuration js ++ counts_line (saturated (length js)) n)) counted.faults
-        (subst (λ n. Appends o0 o2 (judged_lines place a.configuration js ++ counts_line n counts.faults)) counted.frames
-        (Appends-trans o0 o1 o2 (judged_lines place a.configuration js) (counts_line counts.frames counts.faults) all.plays.wrote.writes writes));
-    told = counted.first;
-  }
+  pub judging_stops : Reached (scope_in profile) i0 i1 r → (f : Fault) →
+      GoesFrom (IsJudged a) payload_of (HasThen r.place) (told a.configuration) (between i1 i2 im ia) (between o0 o1 ob om) (number_in range) (LocatedAfter r (between i1 i2 im ia)) (byte_told profile place) f (cause_of f) →
+      CheckAllRangeStops profile place range (between i0 i2 ib ia) (between o0 o1 ob om) f
+  judging_stops reached f h =
+      inr (inl (check_goes IsJudged payload_of told judged_count (RangeThen profile range.first) range.count (number_in range) profile place i0 i1 i2 o0 o1 o2 ib im ia ob om oa r a opens.stream leads opens.kept
+      reached f (cause_of f) h))
+
+  module _ (js : List Judged) (counts : JudgedCounts) (counted : AreCounts counts js)
+      (all : PlaysMost (IsJudged a) payload_of (HasThen r.place) (told a.configuration) (between i1 i2 im ia) (between o0 o1 ob om) range.count js) where
+    pub none_judged : counts.frames ≡ 0 → CheckAllRangeStops profile place range (between i0 i2 ib ia) (between o0 o1 ob om) fault.NoFrames
+    none_judged none =
+        let is = counted.frames in
+        let few : length js ≡ 0 = omega (arith, is, none) in
+        inr (inr (no_frames IsJudged payload_of told judged_count (RangeThen profile range.first) range.count (number_in range) profile place i0 i1 i2 o0 o1 o2 ib im ia ob om oa r a opens.stream leads opens.kept
+        js all refl few))
+
+    pub count_stops : (f : Fault) → WritesFrame (counts_line counts.frames counts.faults) (between o1 o2 om oa) (Err f) → CheckAllRangeStops profile place range (between i0 i2 ib ia) (between o0 o2 ob oa) f
+    count_stops f h =
+        inr (inr (last_stops IsJudged payload_of told judged_count (RangeThen profile range.first) range.count (number_in range) profile place i0 i1 i2 o0 o1 o2 ib im ia ob om oa r a opens.stream leads opens.kept
+        js all f
+        (subst (λ n. WritesFrame (counts_line (saturated (length js)) n) (between o1 o2 om oa) (Err f)) counted.faults
+        (subst (λ n. WritesFrame (counts_line n counts.faults) (between o1 o2 om oa) (Err f)) counted.frames h))))
+
+    pub all_done : (counts.frames ≡ 0 → ⊥) → oa ≡ om → Appends o1 o2 (counts_line counts.frames counts.faults) →
+        CheckAllRangeDone profile place range (between i0 i2 ib ia) (between o0 o2 ob oa) counts.first
+    all_done some_frames kept writes = record {
+      stream = stream_of r a;
+      judged = js;
+      some = positive js (λ none. some_frames (let is = counted.frames in let zero_is : counts.frames ≡ 0 = omega (arith, is, none) in zero_is));
+      few = all.few;
+      is = opens.stream;
+      are = all.plays.goes.are;
+      reads = (goes_file (IsJudged a) payload_of (told a.configuration) (HasThen r.place) (RangeThen profile range.first r.head) i0 i1 i2 o0 o1 ib im ia ob om leads opens.kept js
+          (NextBehind range.count (length js)) all.plays.goes).has;
+      kept = all.kept ∙ opens.kept;
+      written = kept ∙ all.plays.wrote.written;
+      writes =
+          subst (λ n. Appends o0 o2 (told a.configuration js ++ counts_line (saturated (length js)) n)) counted.faults
+          (subst (λ n. Appends o0 o2 (told a.configuration js ++ counts_line n counts.faults)) counted.frames
+          (Appends-trans o0 o1 o2 (told a.configuration js) (counts_line counts.frames counts.faults) all.plays.wrote.writes writes));
+      told = counted.first;
+    }

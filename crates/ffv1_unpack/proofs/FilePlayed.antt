@@ -2,7 +2,7 @@
 use Rattle.std.proofs.Common.{◌≡◌, refl, ℕ, Bool, Option, Ok, List, [], length, map, inl, inr, ap, subst, ◌∙◌, arith}
 use Rattle.ffv1_range.specs.Counts.{saturated}
 use Rattle.ffv1_wire.specs.Failures.{one_more}
-use Rattle.ffv1_wire.specs.Passage.{Passage, between}
+use Rattle.ffv1_wire.specs.Passage.{between}
 use Rattle.ffv1_record.specs.Accepted.{Accepted}
 use Rattle.ffv1_files.specs.declared.container.Scope.{Scope}
 use Rattle.ffv1_files.specs.Files.{open_read}
@@ -17,14 +17,14 @@ use Rattle.ffv1_video.specs.declared.fault.Fault.TheVariants as fault
 use Rattle.ffv1_video.specs.Faults.{Cause, cause_of}
 use Rattle.ffv1_video.specs.Faults.Cause.{Reading, Writing, Memory, Content}
 use Rattle.ffv1_unpack.specs.Internal.Located.{LocatedAfter}
-use Rattle.ffv1_unpack.specs.Located.{LocatedFault, WritesLocated}
+use Rattle.ffv1_unpack.specs.Located.{LocatedFault, WritesLine, located_text}
 use Rattle.ffv1_unpack.specs.Opens.{LacksOpening, OpensKnown}
 use Rattle.ffv1_unpack.specs.Internal.Opens.{OpensStream, stream_of}
 use Rattle.ffv1_unpack.specs.Play.End.{Over}
-use Rattle.ffv1_unpack.specs.Plays.{FileStops, FileThen, FramesThen, GoesBy, GoesThen, HasThen, NextEnds, NextHasFault, NextLacks, NextReadFails, NextStays, PlaysFile, PlaysThen, PlayStops, PlayStopsBy, RefusedAfter, TextFails}
+use Rattle.ffv1_unpack.specs.Plays.{FileStops, FileThen, FramesThen, GoesFrom, GoesThen, HasThen, NextEnds, NextHasFault, NextLacks, NextReadFails, NextStays, PlaysFile, PlaysThen, PlayStops, PlayStopsBy, RefusedFrom, StreamGoes, TextFails}
 use Rattle.ffv1_unpack.specs.Internal.Plays.{PlaysAll}
 use Rattle.ffv1_video.specs.Profiles.{scope_in}
-use Rattle.ffv1_unpack.specs.Stream.{Frame, IsFrame, ReadsFile, Stream, frame_payload}
+use Rattle.ffv1_unpack.specs.Stream.{Frame, IsFrame, IsStream, ReadsFile, Stream, frame_payload}
 use Rattle.ffv1_unpack.proofs.FileRead.{no_items, positive}
 use Rattle.ffv1_video.proofs.KnownTexts.{known_map, known_then}
 use Rattle.ffv1_video.proofs.Output.{silent}
@@ -38,68 +38,76 @@ file_has profile i0 i1 i2 head from opens ps Next has =
     (known_then i0 i1 i2 (λ file rest. open_read (scope_in profile) file ≡ Ok ((head, from), rest)) (HasThen from ps Next) opens has)
 
 -- where a file is refused after what a reader has read is where the whole file is
-pub located_whole : (scope : Scope) (r : Standing) (i0 i1 i2 : Option (List ℕ)) (ib im ia : ℕ) (byte : Bool) (i : ℕ) (lines : List ℕ) (f : Fault) (output : Passage) → im ≡ ib → Reached scope i0 i1 r →
-    WritesLocated (LocatedAfter r (between i1 i2 im ia)) byte i lines f output → WritesLocated (LocatedFault scope (between i0 i2 ib ia)) byte i lines f output
-located_whole scope r i0 i1 i2 ib im ia byte i lines f output kept reached h = record {
-  offset = h.offset;
-  stops = subst (λ z. LocatedFault scope (between i0 i2 z ia) f h.offset) kept (h.stops scope i0 reached);
-  writes = h.writes;
-}
+pub moves_whole : (scope : Scope) (r : Standing) (i0 i1 i2 : Option (List ℕ)) (ib im ia : ℕ) → im ≡ ib → Reached scope i0 i1 r → (f : Fault) (offset : ℕ) →
+    LocatedAfter r (between i1 i2 im ia) f offset → LocatedFault scope (between i0 i2 ib ia) f offset
+moves_whole scope r i0 i1 i2 ib im ia kept reached f offset h = subst (λ z. LocatedFault scope (between i0 i2 z ia) f offset) kept (h scope i0 reached)
 
--- what is played after the head is played of the file
-module _ {X : Type 0} (Is : X → Type 0) (payload : X → List ℕ) (text : List X → List ℕ) (profile : Profile) (i0 i1 i2 o0 o1 : Option (List ℕ)) (ib im ia ob om : ℕ) (r : Standing) (a : Accepted)
-    (opens : OpensStream profile r a (between i0 i1 ib im)) where
-  pub goes_file : (xs : List X) (Next : Place → List ℕ → List ℕ → Type 0) → GoesThen Is payload (HasThen r.place) text (between i1 i2 im ia) (between o0 o1 ob om) xs Next →
-      GoesThen Is payload (FileThen profile r.head) text (between i0 i2 ib ia) (between o0 o1 ob om) xs Next
-  goes_file xs Next h = record { are = h.are; has = file_has profile i0 i1 i2 r.head r.place opens.known (map payload xs) Next h.has }
+-- what is played of what a reader has left is played of what has it
+module _ {X : Type 0} (Is : X → Type 0) (payload : X → List ℕ) (text : List X → List ℕ) (Here There : List (List ℕ) → (Place → List ℕ → List ℕ → Type 0) → List ℕ → List ℕ → Type 0)
+    (i0 i1 i2 o0 o1 : Option (List ℕ)) (ib im ia ob om : ℕ) (leads : (ps : List (List ℕ)) (Next : Place → List ℕ → List ℕ → Type 0) → Known i1 i2 (Here ps Next) → Known i0 i2 (There ps Next)) (kept : im ≡ ib) where
+  pub goes_file : (xs : List X) (Next : Place → List ℕ → List ℕ → Type 0) → GoesThen Is payload Here text (between i1 i2 im ia) (between o0 o1 ob om) xs Next →
+      GoesThen Is payload There text (between i0 i2 ib ia) (between o0 o1 ob om) xs Next
+  goes_file xs Next h = record { are = h.are; has = leads (map payload xs) Next h.has }
 
-  pub plays_file : (xs : List X) (Next : Place → List ℕ → List ℕ → Type 0) → PlaysThen Is payload (HasThen r.place) text (between i1 i2 im ia) (between o0 o1 ob om) xs Next →
-      PlaysThen Is payload (FileThen profile r.head) text (between i0 i2 ib ia) (between o0 o1 ob om) xs Next
+  pub plays_file : (xs : List X) (Next : Place → List ℕ → List ℕ → Type 0) → PlaysThen Is payload Here text (between i1 i2 im ia) (between o0 o1 ob om) xs Next →
+      PlaysThen Is payload There text (between i0 i2 ib ia) (between o0 o1 ob om) xs Next
   plays_file xs Next h = record { goes = goes_file xs Next h.goes; wrote = record { written = h.wrote.written; writes = h.wrote.writes } }
 
-  pub fails_file : (xs : List X) → TextFails Is payload (HasThen r.place) text (between i1 i2 im ia) (between o0 o1 ob om) xs →
-      TextFails Is payload (FileThen profile r.head) text (between i0 i2 ib ia) (between o0 o1 ob om) xs
-  fails_file xs h = record { goes = goes_file xs NextStays h.goes; kept = h.kept ∙ opens.kept; written = h.written; writes = h.writes }
+  pub fails_file : (xs : List X) → TextFails Is payload Here text (between i1 i2 im ia) (between o0 o1 ob om) xs → TextFails Is payload There text (between i0 i2 ib ia) (between o0 o1 ob om) xs
+  fails_file xs h = record { goes = goes_file xs NextStays h.goes; kept = h.kept ∙ kept; written = h.written; writes = h.writes }
 
-  module _ (reached : Reached (scope_in profile) i0 i1 r) (byte : Bool) where
-    located : (xs : List X) (f : Fault) → RefusedAfter Is payload (HasThen r.place) text (between i1 i2 im ia) (between o0 o1 ob om) (LocatedAfter r (between i1 i2 im ia)) byte xs f →
-        RefusedAfter Is payload (FileThen profile r.head) text (between i0 i2 ib ia) (between o0 o1 ob om) (LocatedFault (scope_in profile) (between i0 i2 ib ia)) byte xs f
-    located xs f h = located_whole (scope_in profile) r i0 i1 i2 ib im ia byte (saturated (length xs)) (text xs) f (between o0 o1 ob om) opens.kept reached h
+  module _ (number counted : ℕ → ℕ) (same : (n : ℕ) → number n ≡ counted n) (Stops Whole : Fault → ℕ → Type 0) (moves : (f : Fault) (offset : ℕ) → Stops f offset → Whole f offset) (byte : Bool) where
+    located : (xs : List X) (f : Fault) → RefusedFrom Is payload Here text (between i1 i2 im ia) (between o0 o1 ob om) number Stops byte xs f →
+        RefusedFrom Is payload There text (between i0 i2 ib ia) (between o0 o1 ob om) counted Whole byte xs f
+    located xs f h = record {
+      offset = h.offset;
+      stops = moves f h.offset h.stops;
+      writes = subst (λ n. WritesLine (text xs) (located_text byte n f h.offset) (between o0 o1 ob om)) (same (length xs)) h.writes;
+    }
 
-    pub refused_file : (f : Fault) (why : Cause) → GoesBy Is payload (HasThen r.place) text (between i1 i2 im ia) (between o0 o1 ob om) (LocatedAfter r (between i1 i2 im ia)) byte f why →
-        GoesBy Is payload (FileThen profile r.head) text (between i0 i2 ib ia) (between o0 o1 ob om) (LocatedFault (scope_in profile) (between i0 i2 ib ia)) byte f why
+    pub refused_file : (f : Fault) (why : Cause) → GoesFrom Is payload Here text (between i1 i2 im ia) (between o0 o1 ob om) number Stops byte f why →
+        GoesFrom Is payload There text (between i0 i2 ib ia) (between o0 o1 ob om) counted Whole byte f why
     refused_file f Writing h = (h.0, fails_file h.0 h.1)
-    refused_file f Reading h = (h.0, located h.0 f h.1, h.2 ∙ ap one_more opens.kept, goes_file h.0 NextReadFails h.3)
-    refused_file f Memory h = (h.0, h.1 ∙ opens.kept, plays_file h.0 (NextLacks Is payload) h.2)
-    refused_file f Content h = (h.0, located h.0 f h.1, h.2 ∙ opens.kept, goes_file h.0 (NextHasFault f) h.3)
+    refused_file f Reading h = (h.0, located h.0 f h.1, h.2 ∙ ap one_more kept, goes_file h.0 NextReadFails h.3)
+    refused_file f Memory h = (h.0, h.1 ∙ kept, plays_file h.0 (NextLacks Is payload) h.2)
+    refused_file f Content h = (h.0, located h.0 f h.1, h.2 ∙ kept, goes_file h.0 (NextHasFault f) h.3)
 
 module _ (profile : Profile) (text : Stream → List Frame → List ℕ) (i0 i1 i2 o0 o1 : Option (List ℕ)) (ib im ia ob om : ℕ) where
   -- a file that is not opened
   pub lacks_opening : (f : Fault) → LacksOpening profile (between i0 i1 ib im) f → FileStops profile text (between i0 i1 ib im) (between o0 o0 ob ob) f
   lacks_opening f h = inl (silent o0 ob, h)
 
-  module _ (r : Standing) (a : Accepted) (opens : OpensStream profile r a (between i0 i1 ib im)) where
-    then_file : (frames : List Frame) (Next : Place → List ℕ → List ℕ → Type 0) → FramesThen (HasThen r.place) a (text (stream_of r a)) (between i1 i2 im ia) (between o0 o1 ob om) frames Next →
-        FramesThen (FileThen profile r.head) a (text (stream_of r a)) (between i0 i2 ib ia) (between o0 o1 ob om) frames Next
-    then_file = plays_file (IsFrame a) frame_payload (text (stream_of r a)) profile i0 i1 i2 o0 o1 ib im ia ob om r a opens
+  -- frames of a stream
+  module _ (s : Stream) (is : IsStream profile s) (Here : List (List ℕ) → (Place → List ℕ → List ℕ → Type 0) → List ℕ → List ℕ → Type 0)
+      (Held : Head → List (List ℕ) → (Place → List ℕ → List ℕ → Type 0) → List ℕ → List ℕ → Type 0)
+      (leads : (ps : List (List ℕ)) (Next : Place → List ℕ → List ℕ → Type 0) → Known i1 i2 (Here ps Next) → Known i0 i2 (Held s.head ps Next)) (kept : im ≡ ib) where
+    pub then_file : (frames : List Frame) (Next : Place → List ℕ → List ℕ → Type 0) → FramesThen Here s.accepted (text s) (between i1 i2 im ia) (between o0 o1 ob om) frames Next →
+        FramesThen (Held s.head) s.accepted (text s) (between i0 i2 ib ia) (between o0 o1 ob om) frames Next
+    then_file = plays_file (IsFrame s.accepted) frame_payload (text s) Here (Held s.head) i0 i1 i2 o0 o1 ib im ia ob om leads kept
 
-    stops_file : (f : Fault) (why : Cause) → PlayStopsBy (HasThen r.place) a (text (stream_of r a)) (between i1 i2 im ia) (between o0 o1 ob om) f why →
-        PlayStopsBy (FileThen profile r.head) a (text (stream_of r a)) (between i0 i2 ib ia) (between o0 o1 ob om) f why
-    stops_file f Writing h = (h.0, fails_file (IsFrame a) frame_payload (text (stream_of r a)) profile i0 i1 i2 o0 o1 ib im ia ob om r a opens h.0 h.1)
-    stops_file f Reading h = (h.0 ∙ ap one_more opens.kept, h.1, then_file h.1 NextReadFails h.2)
+    stops_file : (f : Fault) (why : Cause) → PlayStopsBy Here s.accepted (text s) (between i1 i2 im ia) (between o0 o1 ob om) f why →
+        PlayStopsBy (Held s.head) s.accepted (text s) (between i0 i2 ib ia) (between o0 o1 ob om) f why
+    stops_file f Writing h = (h.0, fails_file (IsFrame s.accepted) frame_payload (text s) Here (Held s.head) i0 i1 i2 o0 o1 ib im ia ob om leads kept h.0 h.1)
+    stops_file f Reading h = (h.0 ∙ ap one_more kept, h.1, then_file h.1 NextReadFails h.2)
     stops_file f Memory h = (
-      h.0 ∙ opens.kept,
+      h.0 ∙ kept,
       elim h.1 [
-        | inl next ↦ inl (next.0, then_file next.0 (NextLacks (IsFrame a) frame_payload) next.1)
+        | inl next ↦ inl (next.0, then_file next.0 (NextLacks (IsFrame s.accepted) frame_payload) next.1)
         | inr first ↦ inr (then_file [] NextStays first)
       ],
     )
     stops_file f Content h =
-        (h.0 ∙ opens.kept, record { frames = h.1.frames; end = h.1.end; plays = then_file h.1.frames (NextEnds h.1.end) h.1.plays; faulty = h.1.faulty; is = h.1.is })
+        (h.0 ∙ kept, record { frames = h.1.frames; end = h.1.end; plays = then_file h.1.frames (NextEnds h.1.end) h.1.plays; faulty = h.1.faulty; is = h.1.is })
 
+    pub stream_goes : (f : Fault) (why : Cause) → PlayStopsBy Here s.accepted (text s) (between i1 i2 im ia) (between o0 o1 ob om) f why →
+        StreamGoes profile text (between i0 i2 ib ia) (between o0 o1 ob om) Held f why
+    stream_goes f why h = record { stream = s; is = is; stops = stops_file f why h }
+
+  module _ (r : Standing) (a : Accepted) (opens : OpensStream profile r a (between i0 i1 ib im)) where
     pub whole_stops : (f : Fault) → PlayStops (HasThen r.place) a (text (stream_of r a)) (between i1 i2 im ia) (between o0 o1 ob om) f →
         FileStops profile text (between i0 i2 ib ia) (between o0 o1 ob om) f
-    whole_stops f h = inr (record { stream = stream_of r a; is = opens.stream; stops = stops_file f (cause_of f) h })
+    whole_stops f h =
+        inr (stream_goes (stream_of r a) opens.stream (HasThen r.place) (FileThen profile) (file_has profile i0 i1 i2 r.head r.place opens.known) opens.kept f (cause_of f) h)
 
     module _ (frames : List Frame) (count : ℕ) (is : count ≡ saturated (length frames))
         (all : PlaysAll (IsFrame a) frame_payload (HasThen r.place) (text (stream_of r a)) (between i1 i2 im ia) (between o0 o1 ob om) frames) where

@@ -22,13 +22,14 @@ use Rattle.ffv1_unpack.specs.Opens.{LacksOpeningBy}
 use Rattle.ffv1_unpack.specs.Internal.Opens.{OpensStream, stream_of}
 use Rattle.ffv1_unpack.specs.Play.{but_last}
 use Rattle.ffv1_unpack.specs.Play.End.{File, Payload}
-use Rattle.ffv1_unpack.specs.Plays.{FileThen, FramesThen, GoesBy, GoesThen, HasThen, NextEnds, NextLacks, NextReadFails, NextStays, PlayStops, PlayStopsBy, RefusedAfter, TextFails}
+use Rattle.ffv1_unpack.specs.Plays.{FileThen, FramesThen, GoesFrom, GoesThen, HasThen, NextEnds, NextLacks, NextReadFails, NextStays, PlayStops, PlayStopsBy, RefusedFrom, TextFails}
 use Rattle.ffv1_unpack.specs.Internal.Plays.{PlaysAll}
 use Rattle.ffv1_unpack.specs.Show.{ComesFrom, CostStops, ShowStops, ShowsCosts, ShowsStream, StreamStopsBy, cost_text}
 use Rattle.ffv1_unpack.specs.Internal.Show.{NoDecoder}
 use Rattle.ffv1_unpack.specs.Stream.{Frame, IsFrame, ReadsFile, frame_payload, payloads}
 use Rattle.ffv1_unpack.specs.StreamLines.{show_text}
-use Rattle.ffv1_unpack.specs.Told.{PayloadStops}
+use Rattle.ffv1_unpack.specs.Ranges.{all_frames, number_in}
+use Rattle.ffv1_unpack.specs.Told.{PayloadStopsFrom}
 use Rattle.ffv1_unpack.specs.Internal.Told.{IsToldFault, TellingStops, WritesFrame}
 use Rattle.ffv1_unpack.proofs.FaultsLocated.{nothing_behind}
 use Rattle.ffv1_unpack.proofs.FilePlayed.{file_has}
@@ -116,7 +117,7 @@ module _ (profile : Profile) (i0 i1 i2 o0 o1 o2 : Option (List ℕ)) (ib im ia o
   stops f some h = record { stream = stream_of r a; is = opens.stream; comes = from; some = some; stops = h }
 
   abbrev Refused : List Frame → Fault → Type 0
-  Refused frames f = RefusedAfter (IsFrame a) frame_payload (HasThen r.place) lines (between i1 i2 im ia) (between o1 o2 om oa) (LocatedAfter r (between i1 i2 im ia)) false frames f
+  Refused frames f = RefusedFrom (IsFrame a) frame_payload (HasThen r.place) lines (between i1 i2 im ia) (between o1 o2 om oa) (number_in all_frames) (LocatedAfter r (between i1 i2 im ia)) false frames f
 
   -- if no line of a byte is asked for
   unlocated : (frames : List Frame) (Next : Place → List ℕ → List ℕ → Type 0) (f : Fault) → Refused frames f →
@@ -146,14 +147,14 @@ module _ (profile : Profile) (i0 i1 i2 o0 o1 o2 : Option (List ℕ)) (ib im ia o
       }
 
   stops_by : (f : Fault) (why : Cause) →
-      GoesBy (IsFrame a) frame_payload (HasThen r.place) lines (between i1 i2 im ia) (between o1 o2 om oa) (LocatedAfter r (between i1 i2 im ia)) false f why →
+      GoesFrom (IsFrame a) frame_payload (HasThen r.place) lines (between i1 i2 im ia) (between o1 o2 om oa) (number_in all_frames) (LocatedAfter r (between i1 i2 im ia)) false f why →
       PlayStopsBy (FileThen profile r.head) a text (between i0 i2 ib ia) (between o0 o2 ob oa) f why
   stops_by f Writing h = (h.0, line_fails h.0 h.1)
   stops_by f Reading h = (h.2 ∙ ap one_more opens.kept, h.0, unlocated h.0 NextReadFails f h.1 h.3)
   stops_by f Memory h = (h.1 ∙ opens.kept, inl (h.0, then h.0 (NextLacks (IsFrame a) frame_payload) h.2.goes h.2.wrote.written h.2.wrote.writes))
   stops_by f Content h = (h.2 ∙ opens.kept, record { frames = h.0; end = File f; plays = unlocated h.0 (NextEnds (File f)) f h.1 h.3; faulty = tt; is = refl })
 
-  payload_stops : (f : Fault) → PayloadStops (HasThen r.place) line.Cost false a (between i1 i2 im ia) (between o1 o2 om oa) f → PlayStops (FileThen profile r.head) a text (between i0 i2 ib ia) (between o0 o2 ob oa) f
+  payload_stops : (f : Fault) → PayloadStopsFrom (HasThen r.place) lines (number_in all_frames) false a (between i1 i2 im ia) (between o1 o2 om oa) f → PlayStops (FileThen profile r.head) a text (between i0 i2 ib ia) (between o0 o2 ob oa) f
   payload_stops f h =
       let silent = nothing_behind (lines h.frames) (between o1 o2 om oa) h.writes in
       let end = Payload h.payload h.fault h.tally in
@@ -175,7 +176,7 @@ module _ (profile : Profile) (i0 i1 i2 o0 o1 o2 : Option (List ℕ)) (ib im ia o
         }),
       ))
 
-  pub costs_stop : (f : Fault) → (f ≡ fault.NoFrames → ⊥) → TellingStops (HasThen r.place) line.Cost false a (between i1 i2 im ia) (between o1 o2 om oa) (LocatedAfter r (between i1 i2 im ia)) false f → CostStops profile (between i0 i2 ib ia) (between o0 o2 ob oa) f
+  pub costs_stop : (f : Fault) → (f ≡ fault.NoFrames → ⊥) → TellingStops (HasThen r.place) line.Cost all_frames false a (between i1 i2 im ia) (between o1 o2 om oa) (LocatedAfter r (between i1 i2 im ia)) false f → CostStops profile (between i0 i2 ib ia) (between o0 o2 ob oa) f
   costs_stop f some h = elim h [
     | inl payload ↦ stops f some (payload_stops f payload)
     | inr other ↦ stops f some (stops_by f (cause_of f) other)

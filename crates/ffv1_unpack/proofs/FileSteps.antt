@@ -1,5 +1,5 @@
 -- Why a file is not read on, as a fault of the product.
-use Rattle.std.proofs.Common.{refl, ℕ, Bool, Option, Some, None, List, inl, inr, ap}
+use Rattle.std.proofs.Common.{refl, ℕ, Option, Some, None, List, inl, inr, ap}
 use Rattle.ffv1_wire.specs.Passage.{Passage}
 use Rattle.ffv1_reads.specs.Known.{Known}
 use Rattle.ffv1_reads.specs.Reads as avi

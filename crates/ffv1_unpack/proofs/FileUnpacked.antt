@@ -7,21 +7,25 @@ use Rattle.ffv1_record.specs.Accepted.{Accepted}
 use Rattle.ffv1_record.specs.Configuration.{Configuration}
 use Rattle.ffv1_files.specs.Places.{Place}
 use Rattle.ffv1_files.specs.Readers.{Standing}
+use Rattle.ffv1_reads.specs.Head.{Head}
+use Rattle.ffv1_reads.specs.Known.{Known}
+use Rattle.ffv1_words.specs.declared.order.FrameRange.{FrameRange}
 use Rattle.ffv1_video.specs.declared.profile.Profile.{Profile}
 use Rattle.ffv1_video.specs.declared.fault.Fault.{Fault}
 use Rattle.ffv1_video.specs.declared.fault.Fault.TheVariants as fault
 use Rattle.ffv1_video.specs.Faults.{Cause, cause_of}
 use Rattle.ffv1_video.specs.Faults.Cause.{Reading, Writing, Memory, Content}
-use Rattle.ffv1_unpack.specs.Internal.Opens.{OpensStream, stream_of}
-use Rattle.ffv1_unpack.specs.Plays.{FileThen, GoesThen, HasThen, NextHasFault, NextIsPayload, NextOver, NextPayloadLacks, NextReadFails, NextStays}
-use Rattle.ffv1_unpack.specs.Stream.{Frame, IsFrame, ReadsFile, frame_payload}
-use Rattle.ffv1_unpack.specs.Unpack.{IsUnpackFault, LacksUnpacking, UnpackDone, UnpackStops}
+use Rattle.ffv1_unpack.specs.Internal.Opens.{OpensRange, OpensStream, stream_of}
+use Rattle.ffv1_unpack.specs.Plays.{GoesThen, HasThen, NextBehind, NextHasFault, NextIsPayload, NextPayloadLacks, NextReadFails, NextStays}
+use Rattle.ffv1_unpack.specs.Ranges.{RangeThen}
+use Rattle.ffv1_unpack.specs.Stream.{Frame, IsFrame, IsStream, Stream, frame_payload, payloads}
+use Rattle.ffv1_unpack.specs.Unpack.{IsUnpackFault, LacksUnpacking, UnpackGoes, UnpackNone, UnpackRangeDone, UnpackRangeStops}
 use Rattle.ffv1_unpack.specs.Unpacked.{HasText, LacksTextBy, is_ppm_stream, text_of}
-use Rattle.ffv1_unpack.specs.Unpacking.{FormatChanges, PayloadStops, PictureFails, RowFails, UnpackingStops, UnpackingStopsBy, UnpacksAll, UnpacksThen}
+use Rattle.ffv1_unpack.specs.Unpacking.{FormatChanges, PayloadStops, PictureFails, RowFails, UnpackingStops, UnpackingStopsBy, UnpacksMost, UnpacksThen}
 use Rattle.ffv1_unpack.proofs.FilePlayed.{fails_file, file_has, goes_file, plays_file}
 use Rattle.ffv1_unpack.proofs.FileRead.{no_items, positive}
 use Rattle.ffv1_unpack.proofs.FramesInTurn.{reads_none}
-use Rattle.ffv1_video.proofs.Output.{silent}
+use Rattle.ffv1_unpack.proofs.FramesPassed.{range_has}
 use Rattle.ffv1_unpack.proofs.FramesPlayed.{has_stays}
 
 pub text_own : (ppm : Bool) (c : Configuration) (f : Fault) → LacksTextBy ppm c f → IsUnpackFault f
@@ -41,24 +45,23 @@ lacks_text profile i0 i1 ib im r a f opens lacks =
     })
 
 module _ (profile : Profile) (i0 i1 i2 o0 o1 : Option (List ℕ)) (ib im ia ob om : ℕ) where
-  pub lacks_unpacking : (f : Fault) → LacksUnpacking profile (between i0 i1 ib im) f → UnpackStops profile (between i0 i1 ib im) (between o0 o0 ob ob) f
-  lacks_unpacking f h = inl (silent o0 ob, h)
+  -- what is unpacked of what a reader has left is unpacked of what has it
+  module _ (s : Stream) (is : IsStream profile s) (text : HasText s) (Here : List (List ℕ) → (Place → List ℕ → List ℕ → Type 0) → List ℕ → List ℕ → Type 0)
+      (Held : Head → List (List ℕ) → (Place → List ℕ → List ℕ → Type 0) → List ℕ → List ℕ → Type 0)
+      (leads : (ps : List (List ℕ)) (Next : Place → List ℕ → List ℕ → Type 0) → Known i1 i2 (Here ps Next) → Known i0 i2 (Held s.head ps Next)) (kept : im ≡ ib) where
+    goes : (frames : List Frame) (Next : Place → List ℕ → List ℕ → Type 0) → GoesThen (IsFrame s.accepted) frame_payload Here (text_of s) (between i1 i2 im ia) (between o0 o1 ob om) frames Next →
+        GoesThen (IsFrame s.accepted) frame_payload (Held s.head) (text_of s) (between i0 i2 ib ia) (between o0 o1 ob om) frames Next
+    goes = goes_file (IsFrame s.accepted) frame_payload (text_of s) Here (Held s.head) i0 i1 i2 o0 o1 ib im ia ob om leads kept
 
-  -- what is unpacked after the head is unpacked of the file
-  module _ (r : Standing) (a : Accepted) (opens : OpensStream profile r a (between i0 i1 ib im)) (text : HasText (stream_of r a)) where
-    goes : (frames : List Frame) (Next : Place → List ℕ → List ℕ → Type 0) → GoesThen (IsFrame a) frame_payload (HasThen r.place) (text_of (stream_of r a)) (between i1 i2 im ia) (between o0 o1 ob om) frames Next →
-        GoesThen (IsFrame a) frame_payload (FileThen profile r.head) (text_of (stream_of r a)) (between i0 i2 ib ia) (between o0 o1 ob om) frames Next
-    goes = goes_file (IsFrame a) frame_payload (text_of (stream_of r a)) profile i0 i1 i2 o0 o1 ib im ia ob om r a opens
+    unpacks : (frames : List Frame) (Next : Place → List ℕ → List ℕ → Type 0) → UnpacksThen Here s (between i1 i2 im ia) (between o0 o1 ob om) frames Next →
+        UnpacksThen (Held s.head) s (between i0 i2 ib ia) (between o0 o1 ob om) frames Next
+    unpacks frames Next h = record { plays = plays_file (IsFrame s.accepted) frame_payload (text_of s) Here (Held s.head) i0 i1 i2 o0 o1 ib im ia ob om leads kept frames Next h.plays; alike = h.alike }
 
-    unpacks : (frames : List Frame) (Next : Place → List ℕ → List ℕ → Type 0) → UnpacksThen (HasThen r.place) (stream_of r a) (between i1 i2 im ia) (between o0 o1 ob om) frames Next →
-        UnpacksThen (FileThen profile r.head) (stream_of r a) (between i0 i2 ib ia) (between o0 o1 ob om) frames Next
-    unpacks frames Next h = record { plays = plays_file (IsFrame a) frame_payload (text_of (stream_of r a)) profile i0 i1 i2 o0 o1 ib im ia ob om r a opens frames Next h.plays; alike = h.alike }
+    picture_fails : (frames : List Frame) → PictureFails Here s (between i1 i2 im ia) (between o0 o1 ob om) frames →
+        PictureFails (Held s.head) s (between i0 i2 ib ia) (between o0 o1 ob om) frames
+    picture_fails frames h = record { fails = fails_file (IsFrame s.accepted) frame_payload (text_of s) Here (Held s.head) i0 i1 i2 o0 o1 ib im ia ob om leads kept frames h.fails; alike = h.alike }
 
-    picture_fails : (frames : List Frame) → PictureFails (HasThen r.place) (stream_of r a) (between i1 i2 im ia) (between o0 o1 ob om) frames →
-        PictureFails (FileThen profile r.head) (stream_of r a) (between i0 i2 ib ia) (between o0 o1 ob om) frames
-    picture_fails frames h = record { fails = fails_file (IsFrame a) frame_payload (text_of (stream_of r a)) profile i0 i1 i2 o0 o1 ib im ia ob om r a opens frames h.fails; alike = h.alike }
-
-    row_fails : RowFails (HasThen r.place) (stream_of r a) (between i1 i2 im ia) (between o0 o1 ob om) → RowFails (FileThen profile r.head) (stream_of r a) (between i0 i2 ib ia) (between o0 o1 ob om)
+    row_fails : RowFails Here s (between i1 i2 im ia) (between o0 o1 ob om) → RowFails (Held s.head) s (between i0 i2 ib ia) (between o0 o1 ob om)
     row_fails h = record {
       frames = h.frames;
       payload = h.payload;
@@ -67,12 +70,12 @@ module _ (profile : Profile) (i0 i1 i2 o0 o1 : Option (List ℕ)) (ib im ia ob o
       ppm = h.ppm;
       goes = goes h.frames (NextIsPayload h.payload) h.goes;
       hands = h.hands;
-      kept = h.kept ∙ opens.kept;
+      kept = h.kept ∙ kept;
       written = h.written;
       writes = h.writes;
     }
 
-    payload_stops : (f : Fault) → PayloadStops (HasThen r.place) (stream_of r a) (between i1 i2 im ia) (between o0 o1 ob om) f → PayloadStops (FileThen profile r.head) (stream_of r a) (between i0 i2 ib ia) (between o0 o1 ob om) f
+    payload_stops : (f : Fault) → PayloadStops Here s (between i1 i2 im ia) (between o0 o1 ob om) f → PayloadStops (Held s.head) s (between i0 i2 ib ia) (between o0 o1 ob om) f
     payload_stops f h = record {
       frames = h.frames;
       payload = h.payload;
@@ -86,7 +89,7 @@ module _ (profile : Profile) (i0 i1 i2 o0 o1 : Option (List ℕ)) (ib im ia ob o
       writes = h.writes;
     }
 
-    format_changes : (f : Fault) → FormatChanges (HasThen r.place) (stream_of r a) (between i1 i2 im ia) (between o0 o1 ob om) f → FormatChanges (FileThen profile r.head) (stream_of r a) (between i0 i2 ib ia) (between o0 o1 ob om) f
+    format_changes : (f : Fault) → FormatChanges Here s (between i1 i2 im ia) (between o0 o1 ob om) f → FormatChanges (Held s.head) s (between i0 i2 ib ia) (between o0 o1 ob om) f
     format_changes f h = record {
       frames = h.frames;
       last = h.last;
@@ -97,22 +100,22 @@ module _ (profile : Profile) (i0 i1 i2 o0 o1 : Option (List ℕ)) (ib im ia ob o
       wrote = record { written = h.wrote.written; writes = h.wrote.writes };
     }
 
-    stops_by : (f : Fault) (why : Cause) → UnpackingStopsBy (HasThen r.place) (stream_of r a) (between i1 i2 im ia) (between o0 o1 ob om) f why →
-        UnpackingStopsBy (FileThen profile r.head) (stream_of r a) (between i0 i2 ib ia) (between o0 o1 ob om) f why
+    stops_by : (f : Fault) (why : Cause) → UnpackingStopsBy Here s (between i1 i2 im ia) (between o0 o1 ob om) f why →
+        UnpackingStopsBy (Held s.head) s (between i0 i2 ib ia) (between o0 o1 ob om) f why
     stops_by f Writing h = elim h [
       | inl picture ↦ inl (picture.0, picture_fails picture.0 picture.1)
       | inr row ↦ inr (row_fails row)
     ]
-    stops_by f Reading h = (h.0 ∙ ap one_more opens.kept, h.1, unpacks h.1 NextReadFails h.2)
+    stops_by f Reading h = (h.0 ∙ ap one_more kept, h.1, unpacks h.1 NextReadFails h.2)
     stops_by f Memory h = (
-      h.0 ∙ opens.kept,
+      h.0 ∙ kept,
       elim h.1 [
         | inl next ↦ inl (next.0, unpacks next.0 NextPayloadLacks next.1)
         | inr first ↦ inr (unpacks [] NextStays first)
       ],
     )
     stops_by f Content h = (
-      h.0 ∙ opens.kept,
+      h.0 ∙ kept,
       elim h.1 [
         | inl file ↦ inl (file.0, unpacks file.0 (NextHasFault f) file.1)
         | inr more ↦ elim more [
@@ -122,38 +125,53 @@ module _ (profile : Profile) (i0 i1 i2 o0 o1 : Option (List ℕ)) (ib im ia ob o
       ],
     )
 
-    pub unpack_stops : (f : Fault) → UnpackingStops (HasThen r.place) (stream_of r a) (between i1 i2 im ia) (between o0 o1 ob om) f → UnpackStops profile (between i0 i2 ib ia) (between o0 o1 ob om) f
-    unpack_stops f h = inr (inl (record { stream = stream_of r a; is = opens.stream; text = text; stops = stops_by f (cause_of f) h }))
+    pub unpack_goes : (f : Fault) → UnpackingStops Here s (between i1 i2 im ia) (between o0 o1 ob om) f → UnpackGoes profile (between i0 i2 ib ia) (between o0 o1 ob om) Held f
+    unpack_goes f h = record { stream = s; is = is; text = text; stops = stops_by f (cause_of f) h }
 
-    module _ (frames : List Frame) (count : ℕ) (is : count ≡ saturated (length frames))
-        (all : UnpacksAll (HasThen r.place) (stream_of r a) (between i1 i2 im ia) (between o0 o1 ob om) frames) where
-      all_file : UnpacksAll (FileThen profile r.head) (stream_of r a) (between i0 i2 ib ia) (between o0 o1 ob om) frames
-      all_file = record { unpacks = unpacks frames NextOver all.unpacks; kept = all.kept ∙ opens.kept }
+    module _ (most : Option ℕ) (frames : List Frame) where
+      all_held : UnpacksMost Here s (between i1 i2 im ia) (between o0 o1 ob om) most frames → UnpacksMost (Held s.head) s (between i0 i2 ib ia) (between o0 o1 ob om) most frames
+      all_held all = record { unpacks = unpacks frames (NextBehind most (length frames)) all.unpacks; few = all.few; kept = all.kept ∙ kept }
 
-      pub no_frames : count ≡ 0 → UnpackStops profile (between i0 i2 ib ia) (between o0 o1 ob om) fault.NoFrames
-      no_frames none =
-          let few : length frames ≡ 0 = omega (arith, is, none) in
-          inr (inr (
-            refl,
-            record {
-              stream = stream_of r a;
-              is = opens.stream;
-              text = text;
-              all = subst (UnpacksAll (FileThen profile r.head) (stream_of r a) (between i0 i2 ib ia) (between o0 o1 ob om)) (no_items frames few) all_file;
-            },
-          ))
-
-      pub done : (count ≡ 0 → ⊥) → ReadsFile profile i0 i2 (stream_of r a) frames → UnpackDone profile (between i0 i2 ib ia) (between o0 o1 ob om) count
-      done some_frames reads = record {
-        stream = stream_of r a;
-        frames = frames;
-        some = positive frames (λ none. some_frames (let zero_is : count ≡ 0 = omega (arith, is, none) in zero_is));
-        counted = is;
+      pub unpack_none : length frames ≡ 0 → UnpacksMost Here s (between i1 i2 im ia) (between o0 o1 ob om) most frames → UnpackNone profile (between i0 i2 ib ia) (between o0 o1 ob om) Held most
+      unpack_none none all = record {
+        stream = s;
+        is = is;
         text = text;
-        played = record { stream = opens.stream; decoded = all.unpacks.plays.goes.are };
-        alike = all.unpacks.alike;
-        reads = reads;
-        kept = all.kept ∙ opens.kept;
-        written = all.unpacks.plays.wrote.written;
-        writes = all.unpacks.plays.wrote.writes;
+        all = subst (UnpacksMost (Held s.head) s (between i0 i2 ib ia) (between o0 o1 ob om) most) (no_items frames none) (all_held all);
       }
+
+-- ---- the frames of a range
+
+module _ (profile : Profile) (range : FrameRange) (i0 i1 i2 o0 o1 : Option (List ℕ)) (ib im ia ob om : ℕ) (r : Standing) (a : Accepted) (opens : OpensRange profile range.first r a (between i0 i1 ib im))
+    (text : HasText (stream_of r a)) where
+  pub unpack_stops : (f : Fault) → UnpackingStops (HasThen r.place) (stream_of r a) (between i1 i2 im ia) (between o0 o1 ob om) f → UnpackRangeStops profile range (between i0 i2 ib ia) (between o0 o1 ob om) f
+  unpack_stops f h =
+      inr (inl (unpack_goes profile i0 i1 i2 o0 o1 ib im ia ob om (stream_of r a) opens.stream text (HasThen r.place) (RangeThen profile range.first)
+      (range_has profile range.first r.head r.place i0 i1 i2 opens.known) opens.kept f h))
+
+  module _ (frames : List Frame) (count : ℕ) (is : count ≡ saturated (length frames))
+      (all : UnpacksMost (HasThen r.place) (stream_of r a) (between i1 i2 im ia) (between o0 o1 ob om) range.count frames) where
+    pub no_frames : count ≡ 0 → UnpackRangeStops profile range (between i0 i2 ib ia) (between o0 o1 ob om) fault.NoFrames
+    no_frames none =
+        let few : length frames ≡ 0 = omega (arith, is, none) in
+        inr (inr (
+          refl,
+          unpack_none profile i0 i1 i2 o0 o1 ib im ia ob om (stream_of r a) opens.stream text (HasThen r.place) (RangeThen profile range.first)
+              (range_has profile range.first r.head r.place i0 i1 i2 opens.known) opens.kept range.count frames few all,
+        ))
+
+    pub done : (count ≡ 0 → ⊥) → UnpackRangeDone profile range (between i0 i2 ib ia) (between o0 o1 ob om) count
+    done some_frames = record {
+      stream = stream_of r a;
+      frames = frames;
+      some = positive frames (λ none. some_frames (let zero_is : count ≡ 0 = omega (arith, is, none) in zero_is));
+      few = all.few;
+      counted = is;
+      text = text;
+      played = record { stream = opens.stream; decoded = all.unpacks.plays.goes.are };
+      alike = all.unpacks.alike;
+      reads = range_has profile range.first r.head r.place i0 i1 i2 opens.known (payloads frames) (NextBehind range.count (length frames)) all.unpacks.plays.goes.has;
+      kept = all.kept ∙ opens.kept;
+      written = all.unpacks.plays.wrote.written;
+      writes = all.unpacks.plays.wrote.writes;
+    }

@@ -1,5 +1,5 @@
 -- The pictures of a file are compared with a list of MD5s one after the other.
-use Rattle.std.proofs.Common.{◌≡◌, refl, ℕ, zero, suc, ◌+◌, ◌<◌, ◌≤◌, true, false, Option, Some, Err, List, [], ◌∷◌, ◌++◌, length, map, take, get_or, inl, inr, ap, sym, subst, ◌∙◌, arith, true≢false}
+use Rattle.std.proofs.Common.{◌≡◌, refl, ℕ, zero, suc, ◌+◌, ◌<◌, ◌≤◌, true, false, Option, Some, None, Err, List, [], ◌∷◌, ◌++◌, length, map, take, get_or, inl, inr, ap, sym, subst, ◌∙◌, arith, true≢false}
 use Rattle.std.specs.Prelude.{slice_get}
 use Rattle.std.specs.Io.KnownBytes.{Appends}
 use Rattle.std.proofs.lemmas.Bool.{eqb-true}
@@ -27,7 +27,7 @@ use Rattle.ffv1_unpack.specs.Plays.{FileThen, HasThen, NextOver, NextStays, Play
 use Rattle.ffv1_unpack.specs.Stream.{Frame, IsFrame, ReadsFile, frame_payload}
 use Rattle.ffv1_unpack.specs.declared.comparing.Unlike.{Unlike}
 use Rattle.ffv1_unpack.specs.declared.comparing.Unlike.TheVariants as unlike
-use Rattle.ffv1_unpack.proofs.FilePlayed.{done, goes_file, lacks_opening, no_frames, whole_stops}
+use Rattle.ffv1_unpack.proofs.FilePlayed.{done, file_has, goes_file, lacks_opening, no_frames, whole_stops}
 use Rattle.ffv1_unpack.proofs.FramesInTurn.{all_more, counted_more, reads_more}
 use Rattle.ffv1_unpack.proofs.FramesPlayed.{PlayedSo, SoFar, has_stays, none_yet, one_so, play_stops, played_over, wants_memory}
 use Rattle.ffv1_unpack.proofs.OwnFaults.{told_checks}
@@ -85,7 +85,7 @@ module _ (a : Accepted) (md5s : List ℕ) (from to last : Place) (n : ℕ) (i0 i
   -- there is no further one
   pub compared_over : ReadsEnd to (between i1 i2 im ia) → PlaysAll (IsFrame a) frame_payload (HasThen from) (frame_numbers a) (between i0 i2 ib ia) (met md5s n) so.frames
   compared_over over =
-      played_over a (frame_numbers a) from to last (saturated (length so.frames)) i0 i1 i2 (Some []) (Some (take n md5s)) (Some (take n md5s)) ib im ia 0 0 0 played over (silent (Some (take n md5s)) 0)
+      played_over a (frame_numbers a) from to last (saturated (length so.frames)) i0 i1 i2 (Some []) (Some (take n md5s)) (Some (take n md5s)) ib im ia 0 0 0 played None refl tt over (silent (Some (take n md5s)) 0)
 
   -- one more agrees
   pub compared_more : Compares a md5s n to last (between i1 i2 im ia) true → ComparedSo a md5s from (between i0 i2 ib ia) (n + 1) last
@@ -138,7 +138,8 @@ module _ (profile : Profile) (md5s : List ℕ) (i0 i1 i2 : Option (List ℕ)) (i
   then_file : (frames : List Frame) (Next : Place → List ℕ → List ℕ → Type 0) → ComparedThen (HasThen r.place) a md5s (between i1 i2 im ia) frames Next →
       ComparedThen (FileThen profile r.head) a md5s (between i0 i2 ib ia) frames Next
   then_file frames Next h =
-      goes_file (IsFrame a) frame_payload (frame_numbers a) profile i0 i1 i2 (Some []) (Some (take (length frames) md5s)) ib im ia 0 0 r a opens frames Next h
+      goes_file (IsFrame a) frame_payload (frame_numbers a) (HasThen r.place) (FileThen profile r.head) i0 i1 i2 (Some []) (Some (take (length frames) md5s)) ib im ia 0 0
+      (file_has profile i0 i1 i2 r.head r.place opens.known) opens.kept frames Next h
 
   file_differs : (n : ℕ) → DiffersAt (HasThen r.place) a md5s (between i1 i2 im ia) n → FileDiffers profile md5s (between i0 i2 ib ia) n
   file_differs n h = record {

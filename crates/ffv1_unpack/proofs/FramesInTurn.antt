@@ -1,5 +1,5 @@
 -- Lists that grow at their end, and files that are read on.
-use Rattle.std.proofs.Common.{◌≡◌, refl, ℕ, suc, ◌+◌, Option, Some, None, Ok, List, [], ◌∷◌, ◌++◌, length, map, ap, subst}
+use Rattle.std.proofs.Common.{◌≡◌, refl, ℕ, suc, Option, Some, None, Ok, List, [], ◌∷◌, ◌++◌, length, map, ap, subst}
 use Rattle.ffv1_files.specs.Places.{Place}
 use Rattle.ffv1_files.specs.Files.{frame_read}
 use Rattle.ffv1_reads.specs.Known.{Known}

@@ -1,7 +1,8 @@
 -- What is played of a file is played one after the other.
-use Rattle.std.proofs.Common.{◌≡◌, refl, ℕ, ◌+◌, ◌<◌, ◌≤◌, Bool, Option, Some, Ok, Err, List, [], ◌∷◌, ◌++◌, length, map, take, inl, inr, ap, sym, subst, ◌∙◌, arith, length-append, ◌⊎◌}
+use Rattle.std.proofs.Common.{◌≡◌, refl, ℕ, ◌+◌, ◌<◌, ◌≤◌, Bool, true, false, Option, Some, None, Ok, Err, List, [], ◌∷◌, ◌++◌, length, map, take, inl, inr, ap, sym, subst, ◌∙◌, arith, length-append, ◌⊎◌}
 use Rattle.std.specs.Io.KnownBytes.{Appends}
 use Rattle.std.proofs.KnownBytes.{Appends-nil, Appends-trans, Appends-kept}
+use Rattle.std.proofs.lemmas.Bool.{ltb-true}
 use Rattle.ffv1_range.specs.Counts.{saturated}
 use Rattle.ffv1_wire.specs.Failures.{one_more}
 use Rattle.ffv1_wire.specs.Passage.{Passage, between}
@@ -20,13 +21,13 @@ use Rattle.ffv1_unpack.specs.Located.{LocatedFault, WritesLine, WritesLocated, l
 use Rattle.ffv1_unpack.specs.Internal.Located.{LocatedAfter, StaysReached}
 use Rattle.ffv1_unpack.specs.Internal.Play.{ReadsEnd}
 use Rattle.ffv1_unpack.specs.Play.End.{File, Payload}
-use Rattle.ffv1_unpack.specs.Plays.{GoesBy, GoesThen, HasThen, NextEnds, NextHasFault, NextLacks, NextOver, NextPayloadLacks, NextReadFails, NextStays, PlaysThen, PlayStops, PlayStopsBy, RefusedAfter, TextFails}
-use Rattle.ffv1_unpack.specs.Internal.Plays.{OneStopsBy, PayloadFaults, PlaysAll, PlaysFrame, PlaysOne}
+use Rattle.ffv1_unpack.specs.Plays.{AtMost, GoesFrom, GoesThen, HasThen, NextBehindBy, NextEnds, NextHasFault, NextLacks, NextOver, NextPayloadLacks, NextReadFails, NextStays, PlaysThen, PlayStops, PlayStopsBy, RefusedFrom, TextFails, has_more}
+use Rattle.ffv1_unpack.specs.Internal.Plays.{OneStopsBy, PayloadFaults, PlaysFrame, PlaysMost, PlaysOne}
 use Rattle.ffv1_unpack.specs.Stream.{AreAll, Frame, IsFrame, ReadsFrames, frame_payload}
 use Rattle.ffv1_unpack.specs.Internal.Told.{FileStopsBy, WritesFrame}
 use Rattle.ffv1_video.specs.Output.{Silent}
 use Rattle.ffv1_unpack.proofs.FaultsLocated.{memory_silent}
-use Rattle.ffv1_unpack.proofs.FramesInTurn.{all_more, but_last_more, reads_more, reads_none}
+use Rattle.ffv1_unpack.proofs.FramesInTurn.{all_more, but_last_more, counted_more, reads_more, reads_none}
 use Rattle.ffv1_video.proofs.Output.{silent, take_past}
 use Rattle.ffv1_video.proofs.KnownTexts.{known_map, known_then}
 
@@ -86,8 +87,14 @@ module _ {X : Type 0} (Is : X → Type 0) (payload : X → List ℕ) (text : Lis
       PlaysThen Is payload (HasThen from) text (between i0 i2 ib ia) (between o0 o2 ob oa) xs Next
   plays_on Next none next = record { goes = goes_on Next next; wrote = record { written = none.same ∙ so.written; writes = Appends-kept o0 o1 o2 (text xs) so.writes none.kept } }
 
-  pub plays_all : ReadsEnd to (between i1 i2 im ia) → Silent (between o1 o2 om oa) → PlaysAll Is payload (HasThen from) text (between i0 i2 ib ia) (between o0 o2 ob oa) xs
-  plays_all over none = record { plays = plays_on NextOver none over.over; kept = over.kept ∙ so.kept }
+  -- and there is no further one
+  pub plays_over : (most : Option ℕ) → has_more most (length xs) ≡ true → AtMost most (length xs) → ReadsEnd to (between i1 i2 im ia) → Silent (between o1 o2 om oa) →
+      PlaysMost Is payload (HasThen from) text (between i0 i2 ib ia) (between o0 o2 ob oa) most xs
+  plays_over most room few over none = record {
+    plays = subst (λ b. PlaysThen Is payload (HasThen from) text (between i0 i2 ib ia) (between o0 o2 ob oa) xs (NextBehindBy b)) (sym room) (plays_on NextOver none over.over);
+    few = few;
+    kept = over.kept ∙ so.kept;
+  }
 
   -- one was played, whose text comes next
   module _ (line : X → List ℕ) (more : (x : X) → text (xs ++ (x ∷ [])) ≡ text xs ++ line x) where
@@ -125,20 +132,44 @@ module _ {X : Type 0} (Is : X → Type 0) (payload : X → List ℕ) (text : Lis
           };
         }
 
+-- as many were played as are wanted
+pub plays_full : {X : Type 0} (Is : X → Type 0) (payload : X → List ℕ) (text : List X → List ℕ) (from to : Place) (i0 i1 o0 o1 : Option (List ℕ)) (ib im ob om : ℕ) (xs : List X) →
+    SoFar Is payload text from (between i0 i1 ib im) (between o0 o1 ob om) xs to → (most : Option ℕ) → has_more most (length xs) ≡ false → AtMost most (length xs) →
+    PlaysMost Is payload (HasThen from) text (between i0 i1 ib im) (between o0 o1 ob om) most xs
+plays_full Is payload text from to i0 i1 o0 o1 ib im ob om xs so most full few = record {
+  plays = subst (λ b. PlaysThen Is payload (HasThen from) text (between i0 i1 ib im) (between o0 o1 ob om) xs (NextBehindBy b)) (sym full) (record {
+    goes = record { are = so.are; has = has_stays from to i0 i1 (map payload xs) so.read };
+    wrote = record { written = so.written; writes = so.writes };
+  });
+  few = few;
+  kept = so.kept;
+}
+
+pub none_at_most : (most : Option ℕ) → AtMost most 0
+none_at_most None = tt
+none_at_most (Some most) = omega arith
+
+pub one_at_most : {X : Type 0} (most : Option ℕ) (xs : List X) (x : X) → has_more most (length xs) ≡ true → AtMost most (length (xs ++ (x ∷ [])))
+one_at_most None xs x room = tt
+one_at_most (Some most) xs x room =
+    let less = ltb-true (length xs) most room in
+    let counted = counted_more xs x in
+    omega (arith, less, counted)
+
 -- why it goes no further, if the line of that is written
-module _ {X : Type 0} (Is : X → Type 0) (payload : X → List ℕ) (text : List X → List ℕ) (byte : Bool) (from to : Standing) (last : Place) (i0 i1 i2 o0 o1 o2 : Option (List ℕ)) (ib im ia ob om oa : ℕ)
+module _ {X : Type 0} (Is : X → Type 0) (payload : X → List ℕ) (text : List X → List ℕ) (byte : Bool) (number : ℕ → ℕ) (from to : Standing) (last : Place) (i0 i1 i2 o0 o1 o2 : Option (List ℕ)) (ib im ia ob om oa : ℕ)
     (xs : List X) (so : SoFar Is payload text from.place (between i0 i1 ib im) (between o0 o1 ob om) xs to.place) (reached : StaysReached from to (between i0 i1 ib im))
-    (line : X → List ℕ) (more : (x : X) → text (xs ++ (x ∷ [])) ≡ text xs ++ line x) (i : ℕ) (is : i ≡ saturated (length xs)) where
+    (line : X → List ℕ) (more : (x : X) → text (xs ++ (x ∷ [])) ≡ text xs ++ line x) (i : ℕ) (is : i ≡ number (length xs)) where
   located : (f : Fault) → WritesLocated (LocatedAfter to (between i1 i2 im ia)) byte i [] f (between o1 o2 om oa) →
-      RefusedAfter Is payload (HasThen from.place) text (between i0 i2 ib ia) (between o0 o2 ob oa) (LocatedAfter from (between i0 i2 ib ia)) byte xs f
-  located f h = located_behind from to i0 i1 i2 o0 o1 o2 ib im ia ob om oa byte i (saturated (length xs)) (text xs) is so.kept reached so.written so.writes f h
+      RefusedFrom Is payload (HasThen from.place) text (between i0 i2 ib ia) (between o0 o2 ob oa) number (LocatedAfter from (between i0 i2 ib ia)) byte xs f
+  located f h = located_behind from to i0 i1 i2 o0 o1 o2 ib im ia ob om oa byte i (number (length xs)) (text xs) is so.kept reached so.written so.writes f h
 
   comes : (Next : Place → List ℕ → List ℕ → Type 0) → Known i1 i2 (Next to.place) → GoesThen Is payload (HasThen from.place) text (between i0 i2 ib ia) (between o0 o2 ob oa) xs Next
   comes = goes_on Is payload text from.place to.place last i0 i1 i2 o0 o1 o2 ib im ia ob om oa xs so
 
   pub goes_by : (f : Fault) (why : Cause) →
       OneStopsBy Is payload line (λ g. WritesLocated (LocatedAfter to (between i1 i2 im ia)) byte i [] g (between o1 o2 om oa)) to.place last (between i1 i2 im ia) (between o1 o2 om oa) f why →
-      GoesBy Is payload (HasThen from.place) text (between i0 i2 ib ia) (between o0 o2 ob oa) (LocatedAfter from (between i0 i2 ib ia)) byte f why
+      GoesFrom Is payload (HasThen from.place) text (between i0 i2 ib ia) (between o0 o2 ob oa) number (LocatedAfter from (between i0 i2 ib ia)) byte f why
   goes_by f Writing h = (xs ++ (h.0 ∷ []), text_fails Is payload text from.place to.place last i0 i1 i2 o0 o1 o2 ib im ia ob om oa xs so line more h.0 h.1 h.2 h.3.0 h.3.1 h.3.2)
   goes_by f Reading h = (xs, located f h.0, h.1 ∙ ap one_more so.kept, comes NextReadFails h.2)
   goes_by f Memory h = (xs, h.1 ∙ so.kept, plays_on Is payload text from.place to.place last i0 i1 i2 o0 o1 o2 ib im ia ob om oa xs so (NextLacks Is payload) h.0 h.2)
@@ -152,7 +183,7 @@ pub record PlayedSo (a : Accepted) (text : List Frame → List ℕ) (from : Plac
   pub so : SoFar (IsFrame a) frame_payload text from input output frames to
 
 module _ (a : Accepted) (text : List Frame → List ℕ) (none : text [] ≡ []) (from : Place) (i o : Option (List ℕ)) (ib ob : ℕ) where
-  pub played_none : PlayedSo a text from (between i i ib ib) (between o o ob ob) 0 from
+  unfoldable pub played_none : PlayedSo a text from (between i i ib ib) (between o o ob ob) 0 from
   played_none =
       let no_count : 0 ≡ saturated 0 = omega arith in
       record { frames = []; is = no_count; so = none_yet (IsFrame a) frame_payload text none from i o ib ob }
@@ -170,15 +201,16 @@ module _ (a : Accepted) (text : List Frame → List ℕ) (none : text [] ≡ [])
 
 module _ (a : Accepted) (text : List Frame → List ℕ) (from to last : Place) (count : ℕ) (i0 i1 i2 o0 o1 o2 : Option (List ℕ)) (ib im ia ob om oa : ℕ)
     (so : PlayedSo a text from (between i0 i1 ib im) (between o0 o1 ob om) count to) where
-  pub played_over : ReadsEnd to (between i1 i2 im ia) → Silent (between o1 o2 om oa) → PlaysAll (IsFrame a) frame_payload (HasThen from) text (between i0 i2 ib ia) (between o0 o2 ob oa) so.frames
-  played_over = plays_all (IsFrame a) frame_payload text from to last i0 i1 i2 o0 o1 o2 ib im ia ob om oa so.frames so.so
+  pub played_over : (most : Option ℕ) → has_more most (length so.frames) ≡ true → AtMost most (length so.frames) → ReadsEnd to (between i1 i2 im ia) → Silent (between o1 o2 om oa) →
+      PlaysMost (IsFrame a) frame_payload (HasThen from) text (between i0 i2 ib ia) (between o0 o2 ob oa) most so.frames
+  played_over = plays_over (IsFrame a) frame_payload text from to last i0 i1 i2 o0 o1 o2 ib im ia ob om oa so.frames so.so
 
   then : (Next : Place → List ℕ → List ℕ → Type 0) → Silent (between o1 o2 om oa) → Known i1 i2 (Next to) →
       PlaysThen (IsFrame a) frame_payload (HasThen from) text (between i0 i2 ib ia) (between o0 o2 ob oa) so.frames Next
   then = plays_on (IsFrame a) frame_payload text from to last i0 i1 i2 o0 o1 o2 ib im ia ob om oa so.frames so.so
 
   module _ (line : Frame → List ℕ) (more : (f : Frame) → text (so.frames ++ (f ∷ [])) ≡ text so.frames ++ line f) where
-    pub played_more : (f : Frame) (new : ℕ) → new ≡ saturated (length (so.frames ++ (f ∷ []))) → PlaysFrame a to last (between i1 i2 im ia) f → oa ≡ om → Appends o1 o2 (line f) →
+    unfoldable pub played_more : (f : Frame) (new : ℕ) → new ≡ saturated (length (so.frames ++ (f ∷ []))) → PlaysFrame a to last (between i1 i2 im ia) f → oa ≡ om → Appends o1 o2 (line f) →
         PlayedSo a text from (between i0 i2 ib ia) (between o0 o2 ob oa) new last
     played_more f new is here same writes = record {
       frames = so.frames ++ (f ∷ []);

@@ -1,5 +1,5 @@
 -- Frames are unpacked one after the other.
-use Rattle.std.proofs.Common.{◌≡◌, refl, ℕ, ◌∙◌, ◌<◌, Option, Some, Ok, List, [], ◌∷◌, ◌++◌, length, take}
+use Rattle.std.proofs.Common.{◌≡◌, refl, ℕ, ◌<◌, true, false, Option, Some, Ok, List, [], ◌∷◌, ◌++◌, length, take}
 use Rattle.std.specs.Io.KnownBytes.{Appends}
 use Rattle.ffv1_wire.specs.Failures.{one_more}
 use Rattle.ffv1_wire.specs.Passage.{Passage, between}
@@ -7,13 +7,13 @@ use Rattle.ffv1_files.specs.Places.{Place}
 use Rattle.ffv1_files.specs.Files.{frame_read}
 use Rattle.ffv1_reads.specs.Known.{Known}
 use Rattle.ffv1_unpack.specs.Internal.Play.{ReadsEnd, ReadsPayload}
-use Rattle.ffv1_unpack.specs.Plays.{HasThen, NextIsPayload, NextOver, NextStays}
+use Rattle.ffv1_unpack.specs.Plays.{AtMost, HasThen, NextIsPayload, NextStays, has_more}
 use Rattle.ffv1_unpack.specs.Internal.Plays.{PlaysFrame}
 use Rattle.ffv1_unpack.specs.Stream.{Frame, IsFrame, Stream, frame_payload}
 use Rattle.ffv1_video.specs.Output.{Silent}
 use Rattle.ffv1_unpack.specs.Unpacked.{AreAlike, text_of}
-use Rattle.ffv1_unpack.specs.Unpacking.{GoesTo, PictureFails, UnpacksAll, UnpacksThen}
-use Rattle.ffv1_unpack.proofs.FramesPlayed.{SoFar, goes_on, has_stays, one_so, plays_on, text_fails}
+use Rattle.ffv1_unpack.specs.Unpacking.{GoesTo, PictureFails, UnpacksMost, UnpacksThen}
+use Rattle.ffv1_unpack.proofs.FramesPlayed.{SoFar, goes_on, has_stays, one_so, plays_full, plays_on, plays_over, text_fails}
 use Rattle.ffv1_unpack.proofs.FramesInTurn.{reads_none}
 use Rattle.ffv1_video.proofs.KnownTexts.{known_map}
 
@@ -29,8 +29,12 @@ module _ (s : Stream) (from to last : Place) (i0 i1 i2 o0 o1 o2 : Option (List �
       UnpacksThen (HasThen from) s (between i0 i2 ib ia) (between o0 o2 ob oa) frames Next
   unpacks_on Next none next = record { plays = plays_on (IsFrame s.accepted) frame_payload (text_of s) from to last i0 i1 i2 o0 o1 o2 ib im ia ob om oa frames un.so Next none next; alike = un.alike }
 
-  pub unpacks_all : ReadsEnd to (between i1 i2 im ia) → Silent (between o1 o2 om oa) → UnpacksAll (HasThen from) s (between i0 i2 ib ia) (between o0 o2 ob oa) frames
-  unpacks_all over none = record { unpacks = unpacks_on NextOver none over.over; kept = over.kept ∙ un.so.kept }
+  -- and there is no further one
+  pub unpacks_over : (most : Option ℕ) → has_more most (length frames) ≡ true → AtMost most (length frames) → ReadsEnd to (between i1 i2 im ia) → Silent (between o1 o2 om oa) →
+      UnpacksMost (HasThen from) s (between i0 i2 ib ia) (between o0 o2 ob oa) most frames
+  unpacks_over most room few over none =
+      let all = plays_over (IsFrame s.accepted) frame_payload (text_of s) from to last i0 i1 i2 o0 o1 o2 ib im ia ob om oa frames un.so most room few over none in
+      record { unpacks = record { plays = all.plays; alike = un.alike }; few = few; kept = all.kept }
 
   pub goes_to : (payload : List ℕ) → ReadsPayload to last payload (between i1 i2 im ia) → GoesTo (HasThen from) s (between i0 i2 ib ia) (between o0 o2 ob oa) frames payload
   goes_to payload reads =
@@ -51,6 +55,13 @@ module _ (s : Stream) (from to last : Place) (i0 i1 i2 o0 o1 o2 : Option (List �
       fails = text_fails (IsFrame s.accepted) frame_payload (text_of s) from to last i0 i1 i2 o0 o1 o2 ib im ia ob om oa frames un.so line more f plays counted k short writes;
       alike = alike;
     }
+
+-- as many were unpacked as are wanted
+pub unpacks_full : (s : Stream) (from to : Place) (i0 i1 o0 o1 : Option (List ℕ)) (ib im ob om : ℕ) (frames : List Frame) → Unpacked s from (between i0 i1 ib im) (between o0 o1 ob om) frames to →
+    (most : Option ℕ) → has_more most (length frames) ≡ false → AtMost most (length frames) → UnpacksMost (HasThen from) s (between i0 i1 ib im) (between o0 o1 ob om) most frames
+unpacks_full s from to i0 i1 o0 o1 ib im ob om frames un most full few =
+    let all = plays_full (IsFrame s.accepted) frame_payload (text_of s) from to i0 i1 o0 o1 ib im ob om frames un.so most full few in
+    record { unpacks = record { plays = all.plays; alike = un.alike }; few = few; kept = all.kept }
 
 -- memory was refused before the first one
 pub none_unpacked : (s : Stream) (from : Place) (i o : Option (List ℕ)) (ib ob : ℕ) → AreAlike s [] → Appends o o (text_of s []) → UnpacksThen (HasThen from) s (between i i ib ib) (between o o ob ob) [] NextStays

@@ -18,13 +18,13 @@ use Rattle.ffv1_unpack.specs.Stream.{Frame, IsFrame, Stream, frame_payload}
 use Rattle.ffv1_video.specs.Output.{Silent}
 use Rattle.ffv1_codec.specs.Outcome.{lines_before}
 use Rattle.ffv1_unpack.specs.Unpacked.{AlikeBy, is_ppm_stream, ppm_text, rows_by, text_by, text_of}
-use Rattle.ffv1_unpack.specs.Unpacking.{GoesTo, PayloadStops, RowFails, UnpackingStops, UnpackingStopsBy, UnpacksAll, UnpacksThen}
-use Rattle.ffv1_unpack.specs.Plays.{HasThen, NextHasFault, NextPayloadLacks, NextReadFails}
+use Rattle.ffv1_unpack.specs.Unpacking.{GoesTo, PayloadStops, RowFails, UnpackingStops, UnpackingStopsBy, UnpacksMost, UnpacksThen}
+use Rattle.ffv1_unpack.specs.Plays.{AtMost, HasThen, NextHasFault, NextPayloadLacks, NextReadFails, has_more}
 use Rattle.ffv1_unpack.specs.Internal.Plays.{PlaysFrame}
 use Rattle.ffv1_unpack.specs.Internal.Play.{ReadsEnd, ReadsPayload}
 use Rattle.ffv1_video.proofs.Output.{take_past}
 use Rattle.ffv1_unpack.proofs.FramesPlayed.{none_yet}
-use Rattle.ffv1_unpack.proofs.FramesUnpacked.{Unpacked, goes_to, none_unpacked, unpacks_all, unpacks_more, unpacks_on}
+use Rattle.ffv1_unpack.proofs.FramesUnpacked.{Unpacked, goes_to, none_unpacked, unpacks_over, unpacks_more, unpacks_on}
 
 -- the text grows by the next image
 text_more : (s : Stream) (frames : List Frame) (f : Frame) →
@@ -68,8 +68,9 @@ module _ (s : Stream) (ppm : is_ppm_stream s ≡ true) (from : Place) where
         Unpacked s from (between i0 i2 ib ia) (between o0 o2 ob oa) (frames ++ (f ∷ [])) last
     images_more f plays same writes = unpacks_more s from to last i0 i1 i2 o0 o1 o2 ib im ia ob om oa frames un image (whole_text frames) f plays (all_alike (frames ++ (f ∷ []))) same writes
 
-    pub images_over : ReadsEnd to (between i1 i2 im ia) → Silent (between o1 o2 om oa) → UnpacksAll (HasThen from) s (between i0 i2 ib ia) (between o0 o2 ob oa) frames
-    images_over = unpacks_all s from to last i0 i1 i2 o0 o1 o2 ib im ia ob om oa frames un
+    pub images_over : (most : Option ℕ) → has_more most (length frames) ≡ true → AtMost most (length frames) → ReadsEnd to (between i1 i2 im ia) → Silent (between o1 o2 om oa) →
+        UnpacksMost (HasThen from) s (between i0 i2 ib ia) (between o0 o2 ob oa) most frames
+    images_over = unpacks_over s from to last i0 i1 i2 o0 o1 o2 ib im ia ob om oa frames un
 
     then : (Next : Place → List ℕ → List ℕ → Type 0) → Silent (between o1 o2 om oa) → Known i1 i2 (Next to) → UnpacksThen (HasThen from) s (between i0 i2 ib ia) (between o0 o2 ob oa) frames Next
     then = unpacks_on s from to last i0 i1 i2 o0 o1 o2 ib im ia ob om oa frames un

@@ -7,6 +7,7 @@ mod FramesPlayed
 mod FramesTold
 mod FramesUnpacked
 mod FilePlayed
+mod FramesPassed
 mod FileChecked
 mod FramesJudged
 mod FileJudged
@@ -15,6 +16,8 @@ mod ItemsJudged
 mod FileItems
 mod PicturesWritten
 mod FileUnpacked
+mod WholeRange
+mod RangePlayed
 mod ImageLines
 mod ImagesWritten
 mod ImagesSoFar
@@ -27,3 +30,5 @@ mod Md5sSoFar
 mod Md5Numbers
 mod Md5Lists
 mod FramesCompared
+mod FramesInParts
+mod AllJudged

@@ -1,10 +1,9 @@
 -- A file that was opened is read as what its first byte says.
-use Rattle.std.proofs.Common.{◌≡◌, ◌⊎◌, refl, Bool, if◌then◌else◌, true, false, Option, Some, None, Result, Ok, Err, List, ℕ, inl, inr, ap, sym, ◌∙◌}
+use Rattle.std.proofs.Common.{◌≡◌, ◌⊎◌, refl, Bool, if◌then◌else◌, true, false, Option, Some, None, Result, Ok, Err, List, ℕ, inl, inr, ap, ◌∙◌}
 use Rattle.ffv1_reads.specs.Head.{Head}
 use Rattle.ffv1_reads.specs.Reads.{Stop, given, read_on}
 use Rattle.ffv1_reads.proofs.Results.{ok_is}
 use Rattle.ffv1_avi.specs.Files as avi
-use Rattle.ffv1_avi.specs.declared.place.Extent.{Extent}
 use Rattle.ffv1_avi.specs.declared.place.Extent.TheVariants.{FirstMovi, EveryRiff}
 use Rattle.ffv1_avi.specs.declared.place.Place.{Place as AviPlace}
 use Rattle.ffv1_matroska.specs.Opened as beginning

@@ -132,7 +132,23 @@ written_unpacks profile place f within h = elim h [
   | inr own ↦ inr (container_own profile place f within own)
 ]
 
--- and so are those of opening it
+-- and so are those of passing frames
+pub passing_checks : (profile : Profile) (place : Place) (f : Fault) → IsWithin profile place → (f ≡ fault.NoFrames) ⊎ IsToldFault (container_of place) f → IsCheckFault profile f
+passing_checks profile place f within h = elim h [
+  | inl none ↦ inr (inr (inl none))
+  | inr told ↦ told_checks profile place f within told
+]
+
+pub passing_unpacks : (profile : Profile) (place : Place) (f : Fault) → IsWithin profile place → (f ≡ fault.NoFrames) ⊎ IsToldFault (container_of place) f → IsUnpackFaultIn profile f
+passing_unpacks profile place f within h = elim h [
+  | inl none ↦ inl (inr (inr (inl none)))
+  | inr told ↦ elim told [
+    | inl own ↦ inl (inr (inl own))
+    | inr own ↦ inr (container_own profile place f within own)
+  ]
+]
+
+-- and those of opening it
 pub opening_checks : (profile : Profile) (f : Fault) → (is_opening_fault f ≡ true) ⊎ (is_profile_fault profile f ≡ true) → IsCheckFault profile f
 opening_checks profile f h = elim h [
   | inl own ↦ inl own

@@ -1,5 +1,5 @@
 -- Pictures are written one after the other.
-use Rattle.std.proofs.Common.{rules, ◌≡◌, ◌≢◌, refl, ℕ, ◌+◌, true, false, Option, Some, None, Err, List, [], ◌∷◌, ◌++◌, length, inl, inr, ap, sym, subst, ◌∙◌, append-nil, append_assoc}
+use Rattle.std.proofs.Common.{rules, ◌≡◌, ◌≢◌, refl, ℕ, true, false, Option, Some, None, Err, List, [], ◌∷◌, ◌++◌, length, inl, inr, ap, sym, subst, ◌∙◌, append-nil, append_assoc}
 use Rattle.std.specs.List.{flat_map}
 use Rattle.std.specs.Io.KnownBytes.{Appends}
 use Rattle.std.proofs.KnownBytes.{Appends-nil, Appends-kept}
@@ -28,14 +28,14 @@ use Rattle.ffv1_unpack.specs.Internal.Told.{FileStopsBy}
 use Rattle.ffv1_video.specs.Output.{Silent}
 use Rattle.ffv1_codec.specs.Outcome.{lines_before}
 use Rattle.ffv1_unpack.specs.Unpacked.{AlikeBy, AllSay, is_ppm_stream, pictures, rows_by, text_by, text_of, video_of, y4m_text}
-use Rattle.ffv1_unpack.specs.Unpacking.{FormatChanges, PayloadStops, UnpackingStops, UnpackingStopsBy, UnpacksAll, UnpacksThen}
-use Rattle.ffv1_unpack.specs.Plays.{HasThen, NextHasFault, NextPayloadLacks, NextReadFails}
+use Rattle.ffv1_unpack.specs.Unpacking.{FormatChanges, PayloadStops, UnpackingStops, UnpackingStopsBy, UnpacksMost, UnpacksThen}
+use Rattle.ffv1_unpack.specs.Plays.{AtMost, HasThen, NextHasFault, NextPayloadLacks, NextReadFails, has_more}
 use Rattle.ffv1_unpack.specs.Internal.Plays.{PayloadFaults, PlaysFrame}
 use Rattle.ffv1_unpack.specs.Internal.Play.{ReadsEnd}
 use Rattle.ffv1_unpack.proofs.FramesInTurn.{all_more, reads_more}
 use Rattle.ffv1_video.proofs.Output.{silent}
 use Rattle.ffv1_unpack.proofs.FramesPlayed.{has_stays, none_yet}
-use Rattle.ffv1_unpack.proofs.FramesUnpacked.{Unpacked, goes_to, none_unpacked, picture_fails, unpacks_all, unpacks_more, unpacks_on}
+use Rattle.ffv1_unpack.proofs.FramesUnpacked.{Unpacked, goes_to, none_unpacked, picture_fails, unpacks_over, unpacks_more, unpacks_on}
 
 -- the writer after the pictures of frames
 abbrev pub begun_behind : ℕ → VideoHead → List Frame → Begun
@@ -116,8 +116,9 @@ module _ (s : Stream) (h : VideoHead) (heads : (said : Said) → head_saying h s
         Unpacked s from (between i0 i2 ib ia) (between o0 o2 ob oa) (frames ++ (f ∷ [])) last
     unpacked_more f plays again same writes = unpacks_more s from to last i0 i1 i2 o0 o1 o2 ib im ia ob om oa frames un behind (whole_text frames) f plays (more_alike f again) same writes
 
-    pub unpacked_over : ReadsEnd to (between i1 i2 im ia) → Silent (between o1 o2 om oa) → UnpacksAll (HasThen from) s (between i0 i2 ib ia) (between o0 o2 ob oa) frames
-    unpacked_over = unpacks_all s from to last i0 i1 i2 o0 o1 o2 ib im ia ob om oa frames un
+    pub unpacked_over : (most : Option ℕ) → has_more most (length frames) ≡ true → AtMost most (length frames) → ReadsEnd to (between i1 i2 im ia) → Silent (between o1 o2 om oa) →
+        UnpacksMost (HasThen from) s (between i0 i2 ib ia) (between o0 o2 ob oa) most frames
+    unpacked_over = unpacks_over s from to last i0 i1 i2 o0 o1 o2 ib im ia ob om oa frames un
 
     then : (Next : Place → List ℕ → List ℕ → Type 0) → Silent (between o1 o2 om oa) → Known i1 i2 (Next to) → UnpacksThen (HasThen from) s (between i0 i2 ib ia) (between o0 o2 ob oa) frames Next
     then = unpacks_on s from to last i0 i1 i2 o0 o1 o2 ib im ia ob om oa frames un

@@ -1,6 +1,7 @@
 -- What `check_all` writes, and why it is refused.
 use Rattle.std.specs.Prelude.{◌≡◌, ◌⊎◌, ℕ, ◌<◌, Bool, true, false, List, ◌++◌, length, slice_get}
 use Rattle.std.specs.Prelude.{Option}
+use Rattle.ffv1_words.specs.declared.order.FrameRange.{FrameRange}
 use Rattle.std.specs.Io.KnownBytes.{Appends}
 use Rattle.ffv1_range.specs.Counts.{saturated}
 use Rattle.ffv1_wire.specs.Passage.{Passage}
@@ -8,11 +9,13 @@ use Rattle.ffv1_record.specs.Configuration.{Configuration}
 use Rattle.ffv1_reads.specs.Known.{Known}
 use Rattle.ffv1_video.specs.declared.profile.Profile.{Profile}
 use Rattle.ffv1_video.specs.declared.fault.Fault.{Fault}
-use Rattle.ffv1_unpack.specs.Checked.{CheckedStops}
+use Rattle.ffv1_unpack.specs.Checked.{CheckedRangeStops, CheckedStops}
 use Rattle.ffv1_unpack.specs.Containers.{IsReadAs}
-use Rattle.ffv1_unpack.specs.Judged.{IsJudged, Judged, counts_line, judged_lines, payload_of}
-use Rattle.ffv1_unpack.specs.Judged.{payloads_of, refusals}
+use Rattle.ffv1_unpack.specs.Judged.{IsJudged, Judged, counts_line, judged_from, judged_lines}
+use Rattle.ffv1_unpack.specs.Judged.{payload_of, payloads_of, refusals}
 use Rattle.ffv1_unpack.specs.JudgedItems.{ItemsDone, ItemsFault}
+use Rattle.ffv1_unpack.specs.Plays.{AtMost, NextBehind}
+use Rattle.ffv1_unpack.specs.Ranges.{RangeThen}
 use Rattle.ffv1_unpack.specs.Stream.{AreAll, HoldsPayloads, IsStream, Stream}
 
 -- how many frames there were, and how many of them were refused
@@ -57,3 +60,29 @@ module _ (profile : Profile) (place : Bool) (input output : Passage) where
   AllStops f =
       (IsReadAs false profile input.old × CheckAllStops f)
       ⊎ (IsReadAs true profile input.old × ItemsFault profile place input output f)
+
+-- ---- the frames of a range
+
+module _ (profile : Profile) (place : Bool) (range : FrameRange) (input output : Passage) where
+  -- they were judged, at least one, and the text of them was written; the answer is the fault of
+  -- the first one that is refused
+  pub record CheckAllRangeDone (first : Option Fault) : Type 0 where
+    pub stream : Stream
+    pub judged : List Judged
+    pub some : 0 < length judged
+    pub few : AtMost range.count (length judged)
+    pub is : IsStream profile stream
+    pub are : AreAll (IsJudged stream.accepted) judged
+    pub reads : Known input.old input.new (RangeThen profile range.first stream.head
+        (payloads_of judged) (NextBehind range.count (length judged)))
+    pub kept : input.after ≡ input.before
+    pub written : output.after ≡ output.before
+    pub writes : Appends output.old output.new
+        (judged_from place stream.accepted.configuration range.first judged ++ judged_count judged)
+    pub told : first ≡ slice_get (refusals judged) 0
+
+  -- why they are refused, which no fault of a payload is a reason for
+  abbrev pub CheckAllRangeStops : Fault → Type 0
+  CheckAllRangeStops f =
+      CheckedRangeStops IsJudged payload_of (λ c. judged_from place c range.first) judged_count
+      profile place range input output f

@@ -9,6 +9,7 @@ pub mod JudgedItems
 pub mod Located
 pub mod Md5List
 pub mod Opens
+pub mod Passing
 pub mod PicturesOut
 pub mod Play
 pub mod Plays

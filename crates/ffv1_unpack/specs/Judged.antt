@@ -10,7 +10,6 @@ use Rattle.ffv1_record.specs.Accepted.{Accepted}
 use Rattle.ffv1_frame.specs.declared.fault.CodecFault.{CodecFault}
 use Rattle.ffv1_frame.specs.declared.fault.CodecFault.TheVariants as codec_fault
 use Rattle.ffv1_frame.specs.declared.fault.FrameFault.{FrameFault}
-use Rattle.ffv1_files.specs.Places.{Place}
 use Rattle.ffv1_video.specs.declared.fault.Fault.{Fault}
 use Rattle.ffv1_unpack.specs.declared.frame_line.FrameLine.TheVariants as line
 use Rattle.ffv1_video.specs.Faults.{of_codec}

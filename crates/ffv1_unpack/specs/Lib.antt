@@ -5,6 +5,7 @@ pub mod FrameLines
 pub mod Located
 pub mod Opens
 pub mod Plays
+pub mod Ranges
 pub mod Told
 pub mod Judged
 pub mod JudgedItems

@@ -1,8 +1,8 @@
 -- Playing a file: reading and decoding its frames one after the other, and writing text of them at
 -- once. How far that goes, and why it goes no further, is said once for commands, by what is
 -- played, how a file has payloads and what text there is.
-use Rattle.std.specs.Prelude.{◌≡◌, ◌⊎◌, ℕ, ◌<◌, Bool, List, [], length, map, Some}
-use Rattle.std.specs.Prelude.{None, Ok}
+use Rattle.std.specs.Prelude.{◌≡◌, ◌⊎◌, ℕ, ◌<◌, ◌≤◌, Bool, true, false, List, [], length, map, Some}
+use Rattle.std.specs.Prelude.{None, Ok, Option, nat_lt, ⊤}
 use Rattle.std.specs.Io.KnownBytes.{Appends}
 use Rattle.ffv1_range.specs.Counts.{saturated}
 use Rattle.ffv1_wire.specs.Failures.{one_more}
@@ -72,6 +72,26 @@ NextIsPayload payload to at rest =
 abbrev pub NextEnds : End → Place → List ℕ → List ℕ → Type 0
 NextEnds end to at rest = EndsReading to at rest end
 
+-- ---- at most so many
+
+-- whether one more may come after so many
+abbrev pub has_more : Option ℕ → ℕ → Bool
+has_more None n = true
+has_more (Some most) n = nat_lt n most
+
+-- so many are not too many
+abbrev pub AtMost : Option ℕ → ℕ → Type 0
+AtMost None n = ⊤
+AtMost (Some most) n = n ≤ most
+
+-- after so many comes this: if one more may come, there is none; else nothing more was read
+abbrev pub NextBehindBy : Bool → Place → List ℕ → List ℕ → Type 0
+NextBehindBy true = NextOver
+NextBehindBy false = NextStays
+
+abbrev pub NextBehind : Option ℕ → ℕ → Place → List ℕ → List ℕ → Type 0
+NextBehind most n = NextBehindBy (has_more most n)
+
 -- ---- what is played, frames or payloads that are judged: by what each is, and its payload
 
 module _ {X : Type 0} (Is : X → Type 0) (payload : X → List ℕ) where
@@ -105,24 +125,32 @@ module _ {X : Type 0} (Is : X → Type 0) (payload : X → List ℕ)
     pub written : output.after ≡ one_more output.before
     pub writes : WritesUpTo output.old output.new (length (text (but_last xs))) (text xs)
 
-  -- after these the file is refused at that offset, and the line of that was written
-  abbrev pub RefusedAfter : (Fault → ℕ → Type 0) → Bool → List X → Fault → Type 0
-  RefusedAfter Stops byte xs f =
-      WritesLocated Stops byte (saturated (length xs)) (text xs) f output
+  -- after these the file is refused at that offset, and the line of that was written, with the
+  -- number of the one that would come next, by how many came before
+  abbrev pub RefusedFrom : (ℕ → ℕ) → (Fault → ℕ → Type 0) → Bool → List X → Fault → Type 0
+  RefusedFrom number Stops byte xs f =
+      WritesLocated Stops byte (number (length xs)) (text xs) f output
 
   -- why it goes no further, if that line is written, by the cause: a write failed, which was
   -- counted; a read of the next one failed, which was counted; memory was refused; or the file has
   -- this fault
-  abbrev pub GoesBy : (Fault → ℕ → Type 0) → Bool → Fault → Cause → Type 0
-  GoesBy Stops byte f Writing = (xs : List X) × TextFails xs
-  GoesBy Stops byte f Reading =
-      (xs : List X) × RefusedAfter Stops byte xs f × (input.after ≡ one_more input.before)
+  abbrev pub GoesFrom : (ℕ → ℕ) → (Fault → ℕ → Type 0) → Bool → Fault → Cause → Type 0
+  GoesFrom number Stops byte f Writing = (xs : List X) × TextFails xs
+  GoesFrom number Stops byte f Reading =
+      (xs : List X) × RefusedFrom number Stops byte xs f × (input.after ≡ one_more input.before)
       × GoesThen xs NextReadFails
-  GoesBy Stops byte f Memory =
+  GoesFrom number Stops byte f Memory =
       (xs : List X) × (input.after ≡ input.before) × PlaysThen xs (NextLacks Is payload)
-  GoesBy Stops byte f Content =
-      (xs : List X) × RefusedAfter Stops byte xs f × (input.after ≡ input.before)
+  GoesFrom number Stops byte f Content =
+      (xs : List X) × RefusedFrom number Stops byte xs f × (input.after ≡ input.before)
       × GoesThen xs (NextHasFault f)
+
+  -- the same where the first one has the number 0
+  abbrev pub RefusedAfter : (Fault → ℕ → Type 0) → Bool → List X → Fault → Type 0
+  RefusedAfter = RefusedFrom saturated
+
+  abbrev pub GoesBy : (Fault → ℕ → Type 0) → Bool → Fault → Cause → Type 0
+  GoesBy = GoesFrom saturated
 
 -- frames, if no such line is written
 module _ (Has : List (List ℕ) → (Place → List ℕ → List ℕ → Type 0) → List ℕ → List ℕ → Type 0)
@@ -171,13 +199,16 @@ module _ (profile : Profile) (text : Stream → List Frame → List ℕ) (input 
     pub written : output.after ≡ output.before
     pub writes : Appends output.old output.new (text stream frames)
 
-  -- why no further text is written
-  pub record FileGoes (f : Fault) (why : Cause) : Type 0 where
+  -- why no further text is written, by how a file with this head has payloads
+  pub record StreamGoes
+      (Held : Head → List (List ℕ) → (Place → List ℕ → List ℕ → Type 0) → List ℕ → List ℕ → Type 0)
+      (f : Fault) (why : Cause) : Type 0 where
     pub stream : Stream
     pub is : IsStream profile stream
-    pub stops : PlayStopsBy (FileThen profile stream.head) stream.accepted (text stream) input
-        output f why
+    pub stops : PlayStopsBy (Held stream.head) stream.accepted (text stream) input output f why
 
   -- why it is refused: it was not opened, and nothing was written; or no further text is
   abbrev pub FileStops : Fault → Type 0
-  FileStops f = (Silent output × LacksOpening profile input f) ⊎ FileGoes f (cause_of f)
+  FileStops f =
+      (Silent output × LacksOpening profile input f)
+      ⊎ StreamGoes (FileThen profile) f (cause_of f)

@@ -20,21 +20,30 @@ use Rattle.ffv1_unpack.specs.Located.{WritesLine}
 
 -- by how a file has payloads
 module _ (Has : List (List ℕ) → (Place → List ℕ → List ℕ → Type 0) → List ℕ → List ℕ → Type 0)
-    (kind : FrameLine) (place : Bool) (a : Accepted) (input output : Passage) where
-  -- the payload after these frames has its first fault
-  pub record PayloadStops (f : Fault) : Type 0 where
+    (lines : List Frame → List ℕ) (number : ℕ → ℕ) (place : Bool) (a : Accepted)
+    (input output : Passage) where
+  -- the payload after these frames, with these lines, has its first fault; its number is by how
+  -- many they are
+  pub record PayloadStopsFrom (f : Fault) : Type 0 where
     pub frames : List Frame
     pub payload : List ℕ
     pub fault : FrameFault
     pub tally : Tally
-    pub goes : GoesThen (IsFrame a) frame_payload Has (frame_lines kind a.configuration) input
-        output frames (NextIsPayload payload)
+    pub goes : GoesThen (IsFrame a) frame_payload Has lines input output frames
+        (NextIsPayload payload)
     pub faulty : FaultsOf a payload fault tally
     pub is : f ≡ of_codec fault.fault
     pub content : cause_of f ≡ Content
     pub kept : input.after ≡ input.before
-    pub writes : WritesLine (frame_lines kind a.configuration frames)
-        (place_text place (saturated (length frames)) fault tally) output
+    pub writes : WritesLine (lines frames)
+        (place_text place (number (length frames)) fault tally) output
+
+-- the same where the first frame has the number 0
+abbrev pub PayloadStops :
+    (List (List ℕ) → (Place → List ℕ → List ℕ → Type 0) → List ℕ → List ℕ → Type 0) →
+    FrameLine → Bool → Accepted → Passage → Passage → Fault → Type 0
+PayloadStops Has kind place a =
+    PayloadStopsFrom Has (frame_lines kind a.configuration) saturated place a
 
 -- the faults that telling frames has, whatever the file: those of reading a frame, of decoding it,
 -- and of writing its line

@@ -1,21 +1,25 @@
 -- What `unpack` writes, and why it is refused.
-use Rattle.std.specs.Prelude.{◌≡◌, ◌⊎◌, ℕ, ◌<◌, true, List, [], length}
+use Rattle.std.specs.Prelude.{◌≡◌, ◌⊎◌, ℕ, ◌<◌, true, List, [], length, Option, None}
 use Rattle.std.specs.Io.KnownBytes.{Appends}
 use Rattle.ffv1_range.specs.Counts.{saturated}
 use Rattle.ffv1_wire.specs.Passage.{Passage}
+use Rattle.ffv1_reads.specs.Head.{Head}
 use Rattle.ffv1_reads.specs.Known.{Known}
+use Rattle.ffv1_files.specs.Places.{Place}
+use Rattle.ffv1_words.specs.declared.order.FrameRange.{FrameRange}
 use Rattle.ffv1_video.specs.declared.profile.Profile.{Profile}
 use Rattle.ffv1_video.specs.declared.fault.Fault.{Fault}
 use Rattle.ffv1_video.specs.declared.fault.Fault.TheVariants as fault
 use Rattle.ffv1_unpack.specs.Containers.{is_profile_fault}
 use Rattle.ffv1_unpack.specs.Opens.{LacksOpening, is_opening_fault}
-use Rattle.ffv1_unpack.specs.Stream.{Frame, IsStream, ReadsFile, Stream}
+use Rattle.ffv1_unpack.specs.Stream.{Frame, IsStream, ReadsFile, Stream, payloads}
 use Rattle.ffv1_unpack.specs.Play.{Played}
-use Rattle.ffv1_unpack.specs.Plays.{FileThen, NextStays}
+use Rattle.ffv1_unpack.specs.Plays.{AtMost, FileThen, NextBehind, NextStays}
+use Rattle.ffv1_unpack.specs.Ranges.{PassStops, RangeThen}
 use Rattle.ffv1_unpack.specs.Told.{is_telling_fault}
 use Rattle.ffv1_video.specs.Output.{Silent}
 use Rattle.ffv1_unpack.specs.Unpacked.{AreAlike, HasText, LacksText, text_of}
-use Rattle.ffv1_unpack.specs.Unpacking.{UnpackingStops, UnpacksAll}
+use Rattle.ffv1_unpack.specs.Unpacking.{UnpackingStops, UnpacksMost}
 
 -- the file is opened, and its pictures have no text
 pub record LacksTextIn (profile : Profile) (p : Passage) (f : Fault) : Type 0 where
@@ -44,26 +48,59 @@ module _ (profile : Profile) (input output : Passage) where
     pub written : output.after ≡ output.before
     pub writes : Appends output.old output.new (text_of stream frames)
 
-  -- there is no frame
-  pub record UnpackNone : Type 0 where
-    pub stream : Stream
-    pub is : IsStream profile stream
-    pub text : HasText stream
-    pub all : UnpacksAll (FileThen profile stream.head) stream input output []
+  module _
+      (Held : Head → List (List ℕ) → (Place → List ℕ → List ℕ → Type 0) → List ℕ → List ℕ → Type 0)
+    where
+      -- there is no frame, by how a file with this head has payloads, and of at most so many
+      pub record UnpackNone (most : Option ℕ) : Type 0 where
+        pub stream : Stream
+        pub is : IsStream profile stream
+        pub text : HasText stream
+        pub all : UnpacksMost (Held stream.head) stream input output most []
 
-  -- why no further picture is written
-  pub record UnpackGoes (f : Fault) : Type 0 where
-    pub stream : Stream
-    pub is : IsStream profile stream
-    pub text : HasText stream
-    pub stops : UnpackingStops (FileThen profile stream.head) stream input output f
+      -- why no further picture is written
+      pub record UnpackGoes (f : Fault) : Type 0 where
+        pub stream : Stream
+        pub is : IsStream profile stream
+        pub text : HasText stream
+        pub stops : UnpackingStops (Held stream.head) stream input output f
 
   -- why it is refused: the file is not opened for that, and nothing was written; or no further
   -- picture is written; or there is none
   abbrev pub UnpackStops : Fault → Type 0
   UnpackStops f =
       (Silent output × LacksUnpacking profile input f)
-      ⊎ UnpackGoes f ⊎ ((f ≡ fault.NoFrames) × UnpackNone)
+      ⊎ UnpackGoes (FileThen profile) f
+      ⊎ ((f ≡ fault.NoFrames) × UnpackNone (FileThen profile) None)
+
+-- ---- the frames of a range
+
+module _ (profile : Profile) (range : FrameRange) (input output : Passage) where
+  -- they were decoded, at least one, and the text of them was written
+  pub record UnpackRangeDone (count : ℕ) : Type 0 where
+    pub stream : Stream
+    pub frames : List Frame
+    pub some : 0 < length frames
+    pub few : AtMost range.count (length frames)
+    pub counted : count ≡ saturated (length frames)
+    pub text : HasText stream
+    pub played : Played profile stream frames
+    pub alike : AreAlike stream frames
+    pub reads : Known input.old input.new (RangeThen profile range.first stream.head
+        (payloads frames) (NextBehind range.count (length frames)))
+    pub kept : input.after ≡ input.before
+    pub written : output.after ≡ output.before
+    pub writes : Appends output.old output.new (text_of stream frames)
+
+  -- why they are refused: the file is not opened for that, or the range is not reached, and nothing
+  -- was written; or no further picture is written; or there is none
+  abbrev pub UnpackRangeStops : Fault → Type 0
+  UnpackRangeStops f =
+      (Silent output × (LacksUnpacking profile input f
+      ⊎ ((passed : ℕ) × PassStops profile range.first input passed f)))
+      ⊎ UnpackGoes profile input output (RangeThen profile range.first) f
+      ⊎ ((f ≡ fault.NoFrames)
+      × UnpackNone profile input output (RangeThen profile range.first) range.count)
 
 -- the faults that unpacking has, whatever the file: those of opening it, of reading and decoding
 -- its frames and of writing, and its own four

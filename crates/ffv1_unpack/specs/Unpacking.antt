@@ -1,6 +1,6 @@
 -- Decoding the frames of a file one after the other, and writing each picture: how far that goes,
 -- and why it goes no further.
-use Rattle.std.specs.Prelude.{◌≡◌, ◌⊎◌, ℕ, true, List, [], ◌∷◌, ◌++◌, length}
+use Rattle.std.specs.Prelude.{◌≡◌, ◌⊎◌, ℕ, true, List, [], ◌∷◌, ◌++◌, length, Option, None}
 use Rattle.std.specs.Io.KnownBytes.{Appends}
 use Rattle.ffv1_range.specs.declared.tally.Tally.{Tally}
 use Rattle.ffv1_wire.specs.Failures.{one_more}
@@ -16,7 +16,8 @@ use Rattle.ffv1_codec.specs.Outcome.{OffersLine}
 use Rattle.ffv1_codec.specs.Outcome.{FaultsOf}
 use Rattle.ffv1_unpack.specs.Stream.{Frame, IsFrame, Stream, frame_payload}
 use Rattle.ffv1_video.specs.Output.{WritesUpTo}
-use Rattle.ffv1_unpack.specs.Plays.{FramesThen, GoesThen, NextHasFault, NextIsPayload, NextOver}
+use Rattle.ffv1_unpack.specs.Plays.{AtMost, FramesThen, GoesThen, NextBehind, NextHasFault}
+use Rattle.ffv1_unpack.specs.Plays.{NextIsPayload}
 use Rattle.ffv1_unpack.specs.Plays.{NextPayloadLacks, NextReadFails, NextStays, TextFails}
 use Rattle.ffv1_unpack.specs.Plays.{WritesText}
 use Rattle.ffv1_codec.specs.Outcome.{lines_before}
@@ -31,10 +32,15 @@ module _ (Has : List (List ℕ) → (Place → List ℕ → List ℕ → Type 0)
     pub plays : FramesThen Has s.accepted (text_of s) input output frames Next
     pub alike : AreAlike s frames
 
-  -- they are all
-  pub record UnpacksAll (frames : List Frame) : Type 0 where
-    pub unpacks : UnpacksThen frames NextOver
+  -- they are all, of at most so many
+  pub record UnpacksMost (most : Option ℕ) (frames : List Frame) : Type 0 where
+    pub unpacks : UnpacksThen frames (NextBehind most (length frames))
+    pub few : AtMost most (length frames)
     pub kept : input.after ≡ input.before
+
+  -- they are all
+  abbrev pub UnpacksAll : List Frame → Type 0
+  UnpacksAll frames = UnpacksMost None frames
 
   -- the picture of the last of them was not written whole
   pub record PictureFails (frames : List Frame) : Type 0 where

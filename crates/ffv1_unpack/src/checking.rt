@@ -1,20 +1,28 @@
 //! Decodes all frames of a file, and prints a line of each.
 
-ghost use Rattle.std.specs.Prelude.{IfErr, IfOk, OnOk};
+ghost use Rattle.std.specs.Prelude.{◌≡◌, IfErr, IfOk, OnOk};
 ghost use Rattle.ffv1_wire.specs.Passage.{passage};
+ghost use Rattle.ffv1_files.specs.Offsets.{Reached};
+ghost use Rattle.ffv1_video.specs.Profiles.{scope_in};
 ghost use Rattle.ffv1_unpack.specs.Check.{CheckDone, CheckStops, IsCheckFault, count_line};
+ghost use Rattle.ffv1_unpack.specs.Check.{CheckRangeDone, CheckRangeStops};
 ghost use Rattle.ffv1_unpack.specs.CheckAll.{AllDone, AllStops};
+ghost use Rattle.ffv1_unpack.specs.CheckAll.{CheckAllRangeDone, CheckAllRangeStops};
+ghost use Rattle.ffv1_unpack.specs.Checked.{LacksRange};
+ghost use Rattle.ffv1_unpack.specs.Internal.Opens.{OpensRange};
 ghost use Rattle.ffv1_unpack.specs.Judged.{counts_line};
 ghost use Rattle.ffv1_unpack.specs.Internal.Told.{WritesFrame};
 
 use crate::frame_line::{FrameLine, put_count, put_counts};
 use crate::judging::judge_frames;
 use crate::judging_items::judge_items;
-use crate::player::open_player_located;
+use crate::passing::pass_frames;
+use crate::player::{Player, open_player_located};
 use crate::telling::{Places, Telling, tell_byte, tell_frames};
 use ffv1_files::{Container, laws as files_laws};
 use ffv1_video::{Fault, Profile};
 use ffv1_wire::{ByteIn, ByteOut, write_all};
+use ffv1_words::FrameRange;
 use std::alloc::Allocator;
 
 /// Writes how many frames there were.
@@ -80,7 +88,30 @@ pub fn check<R: ByteIn, W: ByteOut, A: Allocator + Copy>(
 {
     files_laws::frames_come_in_turn();
     files_laws::what_is_read_is_a_file();
-    let byte = profile.tells_byte(place);
+    check_range(alloc, profile, input, output, place, FrameRange::ALL)
+}
+
+/// Opens a file, and passes the frames before a range that begins with this number. If the file is
+/// refused, the line of the byte where it is is written, if it is asked for; a write of that which
+/// fails is counted, and no fault.
+fn open_range<R: ByteIn, W: ByteOut, A: Allocator + Copy>(
+    alloc: A,
+    profile: Profile,
+    input: &mut R,
+    output: &mut W,
+    byte: bool,
+    first: u32,
+) -> Result<Player<A>, Fault>
+    ensures ok { IfOk result (λ p. OpensRange profile first p.reader p.decoder.accepted
+        (passage R.remaining R.failures input.old input.new)) }
+    ensures located { IfOk result (λ p. Reached (scope_in profile) (R.remaining input.old)
+        (R.remaining input.new) p.reader) }
+    ensures silent { OnOk result (output.new ≡ output.old) }
+    ensures err { IfErr result (LacksRange profile byte first
+        (passage R.remaining R.failures input.old input.new)
+        (passage W.contents W.failures output.old output.new)) }
+    ensures own { IfErr result (IsCheckFault profile) }
+{
     let mut offset = 0u64;
     match open_player_located(alloc, profile, input, &mut offset) {
         Err(fault) => {
@@ -88,18 +119,53 @@ pub fn check<R: ByteIn, W: ByteOut, A: Allocator + Copy>(
             Err(fault)
         }
         Ok(mut player) => {
-            let telling = Telling {
-                kind: FrameLine::Sizes,
-                places: Places { place, byte },
-            };
-            let count = tell_frames(alloc, &mut player, input, output, telling)?;
-            if count == 0 {
-                return Err(Fault::NoFrames);
+            let mut passed = 0u64;
+            match pass_frames(&mut player, input, first, &mut passed) {
+                Err(fault) => {
+                    tell_byte(output, byte, passed, player.reader.offset(), fault);
+                    Err(fault)
+                }
+                Ok(()) => Ok(player),
             }
-            write_count(alloc, output, count)?;
-            Ok(())
         }
     }
+}
+
+/// Decodes the frames of a range of a file that the profile reads, and writes a line of each as
+/// soon as it is decoded, and at the end how many of the range there were, as `check` does. The
+/// numbers are those of the file. The frames before the range are read, and not decoded. If there
+/// are as many as the range names, nothing behind them is read.
+///
+/// The faults are those of `check`, as far as the file is read; `NoFrames` is also a file that has
+/// no frame of the range.
+pub fn check_range<R: ByteIn, W: ByteOut, A: Allocator + Copy>(
+    alloc: A,
+    profile: Profile,
+    input: &mut R,
+    output: &mut W,
+    place: bool,
+    range: FrameRange,
+) -> Result<(), Fault>
+    ensures ok { OnOk result (CheckRangeDone profile place range
+        (passage R.remaining R.failures input.old input.new)
+        (passage W.contents W.failures output.old output.new)) }
+    ensures err { IfErr result (CheckRangeStops profile place range
+        (passage R.remaining R.failures input.old input.new)
+        (passage W.contents W.failures output.old output.new)) }
+    ensures own { IfErr result (IsCheckFault profile) }
+{
+    let byte = profile.tells_byte(place);
+    let mut player = open_range(alloc, profile, input, output, byte, range.first)?;
+    let telling = Telling {
+        kind: FrameLine::Sizes,
+        places: Places { place, byte },
+    };
+    let count = tell_frames(alloc, &mut player, input, output, telling, range)?;
+    if count == 0 {
+        return Err(Fault::NoFrames);
+    }
+    write_count(alloc, output, count)?;
+    Ok(())
 }
 
 /// Writes how many frames there were, and how many faults.
@@ -176,7 +242,14 @@ pub fn check_all<R: ByteIn, W: ByteOut, A: Allocator + Copy>(
         Ok(mut player) => match player.reader.container() {
             Container::Avi => {
                 let places = Places { place, byte };
-                let counts = judge_frames(alloc, &mut player, input, output, places)?;
+                let counts = judge_frames(
+                    alloc,
+                    &mut player,
+                    input,
+                    output,
+                    places,
+                    FrameRange::ALL,
+                )?;
                 if counts.frames == 0 {
                     return Err(Fault::NoFrames);
                 }
@@ -193,4 +266,41 @@ pub fn check_all<R: ByteIn, W: ByteOut, A: Allocator + Copy>(
             }
         },
     }
+}
+
+/// Decodes the frames of a range of a file that the profile reads, and goes on after a payload that
+/// is refused, as `check_all` does: a frame that is refused is one of the range. The numbers are
+/// those of the file, the last line has the frames of the range, and how many of them are refused.
+/// The frames before the range are read, and not decoded. If there are as many as the range names,
+/// nothing behind them is read.
+///
+/// Answers the fault of the first payload of the range that is refused, and None if none is. The
+/// first fault of the file itself ends it, in a Matroska file, too, which `check_all` reads on. The
+/// faults are those of `check`, as far as the file is read; `NoFrames` is also a file that has no
+/// frame of the range.
+pub fn check_all_range<R: ByteIn, W: ByteOut, A: Allocator + Copy>(
+    alloc: A,
+    profile: Profile,
+    input: &mut R,
+    output: &mut W,
+    place: bool,
+    range: FrameRange,
+) -> Result<Option<Fault>, Fault>
+    ensures ok { IfOk result (CheckAllRangeDone profile place range
+        (passage R.remaining R.failures input.old input.new)
+        (passage W.contents W.failures output.old output.new)) }
+    ensures err { IfErr result (CheckAllRangeStops profile place range
+        (passage R.remaining R.failures input.old input.new)
+        (passage W.contents W.failures output.old output.new)) }
+    ensures own { IfErr result (IsCheckFault profile) }
+{
+    let byte = profile.tells_byte(place);
+    let mut player = open_range(alloc, profile, input, output, byte, range.first)?;
+    let places = Places { place, byte };
+    let counts = judge_frames(alloc, &mut player, input, output, places, range)?;
+    if counts.frames == 0 {
+        return Err(Fault::NoFrames);
+    }
+    write_counts(alloc, output, counts.frames, counts.faults)?;
+    Ok(counts.first)
 }

@@ -1,6 +1,6 @@
 //! The MD5 of each picture of a file.
 
-ghost use Rattle.std.specs.Prelude.{◌≡◌, ◌<◌, IfErr, IfOk, List, None, OnOk, length, true};
+ghost use Rattle.std.specs.Prelude.{◌≡◌, ◌⊎◌, ◌<◌, ℕ, IfErr, IfOk, List, None, OnOk, length, true};
 ghost use Rattle.ffv1_wire.specs.Passage.{passage};
 ghost use Rattle.ffv1_range.specs.Counts.{saturated};
 ghost use Rattle.ffv1_record.specs.Accepted.{IsAccepted};
@@ -9,27 +9,41 @@ ghost use Rattle.ffv1_slice.specs.Grid.{division_of};
 ghost use Rattle.ffv1_codec.specs.Picture.{AreOf, planes_of};
 ghost use Rattle.ffv1_files.specs.Places.{amount, container_of};
 ghost use Rattle.ffv1_unpack.specs.Check.{IsCheckFault};
-ghost use Rattle.ffv1_unpack.specs.FrameMd5.{Md5Done, Md5Stops, frames_md5};
-ghost use Rattle.ffv1_unpack.specs.Internal.FrameMd5.{frame_md5};
-ghost use Rattle.ffv1_video.specs.Md5Text.{next_md5};
-ghost use Rattle.ffv1_unpack.specs.Internal.Opens.{stream_of};
+ghost use Rattle.ffv1_unpack.specs.FrameMd5.{Md5Done, Md5RangeDone, Md5RangeStops, Md5Stops};
+ghost use Rattle.ffv1_unpack.specs.FrameMd5.{md5_from};
+ghost use Rattle.ffv1_unpack.specs.Internal.FrameMd5.{frame_md5, headed_md5};
+ghost use Rattle.ffv1_video.specs.RawPicture.{AreEven};
+ghost use Rattle.ffv1_unpack.specs.Internal.Opens.{OpensRange, stream_of};
+ghost use Rattle.ffv1_unpack.specs.Opens.{LacksOpening};
+ghost use Rattle.ffv1_unpack.specs.Ranges.{PassStops};
 ghost use Rattle.ffv1_video.specs.KeptLines.{IsKeptFor};
 ghost use Rattle.ffv1_unpack.specs.Internal.PicturesOut.{head_saying};
 ghost use Rattle.ffv1_unpack.specs.Plays.{HasThen, PlayStops};
-ghost use Rattle.ffv1_unpack.specs.Internal.Plays.{NextAnswers, PlaysAll};
+ghost use Rattle.ffv1_unpack.specs.Internal.Plays.{NextAnswers, PlaysMost};
 ghost use Rattle.ffv1_unpack.specs.Stream.{Frame, IsFrame, frame_payload};
 ghost use Rattle.ffv1_unpack.specs.Internal.Told.{IsToldFault, WritesFrame};
 
+use crate::passing::{has_more, pass_frames};
 use crate::pictures_out::text_head;
 use crate::player::{Player, Stop, open_player, play};
 use ffv1_codec::{Info, KeepLines, laws as codec_laws};
 use ffv1_files::laws as files_laws;
 use ffv1_record::{Checked, laws as record_laws};
-use ffv1_video::md5_lines::put_picture;
+use ffv1_video::md5_lines::{push_picture, put_head};
 use ffv1_video::{Fault, Profile};
 use ffv1_wire::{ByteIn, ByteOut, write_all};
+use ffv1_words::FrameRange;
 use ffv1_y4m::VideoHead;
-use std::alloc::Allocator;
+use std::alloc::{AllocError, Allocator};
+
+/// The place of a picture among those that are written.
+#[derive(Clone, Copy)]
+struct LinePlace {
+    /// Its number.
+    number: u64,
+    /// Whether it is the first, before which the head comes.
+    first: bool,
+}
 
 /// The text of the next picture, and what its head says but for the structure and the aspect, which
 /// are 0.
@@ -47,19 +61,41 @@ impl<A: Allocator> Drop for Lines<A> {
     }
 }
 
+/// The line of the picture with this place, which has these planes, and before the first one the
+/// head, in place of what the text has.
+fn put_line<A: Allocator>(
+    text: &mut Vec<u8, A>,
+    head: &VideoHead,
+    place: LinePlace,
+    rct: bool,
+    depth: u32,
+    planes: &[Vec<u8, A>],
+) -> Result<(), AllocError>
+    requires { rct ≡ true → AreEven (planes_of planes.now) }
+    ensures { OnOk result (text.new.items
+        ≡ headed_md5 rct depth head.now place.first place.number (planes_of planes.now)) }
+{
+    text.clear();
+    if place.first {
+        put_head(text, head)?;
+    }
+    push_picture(text, place.number, rct, depth, planes)?;
+    Ok(())
+}
+
 /// Writes the line of the picture of these planes, which says this, and before the first one the
 /// head.
 fn write_picture<W: ByteOut, A: Allocator>(
     output: &mut W,
     lines: &mut Lines<A>,
-    number: u64,
+    place: LinePlace,
     checked: &Checked<A>,
     info: Info,
     planes: &[Vec<u8, A>],
 ) -> Result<(), Fault>
     requires { AreOf (division_of checked.now.configuration) (planes_of planes.now) }
-    ensures answer { WritesFrame (next_md5 (is_rct checked.now.configuration.colour)
-        checked.now.configuration.depth (head_saying lines.old.head info) number
+    ensures answer { WritesFrame (headed_md5 (is_rct checked.now.configuration.colour)
+        checked.now.configuration.depth (head_saying lines.old.head info) place.first place.number
         (planes_of planes.now)) (passage W.contents W.failures output.old output.new) result }
     ensures same { lines.new.head ≡ lines.old.head }
 {
@@ -73,7 +109,7 @@ fn write_picture<W: ByteOut, A: Allocator>(
     };
     let rct = checked.config().colour.is_rct();
     let depth = checked.depth();
-    put_picture(&mut lines.text, number, &head, rct, depth, planes)?;
+    put_line(&mut lines.text, &head, place, rct, depth, planes)?;
     if write_all(output, &lines.text).is_err() {
         return Err(Fault::Write);
     }
@@ -88,14 +124,14 @@ fn write_next<R: ByteIn, W: ByteOut, A: Allocator>(
     output: &mut W,
     kept: &mut KeepLines<A>,
     lines: &mut Lines<A>,
-    number: u64,
+    place: LinePlace,
 ) -> Result<bool, Fault>
     requires sound { player.old.reader.fault ≡ None }
     requires accepted { IsAccepted player.old.decoder.accepted.configuration
         player.old.decoder.accepted.table }
     requires kept { IsKeptFor player.old.decoder.accepted kept.old }
     ensures answer { NextAnswers player.old.decoder.accepted
-        (frame_md5 player.old.decoder.accepted lines.old.head number)
+        (frame_md5 player.old.decoder.accepted lines.old.head place.first place.number)
         player.old.reader.place player.new.reader.place
         (passage R.remaining R.failures input.old input.new)
         (passage W.contents W.failures output.old output.new) result }
@@ -117,7 +153,7 @@ fn write_next<R: ByteIn, W: ByteOut, A: Allocator>(
         Ok(None) => Ok(false),
         Ok(Some(info)) => {
             let checked = player.decoder.config();
-            write_picture(output, lines, number, checked, info, kept.planes())?;
+            write_picture(output, lines, place, checked, info, kept.planes())?;
             Ok(true)
         }
         Err(Stop::File(fault)) => Err(Fault::from(fault)),
@@ -125,26 +161,27 @@ fn write_next<R: ByteIn, W: ByteOut, A: Allocator>(
     }
 }
 
-/// Decodes all frames that are left, and writes the line of each picture as soon as it is decoded.
-/// Answers how many there were, at most 2^64 - 1.
+/// Decodes the frames that are left, of a range whose first one comes next, and writes the line of
+/// each picture as soon as it is decoded. Answers how many there were, at most 2^64 - 1.
 fn write_frames<R: ByteIn, W: ByteOut, A: Allocator + Copy>(
     alloc: A,
     player: &mut Player<A>,
     input: &mut R,
     output: &mut W,
+    range: FrameRange,
 ) -> Result<u64, Fault>
     requires sound { player.old.reader.fault ≡ None }
     requires accepted { IsAccepted player.old.decoder.accepted.configuration
         player.old.decoder.accepted.table }
     ensures ok { IfOk result (λ n. (frames : List Frame) × (n ≡ saturated (length frames))
-        × PlaysAll (IsFrame player.old.decoder.accepted) frame_payload
+        × PlaysMost (IsFrame player.old.decoder.accepted) frame_payload
         (HasThen player.old.reader.place)
-        (frames_md5 (stream_of player.old.reader player.old.decoder.accepted))
+        (md5_from range.first (stream_of player.old.reader player.old.decoder.accepted))
         (passage R.remaining R.failures input.old input.new)
-        (passage W.contents W.failures output.old output.new) frames) }
+        (passage W.contents W.failures output.old output.new) range.count frames) }
     ensures err { IfErr result (PlayStops (HasThen player.old.reader.place)
         player.old.decoder.accepted
-        (frames_md5 (stream_of player.old.reader player.old.decoder.accepted))
+        (md5_from range.first (stream_of player.old.reader player.old.decoder.accepted))
         (passage R.remaining R.failures input.old input.new)
         (passage W.contents W.failures output.old output.new)) }
     ensures own { IfErr result (IsToldFault (container_of player.old.reader.place)) }
@@ -156,7 +193,14 @@ fn write_frames<R: ByteIn, W: ByteOut, A: Allocator + Copy>(
         text: Vec::new(alloc),
     };
     let mut count = 0u64;
-    while write_next(player, input, output, &mut kept, &mut lines, count)? {
+    'frames: while has_more(range.count, count) {
+        let place = LinePlace {
+            number: count.saturating_add(u64::from(range.first)),
+            first: count == 0,
+        };
+        if !write_next(player, input, output, &mut kept, &mut lines, place)? {
+            return Ok(count);
+        }
         count = count.saturating_add(1);
     }
     Ok(count)
@@ -215,8 +259,54 @@ pub fn framemd5<R: ByteIn, W: ByteOut, A: Allocator + Copy>(
 {
     files_laws::frames_come_in_turn();
     files_laws::what_is_read_is_a_file();
+    framemd5_range(alloc, profile, input, output, FrameRange::ALL)
+}
+
+/// Opens a file, and passes the frames before a range that begins with this number.
+fn open_range<R: ByteIn, A: Allocator + Copy>(
+    alloc: A,
+    profile: Profile,
+    input: &mut R,
+    first: u32,
+) -> Result<Player<A>, Fault>
+    ensures ok { IfOk result (λ p. OpensRange profile first p.reader p.decoder.accepted
+        (passage R.remaining R.failures input.old input.new)) }
+    ensures err { IfErr result (λ f.
+        LacksOpening profile (passage R.remaining R.failures input.old input.new) f
+        ⊎ ((passed : ℕ) × PassStops profile first
+        (passage R.remaining R.failures input.old input.new) passed f)) }
+    ensures own { IfErr result (IsCheckFault profile) }
+{
     let mut player = open_player(alloc, profile, input)?;
-    let count = write_frames(alloc, &mut player, input, output)?;
+    let mut passed = 0u64;
+    pass_frames(&mut player, input, first, &mut passed)?;
+    Ok(player)
+}
+
+/// Decodes the frames of a range of a file that the profile reads, and writes of their pictures
+/// what `framemd5` writes: the head of the first one of the range, and a line for each frame as
+/// soon as it is decoded, with its number in the file. The frames before the range are read, and
+/// not decoded. If there are as many as the range names, nothing behind them is read.
+///
+/// The faults are those of `framemd5`, as far as the file is read; `NoFrames` is also a file that
+/// has no frame of the range.
+pub fn framemd5_range<R: ByteIn, W: ByteOut, A: Allocator + Copy>(
+    alloc: A,
+    profile: Profile,
+    input: &mut R,
+    output: &mut W,
+    range: FrameRange,
+) -> Result<(), Fault>
+    ensures ok { OnOk result (Md5RangeDone profile range
+        (passage R.remaining R.failures input.old input.new)
+        (passage W.contents W.failures output.old output.new)) }
+    ensures err { IfErr result (Md5RangeStops profile range
+        (passage R.remaining R.failures input.old input.new)
+        (passage W.contents W.failures output.old output.new)) }
+    ensures own { IfErr result (IsCheckFault profile) }
+{
+    let mut player = open_range(alloc, profile, input, range.first)?;
+    let count = write_frames(alloc, &mut player, input, output, range)?;
     if count == 0 {
         return Err(Fault::NoFrames);
     }

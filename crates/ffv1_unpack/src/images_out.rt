@@ -11,9 +11,10 @@ ghost use Rattle.ffv1_unpack.specs.Internal.ImagesOut.{IsSinkFor, WritesImage};
 ghost use Rattle.ffv1_unpack.specs.Internal.Opens.{stream_of};
 ghost use Rattle.ffv1_unpack.specs.Stream.{Frame};
 ghost use Rattle.ffv1_unpack.specs.Internal.Unpack.{IsWritingFault};
-ghost use Rattle.ffv1_unpack.specs.Unpacking.{UnpackingStops, UnpacksAll};
+ghost use Rattle.ffv1_unpack.specs.Unpacking.{UnpackingStops, UnpacksMost};
 ghost use Rattle.ffv1_unpack.specs.Plays.{HasThen};
 
+use crate::passing::has_more;
 use crate::player::{Player, Stop, play};
 use ffv1_codec::{CodecFault, laws as codec_laws};
 use ffv1_record::laws as record_laws;
@@ -69,11 +70,13 @@ fn write_next<R: ByteIn, W: ByteOut, A: Allocator>(
     }
 }
 
-/// Decodes all frames that are left into images. Answers how many there were, at most 2^64 - 1.
+/// Decodes the frames that are left, at most so many, into images. Answers how many there were, at
+/// most 2^64 - 1.
 fn write_all_images<R: ByteIn, W: ByteOut, A: Allocator>(
     player: &mut Player<A>,
     input: &mut R,
     sink: &mut PpmWriter<W, A>,
+    most: Option<u32>,
 ) -> Result<u64, Fault>
     requires sound { player.old.reader.fault ≡ None }
     requires accepted { IsAccepted player.old.decoder.accepted.configuration
@@ -82,10 +85,10 @@ fn write_all_images<R: ByteIn, W: ByteOut, A: Allocator>(
     requires opaque { player.old.decoder.accepted.configuration.extra_plane ≡ false }
     requires sink { IsSinkFor player.old.decoder.accepted.configuration sink.old }
     ensures ok { IfOk result (λ n. (frames : List Frame) × (n ≡ saturated (length frames))
-        × UnpacksAll (HasThen player.old.reader.place)
+        × UnpacksMost (HasThen player.old.reader.place)
         (stream_of player.old.reader player.old.decoder.accepted)
         (passage R.remaining R.failures input.old input.new)
-        (passage W.contents W.failures sink.old.out sink.new.out) frames) }
+        (passage W.contents W.failures sink.old.out sink.new.out) most frames) }
     ensures err { IfErr result (UnpackingStops (HasThen player.old.reader.place)
         (stream_of player.old.reader player.old.decoder.accepted)
         (passage R.remaining R.failures input.old input.new)
@@ -93,19 +96,23 @@ fn write_all_images<R: ByteIn, W: ByteOut, A: Allocator>(
     ensures own { IfErr result (IsWritingFault (container_of player.old.reader.place)) }
 {
     let mut count = 0u64;
-    while write_next(player, input, sink)? {
+    'frames: while has_more(most, count) {
+        if !write_next(player, input, sink)? {
+            return Ok(count);
+        }
         count = count.saturating_add(1);
     }
     Ok(count)
 }
 
-/// Decodes all frames that are left into images, which are written row by row. Answers how many
-/// there were, at most 2^64 - 1, and hands the writer back.
+/// Decodes the frames that are left, at most so many, into images, which are written row by row.
+/// Answers how many there were, at most 2^64 - 1, and hands the writer back.
 pub(crate) fn write_images<R: ByteIn, W: ByteOut, A: Allocator + Copy>(
     alloc: A,
     player: &mut Player<A>,
     input: &mut R,
     output: W,
+    most: Option<u32>,
 ) -> (W, Result<u64, Fault>)
     requires sound { player.old.reader.fault ≡ None }
     requires accepted { IsAccepted player.old.decoder.accepted.configuration
@@ -113,10 +120,10 @@ pub(crate) fn write_images<R: ByteIn, W: ByteOut, A: Allocator + Copy>(
     requires colour { is_rct player.old.decoder.accepted.configuration.colour ≡ true }
     requires opaque { player.old.decoder.accepted.configuration.extra_plane ≡ false }
     ensures ok { IfOk result.1 (λ n. (frames : List Frame) × (n ≡ saturated (length frames))
-        × UnpacksAll (HasThen player.old.reader.place)
+        × UnpacksMost (HasThen player.old.reader.place)
         (stream_of player.old.reader player.old.decoder.accepted)
         (passage R.remaining R.failures input.old input.new)
-        (passage W.contents W.failures output result.0) frames) }
+        (passage W.contents W.failures output result.0) most frames) }
     ensures err { IfErr result.1 (UnpackingStops (HasThen player.old.reader.place)
         (stream_of player.old.reader player.old.decoder.accepted)
         (passage R.remaining R.failures input.old input.new)
@@ -128,7 +135,7 @@ pub(crate) fn write_images<R: ByteIn, W: ByteOut, A: Allocator + Copy>(
     match PpmWriter::sized_at(alloc, output, config.width, config.height, checked.depth()) {
         Err((output, fault)) => (output, Err(Fault::from(fault))),
         Ok(mut sink) => {
-            let count = write_all_images(player, input, &mut sink);
+            let count = write_all_images(player, input, &mut sink, most);
             (sink.into_inner(), count)
         }
     }

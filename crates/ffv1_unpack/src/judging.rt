@@ -9,20 +9,23 @@ ghost use Rattle.ffv1_video.specs.Faults.{cause_of};
 ghost use Rattle.ffv1_unpack.specs.FrameLines.{place_text};
 ghost use Rattle.ffv1_unpack.specs.Judged.{IsJudged, Judged};
 ghost use Rattle.ffv1_unpack.specs.Internal.Judged.{AreCounts, JudgeAnswers};
-ghost use Rattle.ffv1_unpack.specs.Judged.{judged_lines, payload_of, refused_line};
+ghost use Rattle.ffv1_unpack.specs.Judged.{judged_from, payload_of, refused_line};
 ghost use Rattle.ffv1_unpack.specs.Internal.Judged.{one_counted};
 ghost use Rattle.ffv1_unpack.specs.Internal.JudgedItems.{told_counted};
 ghost use Rattle.ffv1_unpack.specs.Internal.Located.{LocatedAfter, StaysReached};
-ghost use Rattle.ffv1_unpack.specs.Plays.{GoesBy, HasThen};
-ghost use Rattle.ffv1_unpack.specs.Internal.Plays.{PlaysAll};
+ghost use Rattle.ffv1_unpack.specs.Plays.{GoesFrom, HasThen};
+ghost use Rattle.ffv1_unpack.specs.Ranges.{number_in};
+ghost use Rattle.ffv1_unpack.specs.Internal.Plays.{PlaysMost};
 ghost use Rattle.ffv1_unpack.specs.Internal.Told.{IsToldFault, WritesFrame};
 
 use crate::frame_line::{FrameLine, put_refused, write_place};
+use crate::passing::has_more;
 use crate::player::{Player, Stop, play};
 use crate::telling::{Places, tell_byte, write_line};
 use ffv1_codec::{CodecFault, DropLines, FrameDecoder, FrameFault, laws as codec_laws};
 use ffv1_video::Fault;
 use ffv1_wire::{ByteIn, ByteOut, write_all};
+use ffv1_words::FrameRange;
 use std::alloc::Allocator;
 
 /// How many frames were judged, and how many faults there were. A count of 64 bits stays at its
@@ -99,6 +102,15 @@ pub(crate) fn write_refusal<W: ByteOut, A: Allocator>(
     Ok(())
 }
 
+/// What is told of the frame that is judged next.
+#[derive(Clone, Copy)]
+struct Judging {
+    /// Which places of faults are written.
+    places: Places,
+    /// The number of the frame.
+    number: u64,
+}
+
 /// Reads the next frame and decodes it, writes its lines and counts it, whether it is decoded or
 /// refused. Answers false if there is none.
 fn judge_frame<R: ByteIn, W: ByteOut, A: Allocator>(
@@ -106,14 +118,14 @@ fn judge_frame<R: ByteIn, W: ByteOut, A: Allocator>(
     input: &mut R,
     output: &mut W,
     text: &mut Vec<u8, A>,
-    places: Places,
+    judging: Judging,
     counts: &mut JudgedCounts,
 ) -> Result<bool, Fault>
     requires sound { player.old.reader.fault ≡ None }
     requires accepted { IsAccepted player.old.decoder.accepted.configuration
         player.old.decoder.accepted.table }
-    ensures answer { JudgeAnswers places.place places.byte player.old.decoder.accepted
-        counts.old.frames player.old.reader player.new.reader.place
+    ensures answer { JudgeAnswers judging.places.place judging.places.byte
+        player.old.decoder.accepted judging.number player.old.reader player.new.reader.place
         (passage R.remaining R.failures input.old input.new)
         (passage W.contents W.failures output.old output.new) counts.old counts.new result }
     ensures sound { OnOk result (player.new.reader.fault ≡ None) }
@@ -129,7 +141,8 @@ fn judge_frame<R: ByteIn, W: ByteOut, A: Allocator>(
     codec_laws::answer::answer_is_ok_for_coded_pictures::<DropLines>();
     codec_laws::answer::answered_fault_is_of_decoding::<DropLines>();
     codec_laws::sink::sinks_of_own_lines_refuse_none();
-    let number = counts.frames;
+    let places = judging.places;
+    let number = judging.number;
     let mut sink = DropLines::new(player.decoder.config());
     match play(player, input, &mut sink) {
         Ok(None) => Ok(false),
@@ -153,29 +166,30 @@ fn judge_frame<R: ByteIn, W: ByteOut, A: Allocator>(
     }
 }
 
-/// Judges all frames that are left, and writes the lines of each as soon as it is judged. Answers
-/// how many there were, and how many of them are refused.
+/// Judges the frames that are left, of a range whose first one comes next, and writes the lines of
+/// each as soon as it is judged. Answers how many there were, and how many of them are refused.
 pub(crate) fn judge_frames<R: ByteIn, W: ByteOut, A: Allocator + Copy>(
     alloc: A,
     player: &mut Player<A>,
     input: &mut R,
     output: &mut W,
     places: Places,
+    range: FrameRange,
 ) -> Result<JudgedCounts, Fault>
     requires sound { player.old.reader.fault ≡ None }
     requires accepted { IsAccepted player.old.decoder.accepted.configuration
         player.old.decoder.accepted.table }
     ensures ok { IfOk result (λ counts. (js : List Judged) × AreCounts counts js
-        × PlaysAll (IsJudged player.old.decoder.accepted) payload_of
+        × PlaysMost (IsJudged player.old.decoder.accepted) payload_of
         (HasThen player.old.reader.place)
-        (judged_lines places.place player.old.decoder.accepted.configuration)
+        (judged_from places.place player.old.decoder.accepted.configuration range.first)
         (passage R.remaining R.failures input.old input.new)
-        (passage W.contents W.failures output.old output.new) js) }
-    ensures err { IfErr result (λ f. GoesBy (IsJudged player.old.decoder.accepted) payload_of
+        (passage W.contents W.failures output.old output.new) range.count js) }
+    ensures err { IfErr result (λ f. GoesFrom (IsJudged player.old.decoder.accepted) payload_of
         (HasThen player.old.reader.place)
-        (judged_lines places.place player.old.decoder.accepted.configuration)
+        (judged_from places.place player.old.decoder.accepted.configuration range.first)
         (passage R.remaining R.failures input.old input.new)
-        (passage W.contents W.failures output.old output.new)
+        (passage W.contents W.failures output.old output.new) (number_in range)
         (LocatedAfter player.old.reader (passage R.remaining R.failures input.old input.new))
         places.byte f (cause_of f)) }
     ensures own { IfErr result (IsToldFault (container_of player.old.reader.place)) }
@@ -186,6 +200,12 @@ pub(crate) fn judge_frames<R: ByteIn, W: ByteOut, A: Allocator + Copy>(
         faults: 0,
         first: None,
     };
-    while judge_frame(player, input, output, &mut text, places, &mut counts)? {}
+    'frames: while has_more(range.count, counts.frames) {
+        let number = counts.frames.saturating_add(u64::from(range.first));
+        let judging = Judging { places, number };
+        if !judge_frame(player, input, output, &mut text, judging, &mut counts)? {
+            return Ok(counts);
+        }
+    }
     Ok(counts)
 }

@@ -4,8 +4,9 @@
 //! `unpack` decodes a file into a text; `check` decodes all its frames up to the first that is
 //! refused, and `check_all` all of them; `framemd5` writes the MD5 of each picture as FFmpeg does,
 //! and `check_against` compares them with those of a list, which `read_list` reads; and `show`
-//! prints what a file says. Each is a loop over a `Player`, which reads and decodes a frame at a
-//! time.
+//! prints what a file says. `unpack_range`, `check_range`, `check_all_range` and `framemd5_range`
+//! do the same with some of its frames; `laws` says what they have in common. Each is a loop over
+//! a `Player`, which reads and decodes a frame at a time.
 #![tactic(auto)]
 
 mod checking;
@@ -15,8 +16,10 @@ mod hashing;
 mod images_out;
 mod judging;
 mod judging_items;
+pub mod laws;
 mod md5_line;
 mod md5_list;
+mod passing;
 mod pictures_out;
 pub mod player;
 mod showing;
@@ -24,9 +27,9 @@ mod stream_lines;
 mod telling;
 mod unpacking;
 
-pub use checking::{check, check_all};
+pub use checking::{check, check_all, check_all_range, check_range};
 pub use comparing::{Unlike, check_against};
-pub use hashing::framemd5;
+pub use hashing::{framemd5, framemd5_range};
 pub use md5_list::{ListFault, read_list};
 pub use showing::show;
-pub use unpacking::unpack;
+pub use unpacking::{unpack, unpack_range};

@@ -20,8 +20,9 @@ ghost use Rattle.ffv1_unpack.specs.Stream.{Frame};
 ghost use Rattle.ffv1_unpack.specs.Unpack.{IsUnpackFault};
 ghost use Rattle.ffv1_unpack.specs.Internal.Unpack.{IsWritingFault};
 ghost use Rattle.ffv1_unpack.specs.Unpacked.{video_of};
-ghost use Rattle.ffv1_unpack.specs.Unpacking.{UnpackingStops, UnpacksAll};
+ghost use Rattle.ffv1_unpack.specs.Unpacking.{UnpackingStops, UnpacksMost};
 
+use crate::passing::has_more;
 use crate::player::{Player, Stop, play};
 use ffv1_codec::{Info, KeepLines, laws as codec_laws};
 use ffv1_reads::FileHead;
@@ -145,23 +146,24 @@ fn write_next<R: ByteIn, W: ByteOut, A: Allocator>(
     }
 }
 
-/// Decodes all frames that are left, and writes the picture of each. Answers how many there were,
-/// at most 2^64 - 1.
+/// Decodes the frames that are left, at most so many, and writes the picture of each. Answers how
+/// many there were, at most 2^64 - 1.
 pub(crate) fn write_pictures<R: ByteIn, W: ByteOut, A: Allocator + Copy>(
     alloc: A,
     player: &mut Player<A>,
     input: &mut R,
     output: &mut W,
+    most: Option<u32>,
 ) -> Result<u64, Fault>
     requires sound { player.old.reader.fault ≡ None }
     requires accepted { IsAccepted player.old.decoder.accepted.configuration
         player.old.decoder.accepted.table }
     requires colour { is_rct player.old.decoder.accepted.configuration.colour ≡ false }
     ensures ok { IfOk result (λ n. (frames : List Frame) × (n ≡ saturated (length frames))
-        × UnpacksAll (HasThen player.old.reader.place)
+        × UnpacksMost (HasThen player.old.reader.place)
         (stream_of player.old.reader player.old.decoder.accepted)
         (passage R.remaining R.failures input.old input.new)
-        (passage W.contents W.failures output.old output.new) frames) }
+        (passage W.contents W.failures output.old output.new) most frames) }
     ensures err { IfErr result (UnpackingStops (HasThen player.old.reader.place)
         (stream_of player.old.reader player.old.decoder.accepted)
         (passage R.remaining R.failures input.old input.new)
@@ -175,7 +177,10 @@ pub(crate) fn write_pictures<R: ByteIn, W: ByteOut, A: Allocator + Copy>(
         begun: None,
     };
     let mut count = 0u64;
-    while write_next(player, input, output, &mut kept, &mut text)? {
+    'frames: while has_more(most, count) {
+        if !write_next(player, input, output, &mut kept, &mut text)? {
+            return Ok(count);
+        }
         count = count.saturating_add(1);
     }
     Ok(count)

@@ -9,6 +9,7 @@ ghost use Rattle.ffv1_unpack.specs.declared.frame_line.FrameLine.TheVariants as 
 ghost use Rattle.ffv1_unpack.specs.FrameLines.{frame_lines};
 ghost use Rattle.ffv1_unpack.specs.Internal.Located.{LocatedAfter};
 ghost use Rattle.ffv1_unpack.specs.Plays.{HasThen};
+ghost use Rattle.ffv1_unpack.specs.Ranges.{all_frames};
 ghost use Rattle.ffv1_unpack.specs.Internal.Plays.{PlaysAll};
 ghost use Rattle.ffv1_unpack.specs.Show.{IsShowFault, ShowDone, ShowStops};
 ghost use Rattle.ffv1_unpack.specs.Internal.Show.{NoDecoder};
@@ -25,6 +26,7 @@ use ffv1_reads::FileHead;
 use ffv1_record::Checked;
 use ffv1_video::{Fault, Profile};
 use ffv1_wire::{ByteIn, ByteOut, write_all};
+use ffv1_words::FrameRange;
 use std::alloc::Allocator;
 
 /// Writes the lines of a file's head and of the configuration of its frames, in one piece.
@@ -64,7 +66,7 @@ fn tell_costs<R: ByteIn, W: ByteOut, A: Allocator + Copy>(
     ensures err { IfErr result (λ f.
         NoDecoder (passage R.remaining R.failures input.old input.new)
         (passage W.contents W.failures output.old output.new) f
-        ⊎ TellingStops (HasThen reader.place) line.Cost false checked
+        ⊎ TellingStops (HasThen reader.place) line.Cost all_frames false checked
         (passage R.remaining R.failures input.old input.new)
         (passage W.contents W.failures output.old output.new)
         (LocatedAfter reader (passage R.remaining R.failures input.old input.new)) false f) }
@@ -78,7 +80,7 @@ fn tell_costs<R: ByteIn, W: ByteOut, A: Allocator + Copy>(
             byte: false,
         },
     };
-    tell_frames(alloc, &mut player, input, output, telling)?;
+    tell_frames(alloc, &mut player, input, output, telling, FrameRange::ALL)?;
     Ok(())
 }
 

@@ -5,21 +5,23 @@ ghost use Rattle.ffv1_wire.specs.Passage.{passage};
 ghost use Rattle.ffv1_range.specs.Counts.{saturated};
 ghost use Rattle.ffv1_record.specs.Accepted.{IsAccepted};
 ghost use Rattle.ffv1_files.specs.Places.{amount, container_of};
-ghost use Rattle.ffv1_unpack.specs.FrameLines.{frame_line, frame_lines, place_text};
+ghost use Rattle.ffv1_unpack.specs.FrameLines.{frame_line, lines_from, place_text};
 ghost use Rattle.ffv1_unpack.specs.Located.{WritesLine};
 ghost use Rattle.ffv1_unpack.specs.Internal.Located.{LocatedAfter, StaysReached};
 ghost use Rattle.ffv1_unpack.specs.Located.{located_text};
 ghost use Rattle.ffv1_unpack.specs.Plays.{HasThen};
-ghost use Rattle.ffv1_unpack.specs.Internal.Plays.{PlaysAll};
+ghost use Rattle.ffv1_unpack.specs.Internal.Plays.{PlaysMost};
 ghost use Rattle.ffv1_unpack.specs.Stream.{Frame, IsFrame, frame_payload};
 ghost use Rattle.ffv1_unpack.specs.Internal.Told.{FrameAnswers, IsToldFault, TellingStops};
 ghost use Rattle.ffv1_unpack.specs.Internal.Told.{WritesFrame};
 
 use crate::frame_line::{FrameLine, put_cost, put_sizes, write_offset, write_place};
+use crate::passing::has_more;
 use crate::player::{Player, Stop, play};
 use ffv1_codec::{DropLines, FrameDecoder, FrameFault, laws as codec_laws};
 use ffv1_video::Fault;
 use ffv1_wire::{ByteIn, ByteOut, write_all};
+use ffv1_words::FrameRange;
 use std::alloc::{AllocError, Allocator};
 
 /// Which places of faults are written.
@@ -180,26 +182,27 @@ fn tell_frame<R: ByteIn, W: ByteOut, A: Allocator>(
     }
 }
 
-/// Decodes all frames that are left, and writes the line of each as soon as it is decoded. Answers
-/// how many there were, at most 2^64 - 1.
+/// Decodes the frames that are left, of a range whose first one comes next, and writes the line of
+/// each as soon as it is decoded. Answers how many there were, at most 2^64 - 1.
 pub(crate) fn tell_frames<R: ByteIn, W: ByteOut, A: Allocator + Copy>(
     alloc: A,
     player: &mut Player<A>,
     input: &mut R,
     output: &mut W,
     telling: Telling,
+    range: FrameRange,
 ) -> Result<u64, Fault>
     requires sound { player.old.reader.fault ≡ None }
     requires accepted { IsAccepted player.old.decoder.accepted.configuration
         player.old.decoder.accepted.table }
     ensures ok { IfOk result (λ n. (frames : List Frame) × (n ≡ saturated (length frames))
-        × PlaysAll (IsFrame player.old.decoder.accepted) frame_payload
+        × PlaysMost (IsFrame player.old.decoder.accepted) frame_payload
         (HasThen player.old.reader.place)
-        (frame_lines telling.kind player.old.decoder.accepted.configuration)
+        (lines_from telling.kind player.old.decoder.accepted.configuration range.first)
         (passage R.remaining R.failures input.old input.new)
-        (passage W.contents W.failures output.old output.new) frames) }
+        (passage W.contents W.failures output.old output.new) range.count frames) }
     ensures err { IfErr result (TellingStops (HasThen player.old.reader.place)
-        telling.kind telling.places.place player.old.decoder.accepted
+        telling.kind range telling.places.place player.old.decoder.accepted
         (passage R.remaining R.failures input.old input.new)
         (passage W.contents W.failures output.old output.new)
         (LocatedAfter player.old.reader (passage R.remaining R.failures input.old input.new))
@@ -208,7 +211,11 @@ pub(crate) fn tell_frames<R: ByteIn, W: ByteOut, A: Allocator + Copy>(
 {
     let mut text = Vec::new(alloc);
     let mut count = 0u64;
-    while tell_frame(player, input, output, &mut text, telling, count)? {
+    'frames: while has_more(range.count, count) {
+        let number = count.saturating_add(u64::from(range.first));
+        if !tell_frame(player, input, output, &mut text, telling, number)? {
+            return Ok(count);
+        }
         count = count.saturating_add(1);
     }
     Ok(count)

@@ -6,16 +6,19 @@ ghost use Rattle.ffv1_range.specs.Counts.{saturated};
 ghost use Rattle.ffv1_files.specs.Places.{container_of};
 ghost use Rattle.ffv1_record.specs.Accepted.{IsAccepted};
 ghost use Rattle.ffv1_record.specs.Configuration.{configuration_of, is_rct};
-ghost use Rattle.ffv1_unpack.specs.Internal.Opens.{OpensStream, stream_of};
+ghost use Rattle.ffv1_unpack.specs.Internal.Opens.{OpensRange, OpensStream, stream_of};
+ghost use Rattle.ffv1_unpack.specs.Ranges.{PassStops};
 ghost use Rattle.ffv1_unpack.specs.Plays.{HasThen};
 ghost use Rattle.ffv1_unpack.specs.Stream.{Frame};
 ghost use Rattle.ffv1_unpack.specs.Unpack.{IsUnpackFaultIn, LacksUnpacking};
 ghost use Rattle.ffv1_unpack.specs.Internal.Unpack.{IsWritingFault};
-ghost use Rattle.ffv1_unpack.specs.Unpack.{UnpackDone, UnpackStops};
+ghost use Rattle.ffv1_unpack.specs.Unpack.{UnpackDone, UnpackRangeDone, UnpackRangeStops};
+ghost use Rattle.ffv1_unpack.specs.Unpack.{UnpackStops};
 ghost use Rattle.ffv1_unpack.specs.Unpacked.{HasText, HasTextBy, LacksTextBy};
-ghost use Rattle.ffv1_unpack.specs.Unpacking.{UnpackingStops, UnpacksAll};
+ghost use Rattle.ffv1_unpack.specs.Unpacking.{UnpackingStops, UnpacksMost};
 
 use crate::images_out::write_images;
+use crate::passing::pass_frames;
 use crate::pictures_out::{text_head, write_pictures};
 use crate::player::{Player, open_stream, player_of};
 use ffv1_files::laws as files_laws;
@@ -23,6 +26,7 @@ use ffv1_reads::FileHead;
 use ffv1_record::{Checked, Colour};
 use ffv1_video::{Fault, Profile};
 use ffv1_wire::{ByteIn, ByteOut};
+use ffv1_words::FrameRange;
 use ffv1_y4m::has_chroma_name_at;
 use std::alloc::Allocator;
 
@@ -67,22 +71,23 @@ fn open_unpacking<R: ByteIn, A: Allocator + Copy>(
     Ok(player)
 }
 
-/// Writes the pictures of all frames that are left, and hands the writer back.
+/// Writes the pictures of the frames that are left, at most so many, and hands the writer back.
 fn write_frames<R: ByteIn, W: ByteOut, A: Allocator + Copy>(
     alloc: A,
     player: &mut Player<A>,
     input: &mut R,
     mut output: W,
+    most: Option<u32>,
 ) -> (W, Result<u64, Fault>)
     requires sound { player.old.reader.fault ≡ None }
     requires accepted { IsAccepted player.old.decoder.accepted.configuration
         player.old.decoder.accepted.table }
     requires text { HasText (stream_of player.old.reader player.old.decoder.accepted) }
     ensures ok { IfOk result.1 (λ n. (frames : List Frame) × (n ≡ saturated (length frames))
-        × UnpacksAll (HasThen player.old.reader.place)
+        × UnpacksMost (HasThen player.old.reader.place)
         (stream_of player.old.reader player.old.decoder.accepted)
         (passage R.remaining R.failures input.old input.new)
-        (passage W.contents W.failures output result.0) frames) }
+        (passage W.contents W.failures output result.0) most frames) }
     ensures err { IfErr result.1 (UnpackingStops (HasThen player.old.reader.place)
         (stream_of player.old.reader player.old.decoder.accepted)
         (passage R.remaining R.failures input.old input.new)
@@ -91,10 +96,10 @@ fn write_frames<R: ByteIn, W: ByteOut, A: Allocator + Copy>(
 {
     match player.decoder.config().config().colour {
         Colour::YCbCr => {
-            let answer = write_pictures(alloc, player, input, &mut output);
+            let answer = write_pictures(alloc, player, input, &mut output, most);
             (output, answer)
         }
-        Colour::Rct => write_images(alloc, player, input, output),
+        Colour::Rct => write_images(alloc, player, input, output, most),
     }
 }
 
@@ -134,10 +139,59 @@ pub fn unpack<R: ByteIn, W: ByteOut, A: Allocator + Copy>(
 {
     files_laws::frames_come_in_turn();
     files_laws::what_is_read_is_a_file();
-    match open_unpacking(alloc, profile, input) {
+    unpack_range(alloc, profile, input, output, FrameRange::ALL)
+}
+
+/// Opens a file whose pictures have a text, and passes the frames before a range that begins with
+/// this number.
+fn open_unpacking_range<R: ByteIn, A: Allocator + Copy>(
+    alloc: A,
+    profile: Profile,
+    input: &mut R,
+    first: u32,
+) -> Result<Player<A>, Fault>
+    ensures ok { IfOk result (λ p. OpensRange profile first p.reader p.decoder.accepted
+        (passage R.remaining R.failures input.old input.new)) }
+    ensures text { IfOk result (λ p. HasText (stream_of p.reader p.decoder.accepted)) }
+    ensures err { IfErr result (λ f.
+        LacksUnpacking profile (passage R.remaining R.failures input.old input.new) f
+        ⊎ ((passed : ℕ) × PassStops profile first
+        (passage R.remaining R.failures input.old input.new) passed f)) }
+    ensures own { IfErr result (IsUnpackFaultIn profile) }
+{
+    let mut player = open_unpacking(alloc, profile, input)?;
+    let mut passed = 0u64;
+    pass_frames(&mut player, input, first, &mut passed)?;
+    Ok(player)
+}
+
+/// Decodes the frames of a range of a file that the profile reads, and writes their pictures as
+/// `unpack` does: the header of YUV4MPEG2 says what the first frame of the range says, and
+/// `FormatChanged` is by that. The frames before the range are read, and not decoded. If there are
+/// as many as the range names, nothing behind them is read. Answers how many frames of the range
+/// there were, at most 2^64 - 1, and hands the writer back.
+///
+/// The faults are those of `unpack`, as far as the file is read; `NoFrames` is also a file that has
+/// no frame of the range.
+pub fn unpack_range<R: ByteIn, W: ByteOut, A: Allocator + Copy>(
+    alloc: A,
+    profile: Profile,
+    input: &mut R,
+    output: W,
+    range: FrameRange,
+) -> (W, Result<u64, Fault>)
+    ensures ok { IfOk result.1 (UnpackRangeDone profile range
+        (passage R.remaining R.failures input.old input.new)
+        (passage W.contents W.failures output result.0)) }
+    ensures err { IfErr result.1 (UnpackRangeStops profile range
+        (passage R.remaining R.failures input.old input.new)
+        (passage W.contents W.failures output result.0)) }
+    ensures own { IfErr result.1 (IsUnpackFaultIn profile) }
+{
+    match open_unpacking_range(alloc, profile, input, range.first) {
         Err(fault) => (output, Err(fault)),
         Ok(mut player) => {
-            let (output, answer) = write_frames(alloc, &mut player, input, output);
+            let (output, answer) = write_frames(alloc, &mut player, input, output, range.count);
             match answer {
                 Ok(0) => (output, Err(Fault::NoFrames)),
                 Ok(count) => (output, Ok(count)),

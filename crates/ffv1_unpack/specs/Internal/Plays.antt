@@ -1,5 +1,5 @@
 -- A step of playing a file.
-use Rattle.std.specs.Prelude.{◌≡◌, ◌⊎◌, ℕ, Bool, true, false, List}
+use Rattle.std.specs.Prelude.{◌≡◌, ◌⊎◌, ℕ, Bool, true, false, List, length, Option, None}
 use Rattle.std.specs.Prelude.{Result, Ok, Err}
 use Rattle.std.specs.Io.KnownBytes.{Appends}
 use Rattle.ffv1_range.specs.declared.tally.Tally.{Tally}
@@ -18,7 +18,8 @@ use Rattle.ffv1_codec.specs.Outcome.{FaultsOf}
 use Rattle.ffv1_unpack.specs.Stream.{Frame, IsFrame}
 use Rattle.ffv1_unpack.specs.Stream.{frame_payload}
 use Rattle.ffv1_video.specs.Output.{Silent}
-use Rattle.ffv1_unpack.specs.Plays.{NextHasFault, NextLacks, NextOver, NextReadFails, PlaysThen}
+use Rattle.ffv1_unpack.specs.Plays.{AtMost, NextBehind, NextHasFault, NextLacks, NextReadFails}
+use Rattle.ffv1_unpack.specs.Plays.{PlaysThen}
 
 -- ---- what is played, frames or payloads that are judged: by what each is, and its payload
 
@@ -48,10 +49,15 @@ module _ {X : Type 0} (Is : X → Type 0) (payload : X → List ℕ) where
 module _ {X : Type 0} (Is : X → Type 0) (payload : X → List ℕ)
     (Has : List (List ℕ) → (Place → List ℕ → List ℕ → Type 0) → List ℕ → List ℕ → Type 0)
     (text : List X → List ℕ) (input output : Passage) where
-  -- they are all
-  pub record PlaysAll (xs : List X) : Type 0 where
-    pub plays : PlaysThen Is payload Has text input output xs NextOver
+  -- they are all, of at most so many
+  pub record PlaysMost (most : Option ℕ) (xs : List X) : Type 0 where
+    pub plays : PlaysThen Is payload Has text input output xs (NextBehind most (length xs))
+    pub few : AtMost most (length xs)
     pub kept : input.after ≡ input.before
+
+  -- they are all
+  abbrev pub PlaysAll : List X → Type 0
+  PlaysAll xs = PlaysMost None xs
 
 -- ---- one frame
 

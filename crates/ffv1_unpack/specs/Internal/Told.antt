@@ -14,6 +14,7 @@ use Rattle.ffv1_codec.specs.SliceList.{Said}
 use Rattle.ffv1_files.specs.Answers.{Endings, ReadFails, WantsMore}
 use Rattle.ffv1_files.specs.Places.{Place}
 use Rattle.ffv1_files.specs.declared.container.Container.{Container}
+use Rattle.ffv1_words.specs.declared.order.FrameRange.{FrameRange}
 use Rattle.ffv1_files.specs.Files.{frame_read}
 use Rattle.ffv1_files.specs.Endings.{endings_from}
 use Rattle.ffv1_files.specs.Readers.{Standing}
@@ -30,14 +31,15 @@ use Rattle.ffv1_video.specs.Faults.Cause.{Reading, Writing, Memory, Content}
 use Rattle.ffv1_unpack.specs.Stream.{Frame, IsFrame, frame_payload}
 use Rattle.ffv1_unpack.specs.Play.{FaultsRead}
 use Rattle.ffv1_unpack.specs.Internal.Play.{ReadsEnd, ReadsPayload}
-use Rattle.ffv1_unpack.specs.Plays.{GoesBy}
+use Rattle.ffv1_unpack.specs.Plays.{GoesFrom}
+use Rattle.ffv1_unpack.specs.Ranges.{number_in}
 use Rattle.ffv1_unpack.specs.Internal.Plays.{OneStopsBy, PayloadFaults}
 use Rattle.ffv1_unpack.specs.Internal.Plays.{PlaysFrame}
-use Rattle.ffv1_unpack.specs.FrameLines.{frame_line, frame_lines, place_text}
+use Rattle.ffv1_unpack.specs.FrameLines.{frame_line, lines_from, place_text}
 use Rattle.ffv1_unpack.specs.Located.{WritesLine, WritesLocated}
 use Rattle.ffv1_unpack.specs.Internal.Located.{LocatedAfter}
 use Rattle.ffv1_video.specs.Output.{Silent}
-use Rattle.ffv1_unpack.specs.Told.{PayloadStops, is_telling_fault}
+use Rattle.ffv1_unpack.specs.Told.{PayloadStopsFrom, is_telling_fault}
 
 -- if the text is known, it has this fault
 abbrev pub FaultsKnown : {X : Type 0} → avi.Reading X → Option (List ℕ) → Option (List ℕ) → Fault →
@@ -82,14 +84,16 @@ told_line kind c i f = frame_line kind c i f.payload f.tally
 
 -- by how a file has payloads
 module _ (Has : List (List ℕ) → (Place → List ℕ → List ℕ → Type 0) → List ℕ → List ℕ → Type 0)
-    (kind : FrameLine) (place : Bool) (a : Accepted) (input output : Passage) where
-  -- why no further line is printed, with the offset at which the file stops: the next payload has a
-  -- fault; or by the cause
+    (kind : FrameLine) (range : FrameRange) (place : Bool) (a : Accepted)
+    (input output : Passage) where
+  -- why no further line of a range is printed, with the offset at which the file stops: the next
+  -- payload has a fault; or by the cause
   abbrev pub TellingStops : (Fault → ℕ → Type 0) → Bool → Fault → Type 0
   TellingStops Stops byte f =
-      PayloadStops Has kind place a input output f
-      ⊎ GoesBy (IsFrame a) frame_payload Has (frame_lines kind a.configuration) input output Stops
-      byte f (cause_of f)
+      PayloadStopsFrom Has (lines_from kind a.configuration range.first) (number_in range) place a
+      input output f
+      ⊎ GoesFrom (IsFrame a) frame_payload Has (lines_from kind a.configuration range.first) input
+      output (number_in range) Stops byte f (cause_of f)
 
 -- of the frame with this number
 module _ (kind : FrameLine) (place byte : Bool) (a : Accepted) (i : ℕ) (from : Standing)

@@ -1,20 +1,18 @@
 -- Decodes all frames of a file that the profile reads, and goes on after a payload that is refused,
 -- and in Matroska after a fault of the file itself.
-use Rattle.std.proofs.Common.{rules, ◌≡◌, ◌⊎◌, true, false, ap, sym, ◌∙◌, inl, inr}
+use Rattle.std.proofs.Common.{rules, ◌≡◌, true, false, ap, sym, ◌∙◌, inl, inr}
 use Rattle.std.proofs.lemmas.Result.{err_from_is_err_and}
-use Rattle.ffv1_files.specs.declared.container.Container.TheVariants as container
 use Rattle.ffv1_files.specs.Places.{container_of}
-use Rattle.ffv1_unpack.specs.Containers.{IsReadAs}
 use Rattle.ffv1_unpack.specs.Internal.Containers.{is_segment}
 use Rattle.ffv1_unpack.proofs.FileRead.{holds_payloads}
-use Rattle.ffv1_unpack.proofs.FileChecked.{goes_stops, lacks_opening}
+use Rattle.ffv1_unpack.proofs.AllJudged.{all_judged, all_none, all_stop, all_uncounted}
+use Rattle.ffv1_unpack.proofs.FileChecked.{lacks_opening}
 use Rattle.ffv1_unpack.proofs.FileItems.{count_fails, items_done, items_stop, items_unopened}
 use Rattle.ffv1_unpack.proofs.FileItems.{no_items}
-use Rattle.ffv1_unpack.proofs.FileJudged.{all_done, count_stops, none_judged}
 use Rattle.ffv1_unpack.proofs.OpenedAs.{either_read, read_as}
 use Rattle.ffv1_unpack.proofs.OwnFaults.{opening_checks, told_checks}
 use Rattle.ffv1_unpack.specs.CheckAll.{judged_count}
-use Rattle.ffv1_unpack.specs.Judged.{IsJudged, judged_lines, payload_of, payloads_of}
+use Rattle.ffv1_unpack.specs.Judged.{IsJudged, judged_lines, payload_of}
 use Rattle.ffv1_unpack.proofs.ItemsJudged.{line_own}
 use Rattle.ffv1_unpack.proofs.checking.check_all.Goals as goal
 use Rattle.ffv1_unpack.proofs.checking.check_all.Goals.{else-counts-eq0-2-via-else-counts-eq0-2}
@@ -33,10 +31,10 @@ returns-in-Err-clause-err g c =
         avi,
         lacks_opening IsJudged payload_of (judged_lines c.args.place) judged_count
             c.args.profile c.args.place (i c.args.input.now)
-            (i c.open_player_located.new.input) (i c.args.input.now) (o c.args.output.now)
-            (o c.tell_byte.new.output) (o c.args.output.now) (k c.args.input.now)
-            (k c.open_player_located.new.input) (k c.args.input.now) (n c.args.output.now)
-            (n c.tell_byte.new.output) (n c.args.output.now) f
+            (i c.open_player_located.new.input) (o c.args.output.now)
+            (o c.tell_byte.new.output) (k c.args.input.now)
+            (k c.open_player_located.new.input) (n c.args.output.now)
+            (n c.tell_byte.new.output) f
             c.open_player_located.new.offset c.in-Err.ensures.err c.in-Err.ensures.stopped
             told,
       )
@@ -67,8 +65,7 @@ returns-in_err-counts-in-Avi-clause-err g c =
     c.in-Ok.player.reader.place c.in-Ok.ensures.ok.known false kind in
     rw (p.1, p.2) (inl (
       read,
-      goes_stops IsJudged payload_of (judged_lines c.args.place) judged_count c.args.profile
-          c.args.place (g.R.ByteIn.remaining c.args.input.now)
+      all_stop c.args.profile c.args.place (g.R.ByteIn.remaining c.args.input.now)
           (g.R.ByteIn.remaining c.open_player_located.new.input)
           (g.R.ByteIn.remaining c.judge_frames.new.input)
           o (g.W.ByteOut.contents c.judge_frames.new.output) o (g.R.ByteIn.failures c.args.input.now)
@@ -99,7 +96,7 @@ returns-then-counts-eq0-clause-err g c =
     let none : c.in_ok-counts-in-Avi.counts.frames ≡ 0 = search rules in
     inl (
       read,
-      none_judged c.args.profile c.args.place (g.R.ByteIn.remaining c.args.input.now)
+      all_none c.args.profile c.args.place (g.R.ByteIn.remaining c.args.input.now)
           (g.R.ByteIn.remaining c.open_player_located.new.input)
           (g.R.ByteIn.remaining c.judge_frames.new.input)
           o (g.W.ByteOut.contents c.judge_frames.new.output) o (g.R.ByteIn.failures c.args.input.now)
@@ -123,7 +120,7 @@ returns-in_err-write_counts-in-Avi-clause-err g c =
     let told = c.in_ok-counts-in-Avi.ensures.ok in
     rw (p.1, p.2) (inl (
       read,
-      count_stops c.args.profile c.args.place (g.R.ByteIn.remaining c.args.input.now)
+      all_uncounted c.args.profile c.args.place (g.R.ByteIn.remaining c.args.input.now)
           (g.R.ByteIn.remaining c.open_player_located.new.input)
           (g.R.ByteIn.remaining c.judge_frames.new.input)
           (g.W.ByteOut.contents c.args.output.now) (g.W.ByteOut.contents c.judge_frames.new.output)
@@ -149,7 +146,7 @@ returns-in-Avi-clause-ok g c =
     let told = c.in_ok-counts-in-Avi.ensures.ok in
     inl (
       read,
-      all_done c.args.profile c.args.place (g.R.ByteIn.remaining c.args.input.now)
+      all_judged c.args.profile c.args.place (g.R.ByteIn.remaining c.args.input.now)
           (g.R.ByteIn.remaining c.open_player_located.new.input)
           (g.R.ByteIn.remaining c.judge_frames.new.input)
           (g.W.ByteOut.contents c.args.output.now) (g.W.ByteOut.contents c.judge_frames.new.output)
@@ -161,12 +158,10 @@ returns-in-Avi-clause-ok g c =
           (g.W.ByteOut.failures c.write_counts.new.output)
           c.in-Ok.player.reader
           c.in-Ok.player.decoder.accepted c.in-Ok.ensures.ok
-          told.0 c.in_ok-counts-in-Avi.counts told.1 told.2 c.if-counts-eq0.false
-          (λ file behind rest from to at opens reads over.
-          holds_payloads c.frames_come_in_turn.ensures c.what_is_read_is_a_file.ensures.first
-          c.what_is_read_is_a_file.ensures.whole c.args.profile file behind rest
-          c.in-Ok.player.reader.head from to at (payloads_of told.0)
-          opens reads over)
+          told.0 c.in_ok-counts-in-Avi.counts told.1 told.2
+          (holds_payloads c.frames_come_in_turn.ensures c.what_is_read_is_a_file.ensures.first
+          c.what_is_read_is_a_file.ensures.whole)
+          c.if-counts-eq0.false
           c.in_ok-write_counts-in-Avi.ensures.0 c.in_ok-write_counts-in-Avi.ensures.1,
     )
 

@@ -1,18 +1,20 @@
 -- Decodes all frames that are left, and writes the line of each picture as soon as it is decoded.
-use Rattle.std.proofs.Common.{◌≡◌, refl, Ok, Err, subst, sym, ◌∙◌, [], ◌∷◌, ◌++◌, length, arith}
+use Rattle.std.proofs.Common.{◌≡◌, refl, Ok, Err, subst, sym, ◌∙◌, ◌==◌, [], ◌∷◌, ◌++◌, length, arith}
 use Rattle.std.proofs.lemmas.Result.{err_from_is_err_and}
 use Rattle.ffv1_range.specs.Counts.{saturated}
 use Rattle.ffv1_wire.specs.Passage.{passage}
 use Rattle.ffv1_codec.specs.SliceList.{Said}
-use Rattle.ffv1_unpack.specs.FrameMd5.{frames_md5}
+use Rattle.ffv1_unpack.specs.FrameMd5.{md5_from}
 use Rattle.ffv1_unpack.specs.Internal.FrameMd5.{frame_md5}
 use Rattle.ffv1_unpack.specs.Internal.Opens.{stream_of}
 use Rattle.ffv1_video.specs.KeptLines.{IsKeptFor}
 use Rattle.ffv1_unpack.specs.Internal.PicturesOut.{head_saying}
 use Rattle.ffv1_unpack.specs.Internal.Plays.{NextAnswers}
+use Rattle.ffv1_unpack.specs.Ranges.{number_in}
+use Rattle.ffv1_unpack.specs.Stream.{IsFrame, frame_payload}
 use Rattle.ffv1_unpack.specs.Unpacked.{video_of}
-use Rattle.ffv1_unpack.proofs.FramesPlayed.{play_stops, played_more, played_none, played_over}
-use Rattle.ffv1_unpack.proofs.FramesPlayed.{wants_memory}
+use Rattle.ffv1_unpack.proofs.FramesPlayed.{none_at_most, one_at_most, play_stops, played_more}
+use Rattle.ffv1_unpack.proofs.FramesPlayed.{played_none, played_over, plays_full, wants_memory}
 use Rattle.ffv1_unpack.proofs.FramesInTurn.{counted_more}
 use Rattle.ffv1_unpack.proofs.Md5sSoFar.{text_more}
 use Rattle.ffv1_unpack.proofs.PicturesWritten.{heads_of}
@@ -24,14 +26,15 @@ returns-in_err-kept-clause-err g c =
     let p = err_from_is_err_and c.from_residual.result c.from_residual.ensures.1 in
     let a = c.args.player.now.decoder.accepted in
     rw (p.1, p.2)
-    (wants_memory a (frames_md5 (stream_of c.args.player.now.reader a)) refl
+    (wants_memory a (md5_from c.args.range.first (stream_of c.args.player.now.reader a)) refl
     c.args.player.now.reader.place (g.R.ByteIn.remaining c.args.input.now)
     (g.W.ByteOut.contents c.args.output.now)
     (g.R.ByteIn.failures c.args.input.now) (g.W.ByteOut.failures c.args.output.now)
     c.in_err-kept.field-0.0 c.in_err-kept.ensures.err)
 
-pub loop-lines-init : goal.loop-lines-init
-loop-lines-init g c =
+pub frames-init : goal.frames-init
+unfolding played_none
+frames-init g c =
     let a = c.args.player.now.decoder.accepted in
     let heads = heads_of _ _ _ _ c.text_head.result c.head.ensures.value c.config-checked.ensures
     c.text_head.ensures in (
@@ -40,10 +43,13 @@ loop-lines-init g c =
       zeros_kept a c.config-checked.result.now c.in_ok-kept.kept c.config-checked.ensures
           c.in_ok-kept.ensures.ok,
       heads,
-      played_none a (frames_md5 (stream_of c.args.player.now.reader a)) refl
-          c.args.player.now.reader.place (g.R.ByteIn.remaining c.args.input.now)
-          (g.W.ByteOut.contents c.args.output.now)
-          (g.R.ByteIn.failures c.args.input.now) (g.W.ByteOut.failures c.args.output.now),
+      (
+        played_none a (md5_from c.args.range.first (stream_of c.args.player.now.reader a)) refl
+            c.args.player.now.reader.place (g.R.ByteIn.remaining c.args.input.now)
+            (g.W.ByteOut.contents c.args.output.now)
+            (g.R.ByteIn.failures c.args.input.now) (g.W.ByteOut.failures c.args.output.now),
+        none_at_most c.args.range.count,
+      ),
       refl,
     )
 
@@ -53,54 +59,60 @@ returns-in_err-write_next-clause-err g c =
     c.from_residual-in_err-write_next.ensures.1 in
     let a = c.args.player.now.decoder.accepted in
     let s = stream_of c.args.player.now.reader a in
-    let h = c.loop-lines.lines.head in
-    let i = c.loop-lines.invariant in
-    let so = i.4 in
+    let h = c.frames.lines.head in
+    let i = c.frames.invariant in
+    let so = i.4.0 in
+    let numbered : c.saturating_add.result ≡ number_in c.args.range (length so.frames) =
+    omega (arith, c.saturating_add.ensures, so.is) in
     let f = c.in_err-write_next.field-0.0 in
-    let to = c.loop-lines.player.reader.place in
+    let to = c.frames.player.reader.place in
     let last = c.write_next.new.player.reader.place in
-    let input = passage g.R.ByteIn.remaining g.R.ByteIn.failures c.loop-lines.input
+    let input = passage g.R.ByteIn.remaining g.R.ByteIn.failures c.frames.input
     c.write_next.new.input in
-    let output = passage g.W.ByteOut.contents g.W.ByteOut.failures c.loop-lines.output
+    let output = passage g.W.ByteOut.contents g.W.ByteOut.failures c.frames.output
     c.write_next.new.output in
-    let answer = subst (λ z. NextAnswers z (frame_md5 z h c.loop-lines.count) to last input output
+    let answer = subst (λ z. NextAnswers z (frame_md5 z h (c.frames.count == 0) c.saturating_add.result) to last input output
     (Err f)) i.1 c.in_err-write_next.ensures.answer in
     rw (p.1, p.2)
-    (play_stops a (frames_md5 s) c.args.player.now.reader.place to last c.loop-lines.count
-    (g.R.ByteIn.remaining c.args.input.now) (g.R.ByteIn.remaining c.loop-lines.input)
+    (play_stops a (md5_from c.args.range.first s) c.args.player.now.reader.place to last c.frames.count
+    (g.R.ByteIn.remaining c.args.input.now) (g.R.ByteIn.remaining c.frames.input)
     (g.R.ByteIn.remaining c.write_next.new.input)
-    (g.W.ByteOut.contents c.args.output.now) (g.W.ByteOut.contents c.loop-lines.output)
+    (g.W.ByteOut.contents c.args.output.now) (g.W.ByteOut.contents c.frames.output)
     (g.W.ByteOut.contents c.write_next.new.output)
-    (g.R.ByteIn.failures c.args.input.now) (g.R.ByteIn.failures c.loop-lines.input)
+    (g.R.ByteIn.failures c.args.input.now) (g.R.ByteIn.failures c.frames.input)
     (g.R.ByteIn.failures c.write_next.new.input)
-    (g.W.ByteOut.failures c.args.output.now) (g.W.ByteOut.failures c.loop-lines.output)
+    (g.W.ByteOut.failures c.args.output.now) (g.W.ByteOut.failures c.frames.output)
     (g.W.ByteOut.failures c.write_next.new.output)
-    so (frame_md5 a h c.loop-lines.count) (λ z. text_more s h i.3 so.frames z c.loop-lines.count
-    so.is) f answer)
+    so (frame_md5 a h (c.frames.count == 0) c.saturating_add.result) (λ z. text_more s h i.3 c.args.range so.frames z c.frames.count
+    c.saturating_add.result so.is numbered) f answer)
 
 pub returns-in_err-write_next-clause-own : goal.returns-in_err-write_next-clause-own
 returns-in_err-write_next-clause-own g c =
     let p = err_from_is_err_and c.from_residual-in_err-write_next.result
     c.from_residual-in_err-write_next.ensures.1 in
-    rw (p.1, p.2) (rw c.loop-lines.invariant.5 at c.in_err-write_next.ensures.own)
+    rw (p.1, p.2) (rw c.frames.invariant.5 at c.in_err-write_next.ensures.own)
 
-pub loop-lines-preserved : goal.loop-lines-preserved
-loop-lines-preserved g c =
+pub frames-preserved : goal.frames-preserved
+unfolding played_more
+frames-preserved g c =
     let a = c.args.player.now.decoder.accepted in
     let s = stream_of c.args.player.now.reader a in
-    let h = c.loop-lines.lines.head in
-    let i = c.loop-lines.invariant in
-    let so = i.4 in
-    let to = c.loop-lines.player.reader.place in
+    let h = c.frames.lines.head in
+    let i = c.frames.invariant in
+    let so = i.4.0 in
+    let numbered : c.saturating_add.result ≡ number_in c.args.range (length so.frames) =
+    omega (arith, c.saturating_add.ensures, so.is) in
+    let room = sym (c.has_more.ensures (length so.frames) so.is) ∙ c.frames-test.true in
+    let to = c.frames.player.reader.place in
     let last = c.write_next.new.player.reader.place in
-    let input = passage g.R.ByteIn.remaining g.R.ByteIn.failures c.loop-lines.input
+    let input = passage g.R.ByteIn.remaining g.R.ByteIn.failures c.frames.input
     c.write_next.new.input in
-    let output = passage g.W.ByteOut.contents g.W.ByteOut.failures c.loop-lines.output
+    let output = passage g.W.ByteOut.contents g.W.ByteOut.failures c.frames.output
     c.write_next.new.output in
     let answer =
-    subst (λ b. NextAnswers a (frame_md5 a h c.loop-lines.count) to last input output (Ok b))
-    c.if-branch.true
-    (subst (λ z. NextAnswers z (frame_md5 z h c.loop-lines.count) to last input output
+    subst (λ b. NextAnswers a (frame_md5 a h (c.frames.count == 0) c.saturating_add.result) to last input output (Ok b))
+    c.if-not-branch.false
+    (subst (λ z. NextAnswers z (frame_md5 z h (c.frames.count == 0) c.saturating_add.result) to last input output
     (Ok c.in_ok-write_next.field-0)) i.1 c.in_ok-write_next.ensures.answer) in
     let f = answer.0 in
     let next : c.saturating_add-count.result ≡ saturated (length (so.frames ++ (f ∷ []))) =
@@ -110,49 +122,72 @@ loop-lines-preserved g c =
       subst (λ z. IsKeptFor z c.write_next.new.kept) i.1 c.in_ok-write_next.ensures.kept,
       subst (λ z. (said : Said) → head_saying z said ≡ video_of s said)
           (sym c.in_ok-write_next.ensures.head) i.3,
-      played_more a (frames_md5 s) c.args.player.now.reader.place to last c.loop-lines.count
-          (g.R.ByteIn.remaining c.args.input.now) (g.R.ByteIn.remaining c.loop-lines.input)
-          (g.R.ByteIn.remaining c.write_next.new.input)
-          (g.W.ByteOut.contents c.args.output.now) (g.W.ByteOut.contents c.loop-lines.output)
-          (g.W.ByteOut.contents c.write_next.new.output)
-          (g.R.ByteIn.failures c.args.input.now) (g.R.ByteIn.failures c.loop-lines.input)
-          (g.R.ByteIn.failures c.write_next.new.input)
-          (g.W.ByteOut.failures c.args.output.now) (g.W.ByteOut.failures c.loop-lines.output)
-          (g.W.ByteOut.failures c.write_next.new.output)
-          so (frame_md5 a h c.loop-lines.count)
-          (λ z. text_more s h i.3 so.frames z c.loop-lines.count so.is) f
-          c.saturating_add-count.result next answer.1 answer.2 answer.3,
+      (
+        played_more a (md5_from c.args.range.first s) c.args.player.now.reader.place to last c.frames.count
+            (g.R.ByteIn.remaining c.args.input.now) (g.R.ByteIn.remaining c.frames.input)
+            (g.R.ByteIn.remaining c.write_next.new.input)
+            (g.W.ByteOut.contents c.args.output.now) (g.W.ByteOut.contents c.frames.output)
+            (g.W.ByteOut.contents c.write_next.new.output)
+            (g.R.ByteIn.failures c.args.input.now) (g.R.ByteIn.failures c.frames.input)
+            (g.R.ByteIn.failures c.write_next.new.input)
+            (g.W.ByteOut.failures c.args.output.now) (g.W.ByteOut.failures c.frames.output)
+            (g.W.ByteOut.failures c.write_next.new.output)
+            so (frame_md5 a h (c.frames.count == 0) c.saturating_add.result)
+            (λ z. text_more s h i.3 c.args.range so.frames z c.frames.count
+            c.saturating_add.result so.is numbered) f
+            c.saturating_add-count.result next answer.1 answer.2 answer.3,
+        one_at_most c.args.range.count so.frames f room,
+      ),
       c.in_ok-write_next.ensures.container ∙ i.5,
+    )
+
+pub returns-then-not-branch-clause-ok : goal.returns-then-not-branch-clause-ok
+returns-then-not-branch-clause-ok g c =
+    let a = c.args.player.now.decoder.accepted in
+    let h = c.frames.lines.head in
+    let i = c.frames.invariant in
+    let so = i.4.0 in
+    let room = sym (c.has_more.ensures (length so.frames) so.is) ∙ c.frames-test.true in
+    let to = c.frames.player.reader.place in
+    let last = c.write_next.new.player.reader.place in
+    let input = passage g.R.ByteIn.remaining g.R.ByteIn.failures c.frames.input
+    c.write_next.new.input in
+    let output = passage g.W.ByteOut.contents g.W.ByteOut.failures c.frames.output
+    c.write_next.new.output in
+    let answer =
+    subst (λ b. NextAnswers a (frame_md5 a h (c.frames.count == 0) c.saturating_add.result) to last input output (Ok b))
+    c.if-not-branch.true
+    (subst (λ z. NextAnswers z (frame_md5 z h (c.frames.count == 0) c.saturating_add.result) to last input output
+    (Ok c.in_ok-write_next.field-0)) i.1 c.in_ok-write_next.ensures.answer) in (
+      so.frames,
+      so.is,
+      played_over a (md5_from c.args.range.first (stream_of c.args.player.now.reader a))
+          c.args.player.now.reader.place to last c.frames.count
+          (g.R.ByteIn.remaining c.args.input.now) (g.R.ByteIn.remaining c.frames.input)
+          (g.R.ByteIn.remaining c.write_next.new.input)
+          (g.W.ByteOut.contents c.args.output.now) (g.W.ByteOut.contents c.frames.output)
+          (g.W.ByteOut.contents c.write_next.new.output)
+          (g.R.ByteIn.failures c.args.input.now) (g.R.ByteIn.failures c.frames.input)
+          (g.R.ByteIn.failures c.write_next.new.input)
+          (g.W.ByteOut.failures c.args.output.now) (g.W.ByteOut.failures c.frames.output)
+          (g.W.ByteOut.failures c.write_next.new.output)
+          so c.args.range.count room i.4.1 answer.0 answer.1,
     )
 
 pub returns-clause-ok : goal.returns-clause-ok
 returns-clause-ok g c =
     let a = c.args.player.now.decoder.accepted in
-    let h = c.loop-lines.lines.head in
-    let i = c.loop-lines.invariant in
-    let so = i.4 in
-    let to = c.loop-lines.player.reader.place in
-    let last = c.write_next.new.player.reader.place in
-    let input = passage g.R.ByteIn.remaining g.R.ByteIn.failures c.loop-lines.input
-    c.write_next.new.input in
-    let output = passage g.W.ByteOut.contents g.W.ByteOut.failures c.loop-lines.output
-    c.write_next.new.output in
-    let answer =
-    subst (λ b. NextAnswers a (frame_md5 a h c.loop-lines.count) to last input output (Ok b))
-    c.if-branch.false
-    (subst (λ z. NextAnswers z (frame_md5 z h c.loop-lines.count) to last input output
-    (Ok c.in_ok-write_next.field-0)) i.1 c.in_ok-write_next.ensures.answer) in (
+    let i = c.frames.invariant in
+    let so = i.4.0 in
+    let full = sym (c.has_more.ensures (length so.frames) so.is) ∙ c.frames-test.false in (
       so.frames,
       so.is,
-      played_over a (frames_md5 (stream_of c.args.player.now.reader a))
-          c.args.player.now.reader.place to last c.loop-lines.count
-          (g.R.ByteIn.remaining c.args.input.now) (g.R.ByteIn.remaining c.loop-lines.input)
-          (g.R.ByteIn.remaining c.write_next.new.input)
-          (g.W.ByteOut.contents c.args.output.now) (g.W.ByteOut.contents c.loop-lines.output)
-          (g.W.ByteOut.contents c.write_next.new.output)
-          (g.R.ByteIn.failures c.args.input.now) (g.R.ByteIn.failures c.loop-lines.input)
-          (g.R.ByteIn.failures c.write_next.new.input)
-          (g.W.ByteOut.failures c.args.output.now) (g.W.ByteOut.failures c.loop-lines.output)
-          (g.W.ByteOut.failures c.write_next.new.output)
-          so answer.0 answer.1,
+      plays_full (IsFrame a) frame_payload
+          (md5_from c.args.range.first (stream_of c.args.player.now.reader a))
+          c.args.player.now.reader.place c.frames.player.reader.place
+          (g.R.ByteIn.remaining c.args.input.now) (g.R.ByteIn.remaining c.frames.input)
+          (g.W.ByteOut.contents c.args.output.now) (g.W.ByteOut.contents c.frames.output)
+          (g.R.ByteIn.failures c.args.input.now) (g.R.ByteIn.failures c.frames.input)
+          (g.W.ByteOut.failures c.args.output.now) (g.W.ByteOut.failures c.frames.output)
+          so.frames so.so c.args.range.count full i.4.1,
     )

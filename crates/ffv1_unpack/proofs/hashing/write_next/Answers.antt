@@ -9,8 +9,7 @@ use Rattle.ffv1_slice.specs.Grid.{Division, division_of}
 use Rattle.ffv1_codec.specs.Picture.{AreOf, Planes, planes_of}
 use Rattle.ffv1_video.specs.Faults.{cause_of, of_avi}
 use Rattle.ffv1_video.specs.Faults.Cause.{Content}
-use Rattle.ffv1_unpack.specs.Internal.FrameMd5.{frame_md5}
-use Rattle.ffv1_video.specs.Md5Text.{next_md5}
+use Rattle.ffv1_unpack.specs.Internal.FrameMd5.{frame_md5, headed_md5}
 use Rattle.ffv1_video.specs.KeptLines.{IsKeptFor}
 use Rattle.ffv1_unpack.specs.Internal.PicturesOut.{head_saying}
 use Rattle.ffv1_unpack.specs.Internal.Plays.{OneStopsBy, PlaysFrame}
@@ -81,14 +80,14 @@ returns-in_err-write_picture-in-Ok-Some-clause-answer g c =
     } in
     let same : c.config-checked.result.now ≡ a = c.config-checked.ensures ∙ c.play.ensures.same in
     let writes = subst (λ (z : Planes). WritesFrame
-    (next_md5 (is_rct a.configuration.colour) a.configuration.depth (head_saying h info)
-    c.args.number z) output (Err f)) planes
-    (subst (λ (x : Accepted). WritesFrame (next_md5 (is_rct x.configuration.colour)
-    x.configuration.depth (head_saying h info) c.args.number (planes_of c.planes.result.now))
+    (headed_md5 (is_rct a.configuration.colour) a.configuration.depth (head_saying h info)
+    c.args.place.first c.args.place.number z) output (Err f)) planes
+    (subst (λ (x : Accepted). WritesFrame (headed_md5 (is_rct x.configuration.colour)
+    x.configuration.depth (head_saying h info) c.args.place.first c.args.place.number (planes_of c.planes.result.now))
     output (Err f)) same
     c.in_err-write_picture-in-Ok-Some.ensures.answer) in
     rw (p.1, p.2)
-    (inr (line_stops (IsFrame a) frame_payload (frame_md5 a h c.args.number) (λ z. Silent output)
+    (inr (line_stops (IsFrame a) frame_payload (frame_md5 a h c.args.place.first c.args.place.number) (λ z. Silent output)
     c.args.player.now.reader.place c.play.new.player.reader.place input output frame f plays
     writes))
 
@@ -129,10 +128,10 @@ returns-in_ok-write_picture-in-Ok-Some-clause-answer g c =
     } in
     let same : c.config-checked.result.now ≡ a = c.config-checked.ensures ∙ c.play.ensures.same in
     let writes = subst (λ (z : Planes). WritesFrame
-    (next_md5 (is_rct a.configuration.colour) a.configuration.depth (head_saying h info)
-    c.args.number z) output (Ok tt)) planes
-    (subst (λ (x : Accepted). WritesFrame (next_md5 (is_rct x.configuration.colour)
-    x.configuration.depth (head_saying h info) c.args.number (planes_of c.planes.result.now))
+    (headed_md5 (is_rct a.configuration.colour) a.configuration.depth (head_saying h info)
+    c.args.place.first c.args.place.number z) output (Ok tt)) planes
+    (subst (λ (x : Accepted). WritesFrame (headed_md5 (is_rct x.configuration.colour)
+    x.configuration.depth (head_saying h info) c.args.place.first c.args.place.number (planes_of c.planes.result.now))
     output (Ok tt)) same
     c.in_ok-write_picture-in-Ok-Some.ensures.answer) in
     (frame, plays, writes.0, writes.1)
@@ -158,7 +157,7 @@ returns-in_ok-write_picture-in-Ok-Some-clause-kept g c =
 pub returns-in-Err-File-clause-answer : goal.returns-in-Err-File-clause-answer
 returns-in-Err-File-clause-answer g c =
     let a = c.args.player.now.decoder.accepted in
-    let line = frame_md5 a c.args.lines.now.head c.args.number in
+    let line = frame_md5 a c.args.lines.now.head c.args.place.first c.args.place.number in
     let f = of_avi c.in-Err-File.fault in
     let input = passage g.R.ByteIn.remaining g.R.ByteIn.failures c.args.input.now
     c.play.new.input in
@@ -167,7 +166,7 @@ returns-in-Err-File-clause-answer g c =
     let answer = rw c.in-Err-File.field-0-is at c.in-Err-File.ensures.answer in
     inr (subst (λ z. OneStopsBy (IsFrame a) frame_payload line (λ y. Silent output)
     c.args.player.now.reader.place c.play.new.player.reader.place input output z (cause_of z))
-    (sym c.from.ensures)
+    (sym (rw c.in-Err-File.field-0-is at c.from.ensures))
     (file_stops (IsFrame a) frame_payload line c.args.player.now.reader.place
     c.play.new.player.reader.place input (g.W.ByteOut.contents c.args.output.now)
     (g.W.ByteOut.failures c.args.output.now)
@@ -184,7 +183,7 @@ returns-in-Err-Payload-clause-answer g c =
     c.play.new.sink tally f c.requires.accepted answer.1 c.requires.kept.grid in
     let content = decode_cause f.fault (c.answered_fault_is_of_decoding.ensures a payload
     c.args.kept.now c.play.new.sink tally f answer.1) own in
-    let is = c.from-in-Err-Payload.ensures in
+    let is = rw c.in-Err-Payload.field-0-is at c.from-in-Err-Payload.ensures in
     inl (
       silent (g.W.ByteOut.contents c.args.output.now) (g.W.ByteOut.failures c.args.output.now),
       record {
@@ -210,4 +209,5 @@ returns-in-Err-Payload-clause-own g c =
     c.play.new.sink tally f c.requires.accepted answer.1 c.requires.kept.grid in
     let decode = c.answered_fault_is_of_decoding.ensures a payload c.args.kept.now c.play.new.sink
     tally f answer.1 in
-    inl (ap is_telling_fault c.from-in-Err-Payload.ensures ∙ payload_tells f.fault decode own)
+    let is = rw c.in-Err-Payload.field-0-is at c.from-in-Err-Payload.ensures in
+    inl (ap is_telling_fault is ∙ payload_tells f.fault decode own)

@@ -41,10 +41,10 @@ returns-in_err-write_line-in-Ok-Some-clause-answer g c =
     let writing = passage g.W.ByteOut.contents g.W.ByteOut.failures c.args.output.now
     c.write_line.new.output in
     rw (p.1, p.2)
-    (line_stops (IsJudged a) payload_of (judged_line c.args.places.place a.configuration
-    c.args.counts.now.frames)
-    (λ z. WritesLocated (LocatedAfter c.args.player.now.reader reading) c.args.places.byte
-    c.args.counts.now.frames [] z writing) c.args.player.now.reader.place
+    (line_stops (IsJudged a) payload_of (judged_line c.args.judging.places.place a.configuration
+    c.args.judging.number)
+    (λ z. WritesLocated (LocatedAfter c.args.player.now.reader reading) c.args.judging.places.byte
+    c.args.judging.number [] z writing) c.args.player.now.reader.place
     c.play.new.player.reader.place
     reading writing (Decoded frame) c.in_err-write_line-in-Ok-Some.field-0.0
     (record { is = record { codes = found.1; decided = decided }; reads = answer.0 })
@@ -96,10 +96,10 @@ returns-in_err-write_refusal-in-Err-Payload-clause-answer g c =
     let writing = passage g.W.ByteOut.contents g.W.ByteOut.failures c.args.output.now
     c.write_refusal.new.output in
     rw (p.1, p.2)
-    (line_stops (IsJudged a) payload_of (judged_line c.args.places.place a.configuration
-    c.args.counts.now.frames)
-    (λ z. WritesLocated (LocatedAfter c.args.player.now.reader reading) c.args.places.byte
-    c.args.counts.now.frames [] z writing) c.args.player.now.reader.place
+    (line_stops (IsJudged a) payload_of (judged_line c.args.judging.places.place a.configuration
+    c.args.judging.number)
+    (λ z. WritesLocated (LocatedAfter c.args.player.now.reader reading) c.args.judging.places.byte
+    c.args.judging.number [] z writing) c.args.player.now.reader.place
     c.play.new.player.reader.place
     reading writing (Refused payload f tally) c.in_err-write_refusal-in-Err-Payload.field-0.0
     (record {
@@ -137,7 +137,7 @@ returns-in_ok-write_refusal-in-Err-Payload-clause-answer g c =
 pub returns-in-Err-File-clause-answer : goal.returns-in-Err-File-clause-answer
 returns-in-Err-File-clause-answer g c =
     let a = c.args.player.now.decoder.accepted in
-    let i = c.args.counts.now.frames in
+    let i = c.args.judging.number in
     let reading = passage g.R.ByteIn.remaining g.R.ByteIn.failures c.args.input.now
     c.play.new.input in
     let writing = passage g.W.ByteOut.contents g.W.ByteOut.failures c.args.output.now
@@ -148,10 +148,10 @@ returns-in-Err-File-clause-answer g c =
     let is : c.from-fault.result ≡ f = c.from-fault.ensures in
     let answer = rw c.in-Err-File.field-0-is at c.in-Err-File.ensures.answer in
     let stops = rw c.in-Err-File.field-0-is at c.in-Err-File.ensures.located in
-    let writes : WritesLine [] (located_text c.args.places.byte i f to.offset) writing =
+    let writes : WritesLine [] (located_text c.args.judging.places.byte i f to.offset) writing =
     rw (is, c.offset-offset.ensures) at c.tell_byte.ensures in
-    subst (λ z. JudgeStopsBy c.args.places.place c.args.places.byte a i from to.place reading
+    subst (λ z. JudgeStopsBy c.args.judging.places.place c.args.judging.places.byte a i from to.place reading
     writing z (cause_of z)) (sym is)
-    (file_refused (IsJudged a) payload_of (judged_line c.args.places.place a.configuration i)
-    c.args.places.byte i from to.place to.offset reading writing f (cause_of f) refl answer.0
+    (file_refused (IsJudged a) payload_of (judged_line c.args.judging.places.place a.configuration i)
+    c.args.judging.places.byte i from to.place to.offset reading writing f (cause_of f) refl answer.0
     stops writes)

@@ -1,12 +1,10 @@
 -- Judges all items of a Segment that are left, and writes the lines of each as soon as it is judged.
-use Rattle.std.proofs.Common.{◌≡◌, ◌-◌, ◌^◌, refl, Ok, true, false, subst, ◌∙◌, arith}
+use Rattle.std.proofs.Common.{◌≡◌, refl, ◌∙◌, arith}
 use Rattle.std.proofs.lemmas.Result.{err_from_is_err_and}
 use Rattle.ffv1_range.specs.Counts.{saturated}
-use Rattle.ffv1_wire.specs.Passage.{passage}
 use Rattle.ffv1_files.specs.Items.{course_of}
 use Rattle.ffv1_video.specs.Faults.{cause_of}
-use Rattle.ffv1_unpack.specs.Internal.JudgedItems.{ItemJudged}
-use Rattle.ffv1_unpack.proofs.ItemsJudged.{so_many, so_more, so_none, so_over, so_stops}
+use Rattle.ffv1_unpack.proofs.ItemsJudged.{so_more, so_none, so_stops}
 use Rattle.ffv1_unpack.proofs.judging_items.judge_items.Goals as goal
 
 pub loop-item-init : goal.loop-item-init

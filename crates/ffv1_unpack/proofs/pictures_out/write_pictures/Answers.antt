@@ -9,7 +9,10 @@ use Rattle.ffv1_unpack.specs.Internal.Opens.{stream_of}
 use Rattle.ffv1_video.specs.KeptLines.{IsKeptFor}
 use Rattle.ffv1_unpack.specs.Internal.PicturesOut.{WritesNext, head_saying, said_in}
 use Rattle.ffv1_unpack.specs.Unpacked.{video_of}
+use Rattle.ffv1_unpack.specs.Plays.{AtMost}
 use Rattle.ffv1_unpack.proofs.FramesInTurn.{counted_more}
+use Rattle.ffv1_unpack.proofs.FramesPlayed.{none_at_most, one_at_most}
+use Rattle.ffv1_unpack.proofs.FramesUnpacked.{unpacks_full}
 use Rattle.ffv1_unpack.proofs.PicturesWritten.{UnpackedSo, begun_behind, begun_more, heads_of}
 use Rattle.ffv1_unpack.proofs.PicturesWritten.{unpacked_more, unpacked_none, unpacked_over}
 use Rattle.ffv1_unpack.proofs.PicturesWritten.{unpacking_stops, wants_memory}
@@ -26,8 +29,8 @@ returns-in_err-kept-clause-err g c =
     (g.R.ByteIn.failures c.args.input.now) (g.W.ByteOut.failures c.args.output.now)
     c.in_err-kept.field-0.0 c.requires.colour c.in_err-kept.ensures.err)
 
-pub loop-kept-init : goal.loop-kept-init
-loop-kept-init g c =
+pub frames-init : goal.frames-init
+frames-init g c =
     let none : 0 ≡ saturated 0 = omega arith in
     let heads = heads_of _ _ _ _ c.text_head.result c.head.ensures.value c.config-checked.ensures
     c.text_head.ensures in (
@@ -36,15 +39,18 @@ loop-kept-init g c =
       zeros_kept c.args.player.now.decoder.accepted c.config-checked.result.now c.in_ok-kept.kept
           c.config-checked.ensures c.in_ok-kept.ensures.ok,
       heads,
-      record {
-        frames = [];
-        is = none;
-        un = unpacked_none (stream_of c.args.player.now.reader c.args.player.now.decoder.accepted)
-            c.text_head.result heads c.requires.colour c.args.player.now.reader.place
-            (g.R.ByteIn.remaining c.args.input.now) (g.W.ByteOut.contents c.args.output.now)
-            (g.R.ByteIn.failures c.args.input.now) (g.W.ByteOut.failures c.args.output.now);
-        begun_is = refl;
-      },
+      (
+        record {
+          frames = [];
+          is = none;
+          un = unpacked_none (stream_of c.args.player.now.reader c.args.player.now.decoder.accepted)
+              c.text_head.result heads c.requires.colour c.args.player.now.reader.place
+              (g.R.ByteIn.remaining c.args.input.now) (g.W.ByteOut.contents c.args.output.now)
+              (g.R.ByteIn.failures c.args.input.now) (g.W.ByteOut.failures c.args.output.now);
+          begun_is = refl;
+        },
+        none_at_most c.args.most,
+      ),
       refl,
     )
 
@@ -53,31 +59,31 @@ returns-in_err-write_next-clause-err g c =
     let p = err_from_is_err_and c.from_residual-in_err-write_next.result
     c.from_residual-in_err-write_next.ensures.1 in
     let a = c.args.player.now.decoder.accepted in
-    let h = c.loop-kept.text.head in
-    let i = c.loop-kept.invariant in
-    let so = i.4 in
+    let h = c.frames.text.head in
+    let i = c.frames.invariant in
+    let so = i.4.0 in
     let f = c.in_err-write_next.field-0.0 in
-    let to = c.loop-kept.player.reader.place in
+    let to = c.frames.player.reader.place in
     let last = c.write_next.new.player.reader.place in
-    let input = passage g.R.ByteIn.remaining g.R.ByteIn.failures c.loop-kept.input
+    let input = passage g.R.ByteIn.remaining g.R.ByteIn.failures c.frames.input
     c.write_next.new.input in
-    let output = passage g.W.ByteOut.contents g.W.ByteOut.failures c.loop-kept.output
+    let output = passage g.W.ByteOut.contents g.W.ByteOut.failures c.frames.output
     c.write_next.new.output in
     let answer =
     subst (λ z. WritesNext a h (said_in z) to last input output c.write_next.new.text.begun (Err f))
     so.begun_is
-    (subst (λ z. WritesNext z h (said_in c.loop-kept.text.begun) to last input output
+    (subst (λ z. WritesNext z h (said_in c.frames.text.begun) to last input output
     c.write_next.new.text.begun (Err f)) i.1 c.in_err-write_next.ensures.answer) in
     rw (p.1, p.2)
     (unpacking_stops (stream_of c.args.player.now.reader a) h i.3 c.requires.colour
     c.args.player.now.reader.place to last
-    (g.R.ByteIn.remaining c.args.input.now) (g.R.ByteIn.remaining c.loop-kept.input)
+    (g.R.ByteIn.remaining c.args.input.now) (g.R.ByteIn.remaining c.frames.input)
     (g.R.ByteIn.remaining c.write_next.new.input)
-    (g.W.ByteOut.contents c.args.output.now) (g.W.ByteOut.contents c.loop-kept.output)
+    (g.W.ByteOut.contents c.args.output.now) (g.W.ByteOut.contents c.frames.output)
     (g.W.ByteOut.contents c.write_next.new.output)
-    (g.R.ByteIn.failures c.args.input.now) (g.R.ByteIn.failures c.loop-kept.input)
+    (g.R.ByteIn.failures c.args.input.now) (g.R.ByteIn.failures c.frames.input)
     (g.R.ByteIn.failures c.write_next.new.input)
-    (g.W.ByteOut.failures c.args.output.now) (g.W.ByteOut.failures c.loop-kept.output)
+    (g.W.ByteOut.failures c.args.output.now) (g.W.ByteOut.failures c.frames.output)
     (g.W.ByteOut.failures c.write_next.new.output)
     so.frames so.un f (cause_of f) answer)
 
@@ -85,27 +91,28 @@ pub returns-in_err-write_next-clause-own : goal.returns-in_err-write_next-clause
 returns-in_err-write_next-clause-own g c =
     let p = err_from_is_err_and c.from_residual-in_err-write_next.result
     c.from_residual-in_err-write_next.ensures.1 in
-    rw (p.1, p.2) (rw c.loop-kept.invariant.5 at c.in_err-write_next.ensures.own)
+    rw (p.1, p.2) (rw c.frames.invariant.5 at c.in_err-write_next.ensures.own)
 
-pub loop-kept-preserved : goal.loop-kept-preserved
-loop-kept-preserved g c =
+pub frames-preserved : goal.frames-preserved
+frames-preserved g c =
     let a = c.args.player.now.decoder.accepted in
     let s = stream_of c.args.player.now.reader a in
-    let h = c.loop-kept.text.head in
-    let i = c.loop-kept.invariant in
-    let so = i.4 in
-    let to = c.loop-kept.player.reader.place in
+    let h = c.frames.text.head in
+    let i = c.frames.invariant in
+    let so = i.4.0 in
+    let room = sym (c.has_more.ensures (length so.frames) so.is) ∙ c.frames-test.true in
+    let to = c.frames.player.reader.place in
     let last = c.write_next.new.player.reader.place in
-    let input = passage g.R.ByteIn.remaining g.R.ByteIn.failures c.loop-kept.input
+    let input = passage g.R.ByteIn.remaining g.R.ByteIn.failures c.frames.input
     c.write_next.new.input in
-    let output = passage g.W.ByteOut.contents g.W.ByteOut.failures c.loop-kept.output
+    let output = passage g.W.ByteOut.contents g.W.ByteOut.failures c.frames.output
     c.write_next.new.output in
     let answer =
     subst (λ b. WritesNext a h (said_in (begun_behind a.configuration.depth h so.frames)) to last
-    input output c.write_next.new.text.begun (Ok b)) c.if-branch.true
+    input output c.write_next.new.text.begun (Ok b)) c.if-not-branch.false
     (subst (λ z. WritesNext a h (said_in z) to last input output c.write_next.new.text.begun
     (Ok c.in_ok-write_next.field-0)) so.begun_is
-    (subst (λ z. WritesNext z h (said_in c.loop-kept.text.begun) to last input output
+    (subst (λ z. WritesNext z h (said_in c.frames.text.begun) to last input output
     c.write_next.new.text.begun (Ok c.in_ok-write_next.field-0)) i.1
     c.in_ok-write_next.ensures.answer)) in
     let f = answer.0 in
@@ -122,13 +129,13 @@ loop-kept-preserved g c =
       is = next;
       un =
           unpacked_more s h i.3 c.requires.colour c.args.player.now.reader.place to last
-          (g.R.ByteIn.remaining c.args.input.now) (g.R.ByteIn.remaining c.loop-kept.input)
+          (g.R.ByteIn.remaining c.args.input.now) (g.R.ByteIn.remaining c.frames.input)
           (g.R.ByteIn.remaining c.write_next.new.input)
-          (g.W.ByteOut.contents c.args.output.now) (g.W.ByteOut.contents c.loop-kept.output)
+          (g.W.ByteOut.contents c.args.output.now) (g.W.ByteOut.contents c.frames.output)
           (g.W.ByteOut.contents c.write_next.new.output)
-          (g.R.ByteIn.failures c.args.input.now) (g.R.ByteIn.failures c.loop-kept.input)
+          (g.R.ByteIn.failures c.args.input.now) (g.R.ByteIn.failures c.frames.input)
           (g.R.ByteIn.failures c.write_next.new.input)
-          (g.W.ByteOut.failures c.args.output.now) (g.W.ByteOut.failures c.loop-kept.output)
+          (g.W.ByteOut.failures c.args.output.now) (g.W.ByteOut.failures c.frames.output)
           (g.W.ByteOut.failures c.write_next.new.output)
           so.frames so.un f answer.1 answer.2 answer.3 answer.4;
       begun_is = answer.5 ∙ begun_more a.configuration.depth h so.frames f answer.2;
@@ -138,40 +145,58 @@ loop-kept-preserved g c =
       c.in_ok-write_next.ensures.same ∙ i.1,
       subst (λ z. IsKeptFor z c.write_next.new.kept) i.1 c.in_ok-write_next.ensures.kept,
       subst (λ z. (said : Said) → head_saying z said ≡ video_of s said) head i.3,
-      subst (λ z. UnpackedSo s z c.args.player.now.reader.place all_input all_output
-          c.write_next.new.text.begun c.saturating_add-count.result last) head unpacked,
+      subst (λ z. (so : UnpackedSo s z c.args.player.now.reader.place all_input all_output
+          c.write_next.new.text.begun c.saturating_add-count.result last) × AtMost c.args.most
+          (length so.frames)) head (unpacked, one_at_most c.args.most so.frames f room),
       c.in_ok-write_next.ensures.container ∙ i.5,
     )
 
-pub returns-clause-ok : goal.returns-clause-ok
-returns-clause-ok g c =
+pub returns-then-not-branch-clause-ok : goal.returns-then-not-branch-clause-ok
+returns-then-not-branch-clause-ok g c =
     let a = c.args.player.now.decoder.accepted in
-    let h = c.loop-kept.text.head in
-    let i = c.loop-kept.invariant in
-    let so = i.4 in
-    let to = c.loop-kept.player.reader.place in
+    let h = c.frames.text.head in
+    let i = c.frames.invariant in
+    let so = i.4.0 in
+    let room = sym (c.has_more.ensures (length so.frames) so.is) ∙ c.frames-test.true in
+    let to = c.frames.player.reader.place in
     let last = c.write_next.new.player.reader.place in
-    let input = passage g.R.ByteIn.remaining g.R.ByteIn.failures c.loop-kept.input
+    let input = passage g.R.ByteIn.remaining g.R.ByteIn.failures c.frames.input
     c.write_next.new.input in
-    let output = passage g.W.ByteOut.contents g.W.ByteOut.failures c.loop-kept.output
+    let output = passage g.W.ByteOut.contents g.W.ByteOut.failures c.frames.output
     c.write_next.new.output in
     let answer =
-    subst (λ b. WritesNext a h (said_in c.loop-kept.text.begun) to last input output
-    c.write_next.new.text.begun (Ok b)) c.if-branch.false
-    (subst (λ z. WritesNext z h (said_in c.loop-kept.text.begun) to last input output
+    subst (λ b. WritesNext a h (said_in c.frames.text.begun) to last input output
+    c.write_next.new.text.begun (Ok b)) c.if-not-branch.true
+    (subst (λ z. WritesNext z h (said_in c.frames.text.begun) to last input output
     c.write_next.new.text.begun (Ok c.in_ok-write_next.field-0)) i.1
     c.in_ok-write_next.ensures.answer) in (
       so.frames,
       so.is,
       unpacked_over (stream_of c.args.player.now.reader a) h i.3 c.requires.colour
           c.args.player.now.reader.place to last
-          (g.R.ByteIn.remaining c.args.input.now) (g.R.ByteIn.remaining c.loop-kept.input)
+          (g.R.ByteIn.remaining c.args.input.now) (g.R.ByteIn.remaining c.frames.input)
           (g.R.ByteIn.remaining c.write_next.new.input)
-          (g.W.ByteOut.contents c.args.output.now) (g.W.ByteOut.contents c.loop-kept.output)
+          (g.W.ByteOut.contents c.args.output.now) (g.W.ByteOut.contents c.frames.output)
           (g.W.ByteOut.contents c.write_next.new.output)
-          (g.R.ByteIn.failures c.args.input.now) (g.R.ByteIn.failures c.loop-kept.input)
+          (g.R.ByteIn.failures c.args.input.now) (g.R.ByteIn.failures c.frames.input)
           (g.R.ByteIn.failures c.write_next.new.input)
-          (g.W.ByteOut.failures c.args.output.now) (g.W.ByteOut.failures c.loop-kept.output)
+          (g.W.ByteOut.failures c.args.output.now) (g.W.ByteOut.failures c.frames.output)
           (g.W.ByteOut.failures c.write_next.new.output)
-          so.frames so.un answer.0 answer.1,
+          so.frames so.un c.args.most room i.4.1 answer.0 answer.1,
+    )
+
+pub returns-clause-ok : goal.returns-clause-ok
+returns-clause-ok g c =
+    let i = c.frames.invariant in
+    let so = i.4.0 in
+    let full = sym (c.has_more.ensures (length so.frames) so.is) ∙ c.frames-test.false in (
+      so.frames,
+      so.is,
+      unpacks_full (stream_of c.args.player.now.reader c.args.player.now.decoder.accepted)
+          c.args.player.now.reader.place c.frames.player.reader.place
+          (g.R.ByteIn.remaining c.args.input.now) (g.R.ByteIn.remaining c.frames.input)
+          (g.W.ByteOut.contents c.args.output.now) (g.W.ByteOut.contents c.frames.output)
+          (g.R.ByteIn.failures c.args.input.now) (g.R.ByteIn.failures c.frames.input)
+          (g.W.ByteOut.failures c.args.output.now) (g.W.ByteOut.failures c.frames.output)
+          so.frames so.un c.args.most full i.4.1,
     )

@@ -1,22 +1,23 @@
-use Rattle.std.proofs.Common.{◌≡◌, None}
+use Rattle.std.proofs.Common.{◌≡◌, None, length}
 use Rattle.ffv1_wire.specs.Passage.{passage}
 use Rattle.ffv1_files.specs.Places.{amount, container_of}
-use Rattle.ffv1_unpack.specs.FrameLines.{frame_lines}
+use Rattle.ffv1_unpack.specs.FrameLines.{lines_from}
 use Rattle.ffv1_unpack.specs.Internal.Located.{StaysReached}
+use Rattle.ffv1_unpack.specs.Plays.{AtMost}
 use Rattle.ffv1_unpack.proofs.FramesPlayed.{PlayedSo}
 use Rattle.ffv1_unpack.proofs.telling.tell_frames.Given as goal
 
-abbrev pub invariant-loop-text : goal.invariant-loop-text
-invariant-loop-text g l =
+abbrev pub invariant-frames : goal.invariant-frames
+invariant-frames g l =
     (l.player.reader.fault ≡ None) × (l.player.decoder.accepted ≡ l.fn.player.decoder.accepted)
-    × PlayedSo l.fn.player.decoder.accepted (frame_lines l.telling.kind
-    l.fn.player.decoder.accepted.configuration) l.fn.player.reader.place
+    × ((so : PlayedSo l.fn.player.decoder.accepted (lines_from l.telling.kind
+    l.fn.player.decoder.accepted.configuration l.range.first) l.fn.player.reader.place
     (passage g.R.ByteIn.remaining g.R.ByteIn.failures l.initial.input l.input)
     (passage g.W.ByteOut.contents g.W.ByteOut.failures l.initial.output l.output) l.count
-    l.player.reader.place
+    l.player.reader.place) × AtMost l.range.count (length so.frames))
     × (container_of l.player.reader.place ≡ container_of l.fn.player.reader.place)
     × StaysReached l.fn.player.reader l.player.reader
     (passage g.R.ByteIn.remaining g.R.ByteIn.failures l.initial.input l.input)
 
-abbrev pub decreases-loop-text : goal.decreases-loop-text
-decreases-loop-text g l = amount l.player.reader.place
+abbrev pub decreases-frames : goal.decreases-frames
+decreases-frames g l = amount l.player.reader.place

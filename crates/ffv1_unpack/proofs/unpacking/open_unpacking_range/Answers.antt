@@ -1,0 +1,68 @@
+-- Opens a file whose pictures have a text, and passes the frames before a range.
+use Rattle.std.proofs.Common.{inl, inr, ap, sym, subst}
+use Rattle.std.proofs.lemmas.Result.{err_from_is_err_and}
+use Rattle.ffv1_record.specs.Accepted.{Accepted}
+use Rattle.ffv1_reads.specs.Head.{Head}
+use Rattle.ffv1_video.specs.Faults.{cause_of}
+use Rattle.ffv1_unpack.specs.Unpacked.{HasText}
+use Rattle.ffv1_unpack.proofs.FramesPassed.{opens_range, pass_file}
+use Rattle.ffv1_unpack.proofs.OwnFaults.{passing_unpacks}
+use Rattle.ffv1_unpack.proofs.unpacking.open_unpacking_range.Goals as goal
+
+pub returns-in_err-player-clause-err : goal.returns-in_err-player-clause-err
+returns-in_err-player-clause-err g c =
+    let p = err_from_is_err_and c.from_residual.result c.from_residual.ensures.1 in
+    rw (p.1, p.2) (inl c.in_err-player.ensures.err)
+
+pub returns-in_err-player-clause-own : goal.returns-in_err-player-clause-own
+returns-in_err-player-clause-own g c =
+    let p = err_from_is_err_and c.from_residual.result c.from_residual.ensures.1 in
+    rw (p.1, p.2) c.in_err-player.ensures.own
+
+pub returns-in_err-pass_frames-clause-err : goal.returns-in_err-pass_frames-clause-err
+returns-in_err-pass_frames-clause-err g c =
+    let p = err_from_is_err_and c.from_residual-in_err-pass_frames.result
+    c.from_residual-in_err-pass_frames.ensures.1 in
+    let f = c.in_err-pass_frames.field-0.0 in
+    rw (p.1, p.2) (inr (
+      c.pass_frames.new.passed,
+      pass_file c.args.profile c.args.first (g.R.ByteIn.remaining c.args.input.now)
+          (g.R.ByteIn.remaining c.open_unpacking.new.input)
+          (g.R.ByteIn.remaining c.pass_frames.new.input) (g.R.ByteIn.failures c.args.input.now)
+          (g.R.ByteIn.failures c.open_unpacking.new.input)
+          (g.R.ByteIn.failures c.pass_frames.new.input) c.in_ok-player.player.reader
+          c.in_ok-player.player.decoder.accepted c.in_ok-player.ensures.ok
+          c.pass_frames.new.passed f (cause_of f) c.in_err-pass_frames.ensures.answer,
+    ))
+
+pub returns-in_err-pass_frames-clause-own : goal.returns-in_err-pass_frames-clause-own
+returns-in_err-pass_frames-clause-own g c =
+    let p = err_from_is_err_and c.from_residual-in_err-pass_frames.result
+    c.from_residual-in_err-pass_frames.ensures.1 in
+    rw (p.1, p.2) (passing_unpacks c.args.profile c.in_ok-player.player.reader.place
+    c.in_err-pass_frames.field-0.0 c.in_ok-player.ensures.ok.within
+    c.in_err-pass_frames.ensures.own)
+
+pub returns-clause-ok : goal.returns-clause-ok
+returns-clause-ok g c =
+    let passed = c.in_ok-pass_frames.ensures.answer in
+    opens_range c.args.profile c.args.first (g.R.ByteIn.remaining c.args.input.now)
+    (g.R.ByteIn.remaining c.open_unpacking.new.input) (g.R.ByteIn.remaining c.pass_frames.new.input)
+    (g.R.ByteIn.failures c.args.input.now) (g.R.ByteIn.failures c.open_unpacking.new.input)
+    (g.R.ByteIn.failures c.pass_frames.new.input) c.in_ok-player.player.reader
+    c.in_ok-player.player.decoder.accepted c.in_ok-player.ensures.ok
+    c.pass_frames.new.player.reader c.pass_frames.new.player.decoder.accepted passed.0 passed.1
+    passed.2 c.in_ok-pass_frames.ensures.head
+    (ap (λ d. d.accepted) c.in_ok-pass_frames.ensures.same) c.in_ok-pass_frames.ensures.container
+    c.in_ok-pass_frames.ensures.sound
+
+pub returns-clause-text : goal.returns-clause-text
+returns-clause-text g c =
+    subst (λ (z : Head). HasText (record {
+      head = z;
+      accepted = c.pass_frames.new.player.decoder.accepted;
+    })) (sym c.in_ok-pass_frames.ensures.head)
+    (subst (λ (z : Accepted). HasText (record {
+      head = c.in_ok-player.player.reader.head;
+      accepted = z;
+    })) (sym (ap (λ d. d.accepted) c.in_ok-pass_frames.ensures.same)) c.in_ok-player.ensures.text)
