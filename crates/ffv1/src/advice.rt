@@ -126,8 +126,9 @@ pub static ROWS: [&str; 66] = [
     "64 FrameTruncated\n  The input ends inside a picture.\n  The text is not whole.",
     "65 SampleTooLarge\n  A sample has more bits than the text says.\n  Write the text anew, with \
      its true depth.",
-    "70 NoFrames\n  There is no picture, or in a file no frame. unpack, check, framemd5 and trial \
-     answer it too.\n  Look whether what wrote it was stopped, and give it a picture.",
+    "70 NoFrames\n  There is no picture, or in a file no frame, or with --from none of that \
+     number. unpack, check, framemd5 and trial answer it too.\n  Look whether what wrote it was \
+     stopped, and give it a picture; give a lesser --from.",
     "71 FormatChanged\n  A later image of PPM has another size or depth; in unpack a later \
      frame's structure or aspect are not those of the header.\n  Pack images of one size and \
      depth; for unpack, check still decodes all frames.",

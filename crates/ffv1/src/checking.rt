@@ -11,8 +11,9 @@ use crate::input::{open_input, watched};
 use crate::met::{Met, Noted};
 use crate::quiet::{LastLines, tell_verdict};
 use crate::refusal::Refusal;
-use ffv1_engine::{Fault, Profile, check, check_all};
-use ffv1_wire::{ByteOut, ToWrite};
+use ffv1_engine::{Fault, Profile, check_all, check_all_range, check_range};
+use ffv1_wire::{ByteIn, ByteOut, ToWrite};
+use ffv1_words::FrameRange;
 use std::alloc::Global;
 use std::io;
 use std::io::Input;
@@ -30,21 +31,25 @@ pub struct Checking {
     pub quiet: bool,
     /// Whether it says how much of the file is read.
     pub progress: bool,
+    /// The frames that are checked.
+    pub range: FrameRange,
 }
 
 impl Checking {
     /// Puts together what an order says of it.
-    pub fn new(all: bool, place: bool, quiet: bool, progress: bool) -> Checking
+    pub fn new(all: bool, place: bool, quiet: bool, progress: bool, range: FrameRange) -> Checking
         ensures all { result.all ≡ all }
         ensures place { result.place ≡ place }
         ensures quiet { result.quiet ≡ quiet }
         ensures progress { result.progress ≡ progress }
+        ensures range { result.range ≡ range }
     {
         Checking {
             all,
             place,
             quiet,
             progress,
+            range,
         }
     }
 }
@@ -61,8 +66,25 @@ fn judged(first: Option<Fault>) -> Result<(), Refusal>
     }
 }
 
-/// Decodes all frames of a file, and writes what each took, and with `place` where one is refused;
-/// with `all` also those after one that is refused. Answers the first fault of those.
+/// Decodes frames of a file, also those after one that is refused; of all frames also what is left
+/// of a Matroska file after a fault of its own. Answers the first fault of those.
+fn judge<R: ByteIn, W: ByteOut>(
+    alloc: Global,
+    input: &mut R,
+    writer: &mut W,
+    place: bool,
+    range: FrameRange,
+) -> Result<Option<Fault>, Fault>
+    ensures { IfErr result (IsCheckFault profile.Wide) }
+{
+    if range == FrameRange::ALL {
+        return check_all(alloc, Profile::Wide, input, writer, place);
+    }
+    check_all_range(alloc, Profile::Wide, input, writer, place, range)
+}
+
+/// Decodes frames of a file, and writes what each took, and with `place` where one is refused; with
+/// `all` also those after one that is refused. Answers the first fault of those.
 fn write_check<W: ByteOut>(
     rt: &(impl Files + Input + Eprint + Clock),
     alloc: Global,
@@ -77,14 +99,15 @@ fn write_check<W: ByteOut>(
     let (source, metadata) = open_input(rt, input, met)?;
     let mut reader = watched(rt, source, &metadata, checking.progress);
     let place = checking.place;
+    let range = checking.range;
     if checking.all {
-        return check_all(alloc, Profile::Wide, &mut reader, writer, place);
+        return judge(alloc, &mut reader, writer, place, range);
     }
-    check(alloc, Profile::Wide, &mut reader, writer, place)?;
+    check_range(alloc, Profile::Wide, &mut reader, writer, place, range)?;
     Ok(None)
 }
 
-/// Decodes all frames of a file, and prints one line of it. `Write` if that cannot be printed.
+/// Decodes frames of a file, and prints one line of it. `Write` if that cannot be printed.
 fn run_quiet(
     rt: &(impl Files + Input + Print + Eprint + Clock),
     alloc: Global,
@@ -107,7 +130,7 @@ fn run_quiet(
     judged(answer?)
 }
 
-/// Decodes all frames of a file, and prints what each took, and with `place` where one is refused;
+/// Decodes frames of a file, and prints what each took, and with `place` where one is refused;
 /// with `all` also those after one that is refused. With `quiet` one line of the file is printed.
 pub fn run_check(
     rt: &(impl Files + Input + Print + Eprint + Clock),

@@ -3,7 +3,7 @@
 //! `ffv1_engine`.
 #![tactic(auto)]
 
-ghost use Rattle.std.specs.Prelude.{◌≡◌, ◌≢◌, ◌⊎◌, ◌≤◌, ℕ, Err, IfErr, IfOk, IsOk};
+ghost use Rattle.std.specs.Prelude.{◌≡◌, ◌≢◌, ◌⊎◌, ◌≤◌, ℕ, Err, IfErr, IfOk, IsOk, true};
 ghost use Rattle.std.specs.Process.{exit_status};
 ghost use Rattle.clap.specs.Words.{kind_of};
 ghost use Rattle.clap.specs.declared.error.kind.ErrorKind.TheVariants as kind;
@@ -36,11 +36,11 @@ use checking::{Checking, run_check};
 use clap::Error;
 use either::{Left, Right};
 use ffv1_engine::{
-    Fault, PackedMatroska, Profile, framemd5, framemd5_text, pack, pack_matroska, show, trial,
-    unpack,
+    Fault, PackedMatroska, Profile, framemd5_range, framemd5_text, pack, pack_matroska, show,
+    trial, unpack_range,
 };
 use ffv1_wire::{ByteIn, ToFile, ToWrite, read_byte};
-use ffv1_words::{Choice, ContainerChoice, Order, help_topic, is_hyphen, words};
+use ffv1_words::{Choice, ContainerChoice, FrameRange, Order, help_topic, is_hyphen, words};
 use input::{Again, open_input, watched};
 use making::Making;
 use met::{Met, Noted};
@@ -140,12 +140,13 @@ fn run_pack(
     print_count(rt, files.output, &count, met)
 }
 
-/// Unpacks a file into a text of its pictures, and prints how many there are. The input is opened
-/// first, and then the output.
+/// Unpacks frames of a file into a text of their pictures, and prints how many there are. The input
+/// is opened first, and then the output.
 fn run_unpack(
     rt: &(impl Files + Input + Print + Eprint + Clock),
     alloc: Global,
     files: &Making<'_>,
+    range: FrameRange,
     met: &Met,
 ) -> Result<(), Refusal>
     ensures { IfErr result (IsMakingRefusal files.now.no_clobber) }
@@ -153,7 +154,8 @@ fn run_unpack(
     let (source, metadata) = open_input(rt, files.input, met)?;
     let target = open_output(rt, files.output, &metadata, files.no_clobber, met)?;
     let mut reader = watched(rt, source, &metadata, files.progress);
-    let (_written, answer) = unpack(alloc, Profile::Wide, &mut reader, ToWrite::new(target));
+    let output = ToWrite::new(target);
+    let (_written, answer) = unpack_range(alloc, Profile::Wide, &mut reader, output, range);
     let frames = answer?;
     let count = format!(in alloc; "frames {frames}")?;
     print_count(rt, files.output, &count, met)
@@ -176,11 +178,13 @@ fn run_show(
     Ok(())
 }
 
-/// Prints the MD5 of each picture of a file, or of a text, which begins with `P` or `Y`.
+/// Prints the MD5 of each picture of a file, or of a text, which begins with `P` or `Y`. Only
+/// frames of a file are left out.
 fn run_framemd5(
     rt: &(impl Files + Input + Print),
     alloc: Global,
     input: &str,
+    range: FrameRange,
     met: &Met,
 ) -> Result<(), Refusal>
     ensures { IfErr result IsAnyFault }
@@ -191,10 +195,10 @@ fn run_framemd5(
     };
     let mut reader = Again::new(first, source);
     let mut writer = ToWrite::new(Noted::new(met, io::writer(rt)));
-    if first == Some(b'P') || first == Some(b'Y') {
+    if range == FrameRange::ALL && (first == Some(b'P') || first == Some(b'Y')) {
         framemd5_text(alloc, Profile::Wide, &mut reader, &mut writer)?;
     } else {
-        framemd5(alloc, Profile::Wide, &mut reader, &mut writer)?;
+        framemd5_range(alloc, Profile::Wide, &mut reader, &mut writer, range)?;
     }
     Ok(())
 }
@@ -250,7 +254,7 @@ fn tell(rt: &impl Eprint, met: &Met, paths: Paths<'_>, done: Result<(), Refusal>
 enum Looking {
     Check(Checking),
     Show { cost: bool },
-    FrameMd5,
+    FrameMd5(FrameRange),
     Trial,
 }
 
@@ -259,7 +263,7 @@ impl Looking {
     fn names_files(self) -> bool {
         match self {
             Looking::Check(checking) => !checking.quiet,
-            Looking::Show { .. } | Looking::FrameMd5 | Looking::Trial => true,
+            Looking::Show { .. } | Looking::FrameMd5(_) | Looking::Trial => true,
         }
     }
 }
@@ -278,7 +282,7 @@ fn look(
     match looking {
         Looking::Check(checking) => run_check(rt, alloc, path, checking, met),
         Looking::Show { cost } => run_show(rt, alloc, path, cost, met),
-        Looking::FrameMd5 => run_framemd5(rt, alloc, path, met),
+        Looking::FrameMd5(range) => run_framemd5(rt, alloc, path, range, met),
         Looking::Trial => run_trial(rt, alloc, path, met),
     }
 }
@@ -344,6 +348,20 @@ fn check_files(
     look_all(rt, alloc, inputs, Looking::Check(checking))
 }
 
+/// Unpacks frames of a file, and says why if that is not done. Answers the exit status.
+fn unpack_files(
+    rt: &(impl Files + Input + Print + Eprint + Clock),
+    alloc: Global,
+    files: &Making<'_>,
+    range: FrameRange,
+    met: &Met,
+) -> io::Result<u8>
+    ensures { IfOk result (IsStatus true) }
+{
+    let done = run_unpack(rt, alloc, files, range, met);
+    tell(rt, met, files.paths(), done)
+}
+
 /// Does what an order asks for. Answers the exit status.
 fn run(
     rt: &(impl Files + Input + Print + Eprint + Clock),
@@ -371,9 +389,10 @@ fn run(
             output,
             no_clobber,
             progress,
+            range,
         } => {
             let files = Making::new(input, output, no_clobber, progress);
-            tell(rt, met, files.paths(), run_unpack(rt, alloc, &files, met))
+            unpack_files(rt, alloc, &files, range, met)
         }
         Order::Check {
             inputs,
@@ -382,12 +401,13 @@ fn run(
             quiet,
             progress,
             against,
+            range,
         } => {
-            let checking = Checking::new(all, place, quiet, progress);
+            let checking = Checking::new(all, place, quiet, progress, range);
             check_files(rt, alloc, inputs, checking, against, met)
         }
         Order::Show { inputs, cost } => look_all(rt, alloc, inputs, Looking::Show { cost }),
-        Order::FrameMd5 { inputs } => look_all(rt, alloc, inputs, Looking::FrameMd5),
+        Order::FrameMd5 { inputs, range } => look_all(rt, alloc, inputs, Looking::FrameMd5(range)),
         Order::Trial { input } => look_all(rt, alloc, &[input], Looking::Trial),
     }
 }

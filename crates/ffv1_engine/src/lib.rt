@@ -25,11 +25,11 @@ pub use ffv1_pack::{
     Coded, Packed, PackedMatroska, code_plane, framemd5_text, laws, pack, pack_matroska, trial,
 };
 pub use ffv1_unpack::{
-    ListFault, Unlike, check, check_against, check_all, frame_line, framemd5, player, read_list,
-    show, unpack,
+    ListFault, Unlike, check, check_against, check_all, check_all_range, check_range, frame_line,
+    framemd5, framemd5_range, player, read_list, show, unpack, unpack_range,
 };
 pub use ffv1_video::{Fault, Profile};
 pub use ffv1_words::{
-    Choice, CodecIdChoice, CoderChoice, ColourChoice, ContainerChoice, Order, RangeChoice,
-    SitingChoice, words,
+    Choice, CodecIdChoice, CoderChoice, ColourChoice, ContainerChoice, FrameRange, Order,
+    RangeChoice, SitingChoice, words,
 };
