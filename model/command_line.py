@@ -50,6 +50,9 @@ class Level:
         self.most = files if most is None else most
 
 
+# Which frames of a file are decoded.
+RANGE = {"from": (number(0, 2 ** 32 - 1), 0), "frames": (number(1, 2 ** 32 - 1), None)}
+
 COMMANDS = {
     "pack": Level(2, {
         "coder": (number(1, 2), 1), "contexts": (one_of("small", "large"), "small"),
@@ -62,10 +65,11 @@ COMMANDS = {
         "primaries": (number(0, 255), 2), "transfer": (number(0, 255), 2),
         "matrix": (number(0, 255), 2),
     }, flags=["verify", "no-clobber", "progress"]),
-    "unpack": Level(2, flags=["no-clobber", "progress"]),
-    "check": Level(1, {"against": (str, None)}, ["all", "place", "quiet", "progress"], math.inf),
+    "unpack": Level(2, RANGE, ["no-clobber", "progress"]),
+    "check": Level(1, {"against": (str, None), **RANGE}, ["all", "place", "quiet", "progress"],
+                   math.inf),
     "show": Level(1, flags=["cost"], most=math.inf),
-    "framemd5": Level(1, most=math.inf),
+    "framemd5": Level(1, RANGE, most=math.inf),
     "trial": Level(1),
 }
 # What says nothing of colours.
@@ -138,6 +142,11 @@ def is_list_refused(found, paths):
     return bool({"all", "place"} & set(found)) or len(paths) != 1 or found["against"] == paths[0] == "-"
 
 
+def is_range_refused(found, paths):
+    """Whether frames are left out, of other than one file or beside a list of the MD5s of all."""
+    return bool(found.get("from") or found.get("frames")) and ("against" in found or len(paths) != 1)
+
+
 def is_topic(word):
     """Whether help knows a word: the faults, or the number of one; 2 is no fault of the model's."""
     is_number = re.fullmatch("[+]?[0-9]+", word, re.ASCII)
@@ -163,6 +172,8 @@ def words(line):
         raise Refused("-")
     if name == "check" and is_list_refused(found, paths):
         raise Refused(found["against"])
+    if level.most > 2 and is_range_refused(found, paths):
+        raise Refused("--from or --frames")
     choice = {name: default for name, (_, default) in level.options.items()}
     order = Order(name, paths, {**choice, **dict.fromkeys(level.flags, False), **found})
     if order.choice.get("container") == "auto" and paths[1].lower().endswith(OTHERS):

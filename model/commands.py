@@ -7,6 +7,7 @@
 The words, the printed lines, the faults on standard error, the exit status and what is left in OUT
 are those of the program; the text of clap, for help and for a line that is refused, is not.
 """
+import itertools
 import os
 import stat
 import sys
@@ -77,6 +78,30 @@ def planes_of(config, lines):
     return planes
 
 
+ALL = {"from": 0, "frames": None}       # the range of all frames
+
+
+def is_all(choice):
+    return not choice["from"] and choice["frames"] is None
+
+
+def counted(frames, passed):
+    """Frames with their numbers; each is counted as passed before the next one is read. What is told
+    of a damaged file is none."""
+    for payload in frames:
+        yield len(passed), payload
+        if not isinstance(payload, damaged_files.Told):
+            passed.append(payload)
+
+
+def ranged(frames, choice, passed=None):
+    """The frames that a line gives, with their numbers; those before them are read and not decoded,
+    and those behind them are not read."""
+    first, count = choice["from"], choice["frames"]
+    last = None if count is None else first + count
+    return itertools.islice(counted(frames, [] if passed is None else passed), first, last)
+
+
 def unpack_y4m(head, config, frames, out):
     """The canonical text of a file; own: 71 where a frame's structure or aspect is another."""
     planes = (config.chroma, config.log2_h, config.log2_v, config.extra)
@@ -118,8 +143,9 @@ def unpack_ppm(config, frames, out):
     return count
 
 
-def unpack(source, out):
-    head, config, frames, _ = opened(source)
+def unpack(source, out, choice=ALL):
+    head, config, every, _ = opened(source)
+    frames = (payload for _, payload in ranged(every, choice))
     if config.rct:
         count = unpack_ppm(config, frames, out)
     else:
@@ -147,15 +173,16 @@ def refuse(number, decoded, out, place):
 OF_FILE = {50, 51, 52, 53, 54, 56, 80, 81, 82, 83, 84, 85}      # a file's own faults, in reading
 
 
-def check(source, out, place, every):
+def check(source, out, place, every, choice=ALL):
     """The lines of a check; own: where places are asked for, a fault of the file itself has a line
     more, with the frame that would come next, and the bytes before the element or chunk at fault,
-    whether or not it can be written."""
+    whether or not it can be written. Only all frames of a damaged file of Matroska are read on."""
     judged, begun = [], lambda: 0
     try:
         data, is_matroska = input_of(source)
         begun = lambda: data.begun
-        first = check_frames(opened_in(data, is_matroska, every), out, place, every, judged)
+        config, frames = opened_in(data, is_matroska, every and is_all(choice))[1:3]
+        first = check_frames(config, ranged(frames, choice, judged), out, place, every)
     except Fault as fault:
         if place and fault.number in OF_FILE:
             try:
@@ -167,29 +194,27 @@ def check(source, out, place, every):
         raise first
 
 
-def check_frames(said, out, place, every, judged):
+def check_frames(config, frames, out, place, every):
     """A line for each frame; own: where places are asked for, one more where decoding is refused.
     Where every frame is asked for, it goes on then and behind what is told of a file of Matroska, and
     the first fault of either kind ends it."""
-    _, config, frames, _ = said
     count, faults = 0, []
-    for payload in frames:
+    for number, payload in frames:
         if isinstance(payload, damaged_files.Told):
             out(f"byte {payload.offset}: fault {payload.fault}\n")
             faults.append(payload.fault)
             continue
         decoded = ffv1.decode_frame(config, payload)
         if not decoded.fault:
-            out(f"frame {count}: {len(payload)} bytes, {config.slices()} slices, "
+            out(f"frame {number}: {len(payload)} bytes, {config.slices()} slices, "
                 f"{decoded.ones + decoded.zeros} decisions\n")
         elif every:
-            out(f"frame {count}: fault {decoded.fault}\n")
-            out(place_line(count, decoded) if place else "")
+            out(f"frame {number}: fault {decoded.fault}\n")
+            out(place_line(number, decoded) if place else "")
             faults.append(decoded.fault)
         else:
-            refuse(count, decoded, out, place)
+            refuse(number, decoded, out, place)
         count += 1
-        judged.append(payload)
     if count == 0 and not faults:
         raise Fault(70)
     out(f"frames {count} faults {len(faults)}\n" if every else f"frames {count}\n")
@@ -242,16 +267,18 @@ def show(source, out, cost):
 
 # ----------------------------------------------------------------------------------------- framemd5
 
-def told_pictures(source):
-    """The head of a file or of a text, and its pictures, each with its aspect."""
+def told_pictures(source, choice):
+    """The head of a file or of a text, and its pictures, each with its aspect. Own: only pictures of
+    a file are left out."""
     first = source.some(1)
     read = files.Source(after(first, source.read))
-    if first in (b"P", b"Y") and first:
+    if first in (b"P", b"Y") and first and is_all(choice):
         open_text, pictures = (files.open_ppm, files.ppm_pictures) if first == b"P" else \
             (files.open_y4m, files.y4m_pictures)
         head = open_text(read, read.some(1))
         return head, head.rct, head.depth, ((p, head.aspect) for p in pictures(read, head))
     head, config, frames, _ = opened(read)
+    frames = (payload for _, payload in ranged(frames, choice))
     return head, config.rct, config.depth, decoded_pictures(config, frames)
 
 
@@ -264,16 +291,16 @@ def decoded_pictures(config, frames):
         yield planes_of(config, decoded.lines), decoded.info[1:]
 
 
-def framemd5(source, out):
+def framemd5(source, out, choice=ALL):
     """A line for each picture, with its MD5, as FFmpeg's framemd5 writes them."""
-    head, rct, depth, pictures = told_pictures(source)
-    count = 0
+    head, rct, depth, pictures = told_pictures(source, choice)
+    number = choice["from"]
     for planes, aspect in pictures:
-        if count == 0:
+        if number == choice["from"]:
             out(md5_header(head, aspect))
-        out(md5_line(count, raw_bytes(planes, rct, depth)))
-        count += 1
-    if count == 0:
+        out(md5_line(number, raw_bytes(planes, rct, depth)))
+        number += 1
+    if number == choice["from"]:
         raise Fault(70)
 
 
@@ -361,7 +388,7 @@ def notes(order, head, is_avi):
 def made(order, source, out, over):
     """The count of what `pack` or `unpack` makes, and what is said beside it."""
     if order.command == "unpack":
-        return unpack(source, out), ""
+        return unpack(source, out, order.choice), ""
     if is_matroska(order.choice["container"], order.files[1]):
         count, head = pack_matroska(source, out, over, order.choice)
         return count, notes(order, head, False)
@@ -415,11 +442,11 @@ def perform(order, path, output, standard_input):
         elif md5s:
             compare(md5s, source, output)
         elif order.command == "check":
-            check(source, output, order.choice["place"], order.choice["all"])
+            check(source, output, order.choice["place"], order.choice["all"], order.choice)
         elif order.command == "show":
             show(source, output, order.choice["cost"])
         elif order.command == "framemd5":
-            framemd5(source, output)
+            framemd5(source, output, order.choice)
         else:
             trial(source, output)
     finally:

@@ -35,12 +35,13 @@ BROKEN = r"ffv1: broken\.mkv: 52 Truncated\n  broken\.mkv\n  The file is not who
 # Several processes, whose lines come in any order; xargs ends with 123 if one of them has status 1.
 MANY = (r"(\./\w+\.mkv: sound, 3 frames\n|\./broken\.mkv: 52 Truncated at byte \d\n"
         r"|ffv1: 52 Truncated\n|  \./broken\.mkv\n|  The file is not whole.*\n)+")
+PARTS = r"(tape\.mkv: sound, 1 frames\n){3}"
 README = [
     PACKED + CHECKED + r"frames 3\n",
     MANY,
 ]
 MANUAL = [PACKED + CHECKED, r"yuv422p10le\n", "", r"frames 3\n", r"frames 3\n", CHECKED, BROKEN,
-          MANY]
+          MANY, PARTS]
 STATUSES = {BROKEN: 1, MANY: 123}
 
 

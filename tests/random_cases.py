@@ -307,11 +307,13 @@ SOME_WORDS = [
     "-x", "-1",
     "pack", "check", "--place=1", "---", "\u00e9", "in/x", "--progress", "--version", "-V",
     "--no-clobber", "--verify", "--container", "--container=mkv", "out.mkv", "--quiet",
-    "--against", "--against=in",
+    "--against", "--against=in", "--from", "--from=1", "--frames=1",
 ]
 OUTPUTS = ["out"] * 24 + ["out.mkv"] * 16 + ["in", "./in", "no/out", "/dev/full", "-", "out.MKV",
                                              "out.mk3d", "out.Mov", "out.ppm"]
 OUTPUTS += command_line.STANDARD_OUTPUT
+RANGES = [["--from", "1"], ["--frames=1"], ["--from=1", "--frames", "1"], ["--from", "2"],
+          ["--frames", "2", "--from=0"], ["--from=4294967295"]]
 NAMES = ["pack", "unpack", "check", "show", "framemd5", "trial"]
 
 
@@ -355,6 +357,8 @@ def file_line(dice):
         words = [words[0], "--quiet", *words[1:]]
     if words[0] == "check" and dice.random() < 0.2:
         words = [words[0], "--against", dice.choice(["list", "list", "out", "in"]), *words[1:]]
+    if words[0] in ("unpack", "check", "framemd5") and dice.random() < 0.2:
+        words = [words[0], *dice.choice(RANGES), *words[1:]]
     if words[0] in ("unpack", "check") and dice.random() < 0.1:
         words = [words[0], "--progress", *words[1:]]
     if words[0] == "unpack" and dice.random() < 0.1:

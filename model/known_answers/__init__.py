@@ -3,12 +3,12 @@
 the formats. `check.py` asks them of the model, and `tests/commands` of the built program.
 """
 from known_answers import containers, damaged, depths, lines, lists, matroska_commands, offsets
-from known_answers import payloads, riffs, shared_chroma, shown, sums, texts, unpacking
+from known_answers import payloads, ranges, riffs, shared_chroma, shown, sums, texts, unpacking
 
 
 def cases():
     """All of them."""
     for subject in [texts, payloads, unpacking, containers, riffs, shown, lines, lists,
-                    matroska_commands, depths, sums, offsets, damaged, shared_chroma]:
+                    matroska_commands, depths, sums, offsets, damaged, shared_chroma, ranges]:
         for group in subject.CASES:
             yield from group()

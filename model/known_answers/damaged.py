@@ -82,7 +82,8 @@ def told(items):
 
 
 def damaged():
-    """Each file, by `check --all`, which goes on, and by `check`, which does not."""
+    """Each file, by `check --all`, which goes on, and by `check`, which does not; nor does it of some
+    frames."""
     for name, file, items in ROWS:
         text, frames = told(items)
         faults = [item for item in items if item is not FRAME]
@@ -92,6 +93,8 @@ def damaged():
         yield Case(f"damaged: {name}", {"in": file}, [
             Step(["check", "in"], lines(before), fault),
             Step(["check", "--all", "in"], text + ends, fault),
+            Step(["check", "--all", "--from", "0", "in"], text + ends, fault),
+            Step(["check", "--all", "--frames", "99", "in"], lines(before), fault),
             Step(["check", "--all", "--place", "in"], text + ends, fault),
             Step(["check", "--all", "--quiet", "in"],
                  f"in: {len(faults)} faults in {frames} frames, the first {fault} at byte {byte}\n",

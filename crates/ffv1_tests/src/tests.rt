@@ -22,6 +22,7 @@ mod pictures;
 mod plane;
 mod profiles;
 mod range;
+mod ranges;
 mod rct;
 mod record;
 mod refusals;

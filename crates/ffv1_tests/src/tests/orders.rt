@@ -7,8 +7,8 @@ mod flags;
 mod refused;
 
 use ffv1_engine::{
-    Choice, CodecIdChoice, CoderChoice, ColourChoice, ContainerChoice, Order, RangeChoice,
-    SitingChoice, words,
+    Choice, CodecIdChoice, CoderChoice, ColourChoice, ContainerChoice, FrameRange, Order,
+    RangeChoice, SitingChoice, words,
 };
 use std::alloc::Global;
 use std::process::Abort;
@@ -70,6 +70,7 @@ static COMMANDS: [(&[&str], Order<'static>); 6] = [
             output: "b",
             no_clobber: false,
             progress: false,
+            range: FrameRange::ALL,
         },
     ),
     (
@@ -81,6 +82,7 @@ static COMMANDS: [(&[&str], Order<'static>); 6] = [
             quiet: false,
             progress: false,
             against: None,
+            range: FrameRange::ALL,
         },
     ),
     (
@@ -92,7 +94,10 @@ static COMMANDS: [(&[&str], Order<'static>); 6] = [
     ),
     (
         &["ffv1", "framemd5", "a"],
-        Order::FrameMd5 { inputs: &["a"] },
+        Order::FrameMd5 {
+            inputs: &["a"],
+            range: FrameRange::ALL,
+        },
     ),
     (&["ffv1", "trial", "a"], Order::Trial { input: "a" }),
 ];

@@ -1,7 +1,7 @@
 //! Command lines: the files that they name.
 
 use super::{DEFAULTS, names, names_each};
-use ffv1_engine::{ContainerChoice, Order};
+use ffv1_engine::{ContainerChoice, FrameRange, Order};
 
 /// Which names of OUT are Matroska: if a container is named, and if none is.
 #[test]
@@ -43,6 +43,7 @@ static FILES: [(&[&str], Order<'static>); 11] = [
             output: "./a",
             no_clobber: false,
             progress: false,
+            range: FrameRange::ALL,
         },
     ),
     (
@@ -52,6 +53,7 @@ static FILES: [(&[&str], Order<'static>); 11] = [
             output: "b",
             no_clobber: false,
             progress: false,
+            range: FrameRange::ALL,
         },
     ),
     (
@@ -61,6 +63,7 @@ static FILES: [(&[&str], Order<'static>); 11] = [
             output: "/dev/fd/3",
             no_clobber: false,
             progress: false,
+            range: FrameRange::ALL,
         },
     ),
     (
@@ -70,6 +73,7 @@ static FILES: [(&[&str], Order<'static>); 11] = [
             output: "/dev/fd/10",
             no_clobber: false,
             progress: false,
+            range: FrameRange::ALL,
         },
     ),
     (
@@ -79,6 +83,7 @@ static FILES: [(&[&str], Order<'static>); 11] = [
             output: "/dev/stdou",
             no_clobber: false,
             progress: false,
+            range: FrameRange::ALL,
         },
     ),
     (
@@ -88,6 +93,7 @@ static FILES: [(&[&str], Order<'static>); 11] = [
             output: "-",
             no_clobber: false,
             progress: false,
+            range: FrameRange::ALL,
         },
     ),
     (
@@ -97,6 +103,7 @@ static FILES: [(&[&str], Order<'static>); 11] = [
             output: "-",
             no_clobber: false,
             progress: false,
+            range: FrameRange::ALL,
         },
     ),
     (
@@ -106,6 +113,7 @@ static FILES: [(&[&str], Order<'static>); 11] = [
             output: "./-",
             no_clobber: false,
             progress: false,
+            range: FrameRange::ALL,
         },
     ),
     (

@@ -1,10 +1,10 @@
 //! Flags of commands, and words that are files after two hyphens.
 
 use super::{DEFAULTS, names_each};
-use ffv1_engine::{ContainerChoice, Order};
+use ffv1_engine::{ContainerChoice, FrameRange, Order};
 
 /// Flags, and words that are files after two hyphens.
-static FLAGS: [(&[&str], Order<'static>); 12] = [
+static FLAGS: [(&[&str], Order<'static>); 15] = [
     (
         &["ffv1", "pack", "a", "--no-clobber", "b"],
         Order::Pack {
@@ -23,6 +23,7 @@ static FLAGS: [(&[&str], Order<'static>); 12] = [
             output: "-",
             no_clobber: true,
             progress: true,
+            range: FrameRange::ALL,
         },
     ),
     (
@@ -43,6 +44,7 @@ static FLAGS: [(&[&str], Order<'static>); 12] = [
             output: "b",
             no_clobber: false,
             progress: true,
+            range: FrameRange::ALL,
         },
     ),
     (
@@ -54,6 +56,7 @@ static FLAGS: [(&[&str], Order<'static>); 12] = [
             quiet: false,
             progress: false,
             against: None,
+            range: FrameRange::ALL,
         },
     ),
     (
@@ -65,6 +68,7 @@ static FLAGS: [(&[&str], Order<'static>); 12] = [
             quiet: false,
             progress: true,
             against: None,
+            range: FrameRange::ALL,
         },
     ),
     (
@@ -86,6 +90,7 @@ static FLAGS: [(&[&str], Order<'static>); 12] = [
             quiet: true,
             progress: true,
             against: None,
+            range: FrameRange::ALL,
         },
     ),
     (
@@ -97,6 +102,7 @@ static FLAGS: [(&[&str], Order<'static>); 12] = [
             quiet: true,
             progress: false,
             against: Some("b"),
+            range: FrameRange::ALL,
         },
     ),
     (
@@ -108,6 +114,45 @@ static FLAGS: [(&[&str], Order<'static>); 12] = [
             quiet: false,
             progress: false,
             against: Some("-"),
+            range: FrameRange::ALL,
+        },
+    ),
+    (
+        &["ffv1", "unpack", "--from", "4294967295", "a", "b"],
+        Order::Unpack {
+            input: "a",
+            output: "b",
+            no_clobber: false,
+            progress: false,
+            range: FrameRange {
+                first: 4294967295,
+                count: None,
+            },
+        },
+    ),
+    (
+        &["ffv1", "check", "--frames=4294967295", "a"],
+        Order::Check {
+            inputs: &["a"],
+            all: false,
+            place: false,
+            quiet: false,
+            progress: false,
+            against: None,
+            range: FrameRange {
+                first: 0,
+                count: Some(4294967295),
+            },
+        },
+    ),
+    (
+        &["ffv1", "framemd5", "a", "--frames", "1", "--from=+07"],
+        Order::FrameMd5 {
+            inputs: &["a"],
+            range: FrameRange {
+                first: 7,
+                count: Some(1),
+            },
         },
     ),
     (
@@ -126,6 +171,7 @@ static FLAGS: [(&[&str], Order<'static>); 12] = [
             quiet: false,
             progress: false,
             against: None,
+            range: FrameRange::ALL,
         },
     ),
     (
@@ -135,6 +181,7 @@ static FLAGS: [(&[&str], Order<'static>); 12] = [
             output: "--",
             no_clobber: false,
             progress: false,
+            range: FrameRange::ALL,
         },
     ),
 ];

@@ -16,8 +16,12 @@ fn refuses_each(rt: &impl Abort, alloc: Global, lines: &[&[&str]], kind: ErrorKi
     }
 }
 
-/// Options of `pack` whose values are out of range.
-static OUT_OF_RANGE: [&[&str]; 22] = [
+/// Options whose values are out of range.
+static OUT_OF_RANGE: [&[&str]; 26] = [
+    &["ffv1", "check", "--from=-1", "a"],
+    &["ffv1", "unpack", "--from=4294967296", "a", "b"],
+    &["ffv1", "framemd5", "--frames=0", "a"],
+    &["ffv1", "check", "--frames=4294967296", "a"],
     &["ffv1", "pack", "--coder=0", "a", "b"],
     &["ffv1", "pack", "--coder=3", "a", "b"],
     &["ffv1", "pack", "--columns=0", "a", "b"],
@@ -84,7 +88,8 @@ fn words_missing(rt: HostRuntime) {
 }
 
 /// Files too many, options that a command does not have, and no options.
-static UNKNOWN: [&[&str]; 12] = [
+static UNKNOWN: [&[&str]; 13] = [
+    &["ffv1", "show", "a", "--from=1"],
     &["ffv1", "trial", "a", "b"],
     &["ffv1", "pack", "a", "b", "c"],
     &["ffv1", "unpack", "a", "b", "c"],
@@ -127,8 +132,12 @@ fn calls_for_help(rt: HostRuntime) {
 }
 
 /// Options that are given twice, or that the file has not, files that are one, or are standard
-/// output, and a list of MD5s beside what it does not go with.
-static CONFLICTS: [&[&str]; 29] = [
+/// output, a list of MD5s beside what it does not go with, and some frames of two files.
+static CONFLICTS: [&[&str]; 33] = [
+    &["ffv1", "check", "--from", "1", "a", "b"],
+    &["ffv1", "framemd5", "--frames", "1", "a", "b"],
+    &["ffv1", "check", "--against", "b", "--from", "1", "a"],
+    &["ffv1", "check", "--against", "b", "--frames", "1", "a"],
     &["ffv1", "pack", "a", "b", "--ec=1", "--ec=1"],
     &["ffv1", "pack", "--codec-id=vfw", "a", "b"],
     &[
