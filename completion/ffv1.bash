@@ -19,7 +19,8 @@ _ffv1() {
         --siting) words="auto left centre topleft" ;;
         --ec) words="0 1" ;;
         --against) mapfile -t COMPREPLY < <(compgen -f -- "$word"); return ;;
-        --columns | --rows | --rate | --scale | --primaries | --transfer | --matrix) return ;;
+        --columns | --rows | --rate | --scale | --primaries | --transfer | --matrix \
+            | --from | --frames) return ;;
     esac
     if [ -z "$words" ]; then
         case "$command" in
@@ -30,10 +31,11 @@ _ffv1() {
                 words="$words --container --codec-id --range --siting --primaries --transfer --matrix"
                 words="$words --verify --no-clobber --progress --help"
                 ;;
-            unpack) words="--no-clobber --progress --help" ;;
-            check) words="--all --place --quiet --against --progress --help" ;;
+            unpack) words="--from --frames --no-clobber --progress --help" ;;
+            check) words="--all --place --quiet --against --from --frames --progress --help" ;;
             show) words="--cost --help" ;;
-            framemd5 | trial) words="--help" ;;
+            framemd5) words="--from --frames --help" ;;
+            trial) words="--help" ;;
         esac
         case "$command $word" in
             " "* | "help "* | *" -"*) ;;
