@@ -19,6 +19,7 @@ mod VideoEncoded
 mod MatroskaFinished
 mod MatroskaPacked
 mod VideoEnds
+mod ConfigurationJudged
 mod FrameBytes
 mod FilePacked
 mod TextLines

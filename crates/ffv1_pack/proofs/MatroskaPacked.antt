@@ -5,6 +5,7 @@ use Rattle.std.specs.Io.KnownBytes.{Appends}
 use Rattle.std.proofs.KnownBytes.{Appends-kept, Keeps-refl}
 use Rattle.ffv1_wire.specs.Failures.{one_more}
 use Rattle.ffv1_wire.specs.Passage.{Passage}
+use Rattle.ffv1_wire.specs.Seeks.{Overwriting}
 use Rattle.ffv1_record.specs.Accepted.{Accepted, IsFirstUpTo}
 use Rattle.ffv1_record.specs.declared.fault.RecordFault.{RecordFault}
 use Rattle.ffv1_codec.specs.Picture.{Planes}
@@ -15,7 +16,7 @@ use Rattle.ffv1_reads.specs.declared.fault.FileFault.TheVariants as file_fault
 use Rattle.ffv1_matroska.specs.Rates.{IsTimed}
 use Rattle.ffv1_matroska.specs.Written.{begun_of, open_of}
 use Rattle.ffv1_matroska.specs.WrittenPlaces.{last_place}
-use Rattle.ffv1_matroska.specs.Writers.{Finishes, Makes, Writing as Writer, rate_in, writing_of}
+use Rattle.ffv1_matroska.specs.Writers.{Asks, Finishes, Makes, Writing as Writer, cues_in, rate_in, writing_of}
 use Rattle.ffv1_matroska.specs.declared.track_entry.TrackEntry.{TrackEntry}
 use Rattle.ffv1_y4m.specs.Header.{header_of}
 use Rattle.ffv1_y4m.specs.Images.{IsImagesIn, ReadsFrom}
@@ -34,14 +35,13 @@ use Rattle.ffv1_pack.specs.Internal.Encoding.{AllKnown, PicturesKnown}
 use Rattle.ffv1_video.specs.Faults.{Cause, cause_of, of_avi, of_record}
 use Rattle.ffv1_video.specs.Faults.Cause.{Reading, Writing, Memory, Content}
 use Rattle.ffv1_pack.specs.Grids.{choice_for}
-use Rattle.ffv1_pack.specs.PackMatroska.{EndsClusters, FaultsBefore, FinishFails, HasClusters, PacksMatroska, PacksSome, RefusesMatroska, RefusesMatroskaBy, begun_file, is_matroska_pack_fault, details_for, whole_file}
+use Rattle.ffv1_pack.specs.PackMatroska.{AsksMatroska, EndsClusters, FaultsBefore, FinishFails, HasClusters, PacksMatroska, PacksSome, RefusesMatroska, RefusesMatroskaBy, begun_file, finished_opening_of, is_matroska_pack_fault, details_for, open_file, whole_file}
 use Rattle.ffv1_pack.specs.Internal.PackMatroska.{LacksMatroska, LacksMatroskaBy, OpensMatroska}
 use Rattle.ffv1_pack.specs.Packing.{AreReadable, IsFor, bytes_in, configuration_for, frames_for, head_for, most_frame, said_for}
 use Rattle.ffv1_codec.specs.Frame.{frame_of}
-use Rattle.ffv1_video.specs.Video.{Begins, ReadsPictures, ReadsVideo, SaidHead, Video, at_first, is_ppm, video_head}
+use Rattle.ffv1_video.specs.Video.{Begins, ReadsPictures, ReadsVideo, Video, at_first, video_head}
 use Rattle.ffv1_pack.specs.VideoReads.{LacksKnown, PictureLacks, PictureWants}
 use Rattle.ffv1_pack.specs.Internal.VideoReads.{HeadKnown, HeadRead, HeadRefused, HeadRefusedBy, IsHeadOf, VideoReading}
-use Rattle.ffv1_video.proofs.KnownTexts.{known_map}
 use Rattle.ffv1_pack.proofs.KnownTaken.{known_taken}
 use Rattle.ffv1_pack.proofs.MatroskaFinished.{EndLaws, cut_cues, finished, finished_some, with_cues}
 use Rattle.ffv1_pack.proofs.PicturesRead.{joined}
@@ -105,6 +105,10 @@ untimed_before profile (Some text) (Some rest) choice r a k for untimed = inr (i
   untimed = subst (λ b. IsTimed (rate_in (head_for choice b r.head a.configuration)) → ⊥) k.0 untimed;
   is = refl;
 }))
+
+pub untimed : (profile : Profile) (choice : Choice) (p : Passage) (r : VideoReading) (a : Accepted) → HeadRead (greatest_depth profile) p r → IsFor profile (choice_for profile choice r.head) r.ppm r.head a →
+    (IsTimed (rate_in (head_for choice r.ppm r.head a.configuration)) → ⊥) → LacksMatroska profile choice p fault.Rate
+untimed profile choice p r a h for refused = (h.kept, untimed_before profile p.old p.new choice r a h.known for refused)
 
 -- a writer that is not made
 pub not_made : (profile : Profile) (choice : Choice) (p : Passage) (r : VideoReading) (a : Accepted) (head : Head) (details : TrackEntry) (f : FileFault) → HeadRead (greatest_depth profile) p r → IsFor profile (choice_for profile choice r.head) r.ppm r.head a →
@@ -363,20 +367,49 @@ module _ (profile : Profile) (choice : Choice) (p : Passage) (r : VideoReading) 
               (with_cues end_laws head (details_for choice r.head) (frames_for a r.head pictures) all_frames_are o.old z.old mid begun cues) keeps,
         )
 
+        -- the file of this video is written
+        packs_these : (b : Bool) → Finishes z v (Ok b) →
+            (h : PacksMatroska profile choice (joined p q) (joined o z) (record { frames = packed.frames; bytes = packed.bytes; finished = b })) × (h.video ≡ video_of r pictures) × (h.accepted ≡ a)
+        packs_these b finishes =
+            let all = whole_by b (subst (λ x. Finishes z x (Ok b)) writer_is finishes) in (
+              record {
+                video = video_of r pictures;
+                accepted = a;
+                deep = opens.read.deep;
+                reads = read;
+                some = some_read;
+                has = has_all;
+                writes = all.1;
+                frames = put.frames_are ∙ ap (λ fs. length fs) h.all.are ∙ many_frames a r pictures;
+                bytes = put.bytes_are ∙ ap bytes_in h.all.are;
+                read = kept;
+                written = all.0 ∙ (number ∙ put.kept);
+              },
+              refl,
+              refl,
+            )
+
         pub packs : (b : Bool) → Finishes z v (Ok b) →
             PacksMatroska profile choice (joined p q) (joined o z) (record { frames = packed.frames; bytes = packed.bytes; finished = b })
-        packs b finishes =
-            let all = whole_by b (subst (λ x. Finishes z x (Ok b)) writer_is finishes) in
+        packs b finishes = (packs_these b finishes).0
+
+        asks : {S : Type 0} (contents : S → Option (List ℕ)) (overwrites : Overwriting S) (first now new : S) (b : Bool) → contents first ≡ o.old → contents now ≡ z.old →
+            Asks contents overwrites now v b new → AsksMatroska contents overwrites first new choice (video_of r pictures) a b
+        asks contents overwrites first now new b first_is now_is asked =
+            let h = subst (λ x. Asks contents overwrites now x b new) writer_is asked in
             record {
-              video = video_of r pictures;
-              accepted = a;
-              deep = opens.read.deep;
-              reads = read;
-              some = some_read;
-              has = has_all;
-              writes = all.1;
-              frames = put.frames_are ∙ ap (λ fs. length fs) h.all.are ∙ many_frames a r pictures;
-              bytes = put.bytes_are ∙ ap bytes_in h.all.are;
-              read = kept;
-              written = all.0 ∙ (number ∙ put.kept);
+              complete = h.cued;
+              writes = subst (λ t. Appends t (contents h.cued) (open_file choice (video_of r pictures) a)) (sym first_is) (with_cues end_laws head (details_for choice r.head) (frames_for a r.head pictures) all_frames_are o.old z.old (contents h.cued) begun
+                  (subst (λ t. Appends t (contents h.cued) (cues_in (writing_of head (details_for choice r.head) (frames_for a r.head pictures)))) now_is h.cues));
+              does = subst (λ n. overwrites h.cued n (finished_opening_of choice (video_of r pictures) a) (Ok b) new) (end_laws.whole head (details_for choice r.head) (frames_for a r.head pictures)) h.does;
             }
+
+        -- so the file was written, and the output was asked to be written over
+        pub packs_asked : {S : Type 0} (contents : S → Option (List ℕ)) (overwrites : Overwriting S) (first now new : S) (b : Bool) → contents first ≡ o.old → contents now ≡ z.old → Finishes z v (Ok b) → Asks contents overwrites now v b new →
+            (h : PacksMatroska profile choice (joined p q) (joined o z) (record { frames = packed.frames; bytes = packed.bytes; finished = b })) × AsksMatroska contents overwrites first new choice h.video h.accepted b
+        packs_asked contents overwrites first now new b first_is now_is finishes is =
+            let these = packs_these b finishes in (
+              these.0,
+              subst (λ w. AsksMatroska contents overwrites first new choice w these.0.accepted b) (sym these.1)
+                  (subst (λ w. AsksMatroska contents overwrites first new choice (video_of r pictures) w b) (sym these.2) (asks contents overwrites first now new b first_is now_is is)),
+            )

@@ -26,9 +26,9 @@ use Rattle.ffv1_video.specs.Output.{Silent}
 use Rattle.ffv1_video.specs.Video.{Video, Begins, ReadsVideo, at_first, is_ppm, picture_next}
 use Rattle.ffv1_video.specs.Video.{video_head}
 use Rattle.ffv1_video.specs.Profiles.{greatest_depth, record_profile}
-use Rattle.ffv1_pack.specs.Packing.{AllShort, AreReadableIn, IsFor, IsLongIn, bytes_in}
-use Rattle.ffv1_pack.specs.Packing.{configuration_for, packed_file, packed_frames, packed_head}
-use Rattle.ffv1_pack.specs.Packing.{said_for}
+use Rattle.ffv1_pack.specs.Packing.{AllShort, AreReadableIn, HasConfiguration, IsFor, IsLongIn}
+use Rattle.ffv1_pack.specs.Packing.{bytes_in, configuration_for, packed_file, packed_frames}
+use Rattle.ffv1_pack.specs.Packing.{packed_head, said_for}
 use Rattle.ffv1_pack.specs.VideoReads.{PictureLacks, PictureWants, Taken}
 use Rattle.ffv1_y4m.specs.Reads.{Wants}
 use Rattle.ffv1_y4m.specs.Sequence.{Reading as TextReading}
@@ -130,6 +130,13 @@ abbrev pub HasHead : ℕ → Option (List ℕ) → Type 0
 HasHead most None = ⊤
 HasHead most (Some text) =
     (h : SaidHead) × (rest : List ℕ) × (video_head most text ≡ Ok (h, rest))
+
+-- a text, if it is known, has a head, whose configuration is accepted in a profile
+abbrev pub HasAccepted : Profile → Choice → Option (List ℕ) → Type 0
+HasAccepted profile choice None = ⊤
+HasAccepted profile choice (Some text) =
+    (h : SaidHead) × (rest : List ℕ) × (video_head (greatest_depth profile) text ≡ Ok (h, rest))
+    × HasConfiguration profile choice (is_ppm text) h
 
 -- the pictures of a video are encoded, and of the text, if it is known, this video was read, and
 -- then so much as this says

@@ -1,10 +1,11 @@
 -- What packing a video into Matroska answers, writes, and is refused by.
 use Rattle.std.specs.Prelude.{◌≡◌, ◌⊎◌, ℕ, ◌+◌, ◌<◌, ◌≤◌, Bool, true, false, List, [], ◌∷◌, ◌++◌}
-use Rattle.std.specs.Prelude.{length, Option, Some, None, Ok, Err}
+use Rattle.std.specs.Prelude.{length, Option, Some, None, Ok, Err, ⊤}
 use Rattle.std.specs.Io.KnownBytes.{Appends, Keeps}
 use Rattle.ffv1_wire.specs.Failures.{one_more}
 use Rattle.ffv1_wire.specs.Passage.{Passage}
 use Rattle.ffv1_wire.specs.Patches.{PatchesBeginning}
+use Rattle.ffv1_wire.specs.Seeks.{Overwriting}
 use Rattle.ffv1_record.specs.Accepted.{Accepted, IsFirstUpTo}
 use Rattle.ffv1_record.specs.declared.fault.RecordFault.{RecordFault}
 use Rattle.ffv1_codec.specs.Picture.{Planes}
@@ -115,6 +116,16 @@ pub record PacksMatroska (profile : Profile) (choice : Choice) (input output : P
   pub read : input.after ≡ input.before
   pub written : output.after ≡ output.before
 
+-- the output, once it had the open file, was asked to be written over by the finished opening, as
+-- many bytes before its end as that file has, and this is what it answered
+pub record AsksMatroska {S : Type 0} (contents : S → Option (List ℕ)) (overwrites : Overwriting S)
+    (old new : S) (choice : Choice) (video : Video) (accepted : Accepted) (finished : Bool)
+    : Type 0 where
+  pub complete : S
+  pub writes : Appends (contents old) (contents complete) (open_file choice video accepted)
+  pub does : overwrites complete (length (open_file choice video accepted))
+      (finished_opening_of choice video accepted) (Ok finished) new
+
 -- its head asks for a configuration that is not accepted in the profile
 pub record HasRejected (profile : Profile) (choice : Choice) (text rest : List ℕ) (f : Fault)
     : Type 0 where
@@ -134,6 +145,15 @@ pub record IsUntimed (profile : Profile) (choice : Choice) (text rest : List ℕ
   pub for : IsFor profile (choice_for profile choice head) (is_ppm text) head accepted
   pub untimed : IsTimed (rate_in (head_for choice (is_ppm text) head accepted.configuration)) → ⊥
   pub is : f ≡ fault.Rate
+
+-- a text, if it is known, has a head, whose configuration is accepted in a profile, and whose rate
+-- whole nanoseconds say
+abbrev pub HasTimed : Profile → Choice → Option (List ℕ) → Type 0
+HasTimed profile choice None = ⊤
+HasTimed profile choice (Some text) =
+    (h : SaidHead) × (rest : List ℕ) × (video_head (greatest_depth profile) text ≡ Ok (h, rest))
+    × (a : Accepted) × IsFor profile (choice_for profile choice h) (is_ppm text) h a
+    × IsTimed (rate_in (head_for choice (is_ppm text) h a.configuration))
 
 -- the first fault of a text before its pictures, if it is known
 abbrev pub FaultsBefore : Profile → Choice → Option (List ℕ) → Option (List ℕ) → Fault → Type 0

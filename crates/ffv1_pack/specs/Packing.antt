@@ -84,6 +84,10 @@ pub record IsFor (profile : Profile) (choice : Choice) (ppm : Bool) (h : SaidHea
   pub passes : PassesAll (record_profile profile) checks a.configuration
   pub profiled : a.profile ≡ record_profile profile
 
+-- there is one for this video
+abbrev pub HasConfiguration : Profile → Choice → Bool → SaidHead → Type 0
+HasConfiguration profile choice ppm h = (a : Accepted) × IsFor profile choice ppm h a
+
 -- the frames of pictures
 abbrev pub frames_for : Accepted → SaidHead → List Planes → List (List ℕ)
 frames_for a h pictures = map (λ planes. frame_of a planes (said_for h)) pictures

@@ -4,7 +4,7 @@ ghost use Rattle.std.specs.Prelude.{◌≡◌, ◌⊎◌, ◌≤◌, ◌↔◌, 
 ghost use Rattle.std.specs.Prelude.{◌∷◌};
 ghost use Rattle.ffv1_wire.specs.Passage.{passage};
 ghost use Rattle.ffv1_record.specs.Accepted.{IsFirstUpTo};
-ghost use Rattle.ffv1_record.specs.Configuration.{at_depth, configuration_of};
+ghost use Rattle.ffv1_record.specs.Configuration.{at_depth, configuration_of, with_sets};
 ghost use Rattle.ffv1_record.specs.declared.fault.RecordFault.{RecordFault};
 ghost use Rattle.ffv1_reads.specs.Head.{head_of};
 ghost use Rattle.ffv1_avi.specs.Written.{frames_of};
@@ -69,21 +69,19 @@ fn colour_for(ppm: bool) -> Colour
     if ppm { Colour::Rct } else { Colour::YCbCr }
 }
 
-/// The configuration of a video, whose depth it leaves out.
-fn config_for<A: Allocator + Copy>(
-    alloc: A,
+/// The configuration of a video with these sets, whose depth it leaves out.
+pub(crate) fn config_with<A: Allocator + Copy>(
     choice: &Choice,
     reader: &VideoReader<A>,
-) -> Result<Config<A>, Fault>
-    ensures ok { IfOk result (λ c.
-        at_depth (configuration_of c) (reading_of reader.now).head.depth
-        ≡ configuration_for choice.now (reading_of reader.now).ppm (reading_of reader.now).head) }
-    ensures head { IfOk result (λ _. IsHeadOf (reading_of reader.now)) }
-    ensures err { IfErr result (λ f. f ≡ fault.OutOfMemory) }
+    sets: Sets<A>,
+) -> Config<A>
+    ensures value { at_depth (configuration_of result) (reading_of reader.now).head.depth
+        ≡ with_sets (configuration_for choice.now (reading_of reader.now).ppm
+        (reading_of reader.now).head) sets }
+    ensures head { IsHeadOf (reading_of reader.now) }
 {
-    let sets = sets_for(alloc, choice.large)?;
     let head = reader.head();
-    Ok(Config {
+    Config {
         width: head.width,
         height: head.height,
         coder: coder_for(choice.coder),
@@ -97,7 +95,23 @@ fn config_for<A: Allocator + Copy>(
         sets,
         ec: choice.ec,
         intra: true,
-    })
+    }
+}
+
+/// The configuration of a video, whose depth it leaves out.
+fn config_for<A: Allocator + Copy>(
+    alloc: A,
+    choice: &Choice,
+    reader: &VideoReader<A>,
+) -> Result<Config<A>, Fault>
+    ensures ok { IfOk result (λ c.
+        at_depth (configuration_of c) (reading_of reader.now).head.depth
+        ≡ configuration_for choice.now (reading_of reader.now).ppm (reading_of reader.now).head) }
+    ensures head { IfOk result (λ _. IsHeadOf (reading_of reader.now)) }
+    ensures err { IfErr result (λ f. f ≡ fault.OutOfMemory) }
+{
+    let sets = sets_for(alloc, choice.large)?;
+    Ok(config_with(choice, reader, sets))
 }
 
 /// The same of the video's depth, checked in a profile, which reads that depth.

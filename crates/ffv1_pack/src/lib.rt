@@ -10,6 +10,7 @@
 mod comparison;
 mod default_grid;
 mod encoding;
+mod judging;
 pub mod laws;
 mod matroska_packing;
 mod mono_trial;

@@ -1,26 +1,22 @@
 //! Packs a video into Matroska, picture by picture.
 
-ghost use Rattle.std.specs.Prelude.{◌≡◌, ◌⊎◌, ◌≤◌, [], Bool, IfOk, IfErr, None, Ok, Some, true};
+ghost use Rattle.std.specs.Prelude.{◌≡◌, [], IfOk, IfErr, None, true};
 ghost use Rattle.ffv1_wire.specs.Passage.{passage};
 ghost use Rattle.ffv1_matroska.specs.Writers.{writing_of};
 ghost use Rattle.ffv1_pack.specs.Internal.Clusters.{PutsAll, StopsPutting};
-ghost use Rattle.ffv1_pack.specs.PackMatroska.{PacksMatroska};
+ghost use Rattle.ffv1_pack.specs.PackMatroska.{AsksMatroska, HasTimed, PacksMatroska};
 ghost use Rattle.ffv1_pack.specs.Internal.PackMatroska.{LacksMatroska, OpensMatroska};
 ghost use Rattle.ffv1_pack.specs.PackMatroska.{RefusesMatroska};
-ghost use Rattle.ffv1_record.specs.Accepted.{IsFirstUpTo};
-ghost use Rattle.ffv1_record.specs.declared.fault.RecordFault.{RecordFault};
 ghost use Rattle.ffv1_video.specs.declared.fault.Fault.TheVariants as fault;
-ghost use Rattle.ffv1_video.specs.Faults.{of_record};
 ghost use Rattle.ffv1_pack.specs.Grids.{choice_for};
-ghost use Rattle.ffv1_pack.specs.Pack.{IsPackFault};
 ghost use Rattle.ffv1_pack.specs.PackMatroska.{IsMatroskaPackFault, is_matroska_pack_fault};
 ghost use Rattle.ffv1_pack.specs.PackMatroska.{codec_id_for, details_for};
-ghost use Rattle.ffv1_pack.specs.Packing.{IsFor, configuration_for};
-ghost use Rattle.ffv1_video.specs.Profiles.{greatest_depth, record_profile};
+ghost use Rattle.ffv1_pack.specs.Packing.{IsFor};
 ghost use Rattle.ffv1_pack.specs.Internal.VideoReads.{reading_of};
 
 use crate::default_grid::grid_for;
 use crate::encoding::{encode_picture, encoder_for, file_head, most_frame};
+use crate::judging::{judge, judge_rate};
 use crate::verifying::VerifyingEncoder;
 use crate::video::VideoReader;
 use ffv1_matroska::{CodecId, MatroskaWriter, TrackEntry, written_laws};
@@ -96,28 +92,6 @@ fn choice_for<A: Allocator + Copy>(
     }
 }
 
-/// What encodes the pictures of a video with that grid, in a profile that reads its depth.
-fn encoder_in_grid<A: Allocator + Copy>(
-    alloc: A,
-    profile: Profile,
-    choice: &Choice,
-    reader: &VideoReader<A>,
-) -> Result<VerifyingEncoder<A>, Fault>
-    requires { (reading_of reader.now).head.depth ≤ greatest_depth profile }
-    ensures ok { IfOk result (λ e. IsFor profile
-        (choice_for profile choice.now (reading_of reader.now).head) (reading_of reader.now).ppm
-        (reading_of reader.now).head e.accepted) }
-    ensures verify { IfOk result (λ e. e.verifies ≡ choice.now.verify) }
-    ensures err { IfErr result (λ f. (f ≡ fault.OutOfMemory)
-        ⊎ ((g : RecordFault) × IsFirstUpTo (record_profile profile) (greatest_depth profile)
-        (configuration_for (choice_for profile choice.now (reading_of reader.now).head)
-        (reading_of reader.now).ppm (reading_of reader.now).head) g × (f ≡ of_record g))) }
-    ensures own { IfErr result (IsPackFault profile) }
-{
-    let chosen = choice_for(profile, choice, reader);
-    encoder_for(alloc, profile, &chosen, reader)
-}
-
 /// Reads the head of a video, and makes what encodes and writes its pictures.
 fn open_video<R: ByteIn, A: Allocator + Copy>(
     alloc: A,
@@ -131,9 +105,14 @@ fn open_video<R: ByteIn, A: Allocator + Copy>(
     ensures err { IfErr result (LacksMatroska profile choice.now
         (passage R.remaining R.failures input.old input.new)) }
     ensures own { IfErr result (IsMatroskaPackFault profile) }
+    ensures sound { IfErr result (λ f. f ≡ fault.OutOfMemory →
+        HasTimed profile choice.now (R.remaining input.old)) }
 {
     let reader = VideoReader::open(alloc, profile, input)?;
-    let encoder = encoder_in_grid(alloc, profile, choice, &reader)?;
+    let chosen = choice_for(profile, choice, &reader);
+    judge(alloc, profile, &chosen, &reader)?;
+    judge_rate(choice, &reader)?;
+    let encoder = encoder_for(alloc, profile, &chosen, &reader)?;
     let head = file_head(alloc, choice, &reader, encoder.config())?;
     let writer = MatroskaWriter::new(alloc, &head, details_for(choice, &reader))?;
     Ok(Opened {
@@ -205,9 +184,9 @@ fn put_pictures<R: ByteIn, W: ByteOut, A: Allocator + Copy>(
 ///
 /// Before the first Cluster comes all that stands before the Clusters, of a Segment of unknown
 /// size; after the last one come Cues, and then what stands before Tracks is written over, so that
-/// the file is finished. If the output cannot be written over, the Segment's size stays unknown,
-/// and all else is there. One picture, its frame and the places of at most 8192 Clusters are held,
-/// however many pictures there are.
+/// the file is finished. Only if the output cannot be written over, as its `patch` says, the
+/// Segment's size stays unknown, and all else is there. One picture, its frame and the places of
+/// at most 8192 Clusters are held, however many pictures there are.
 ///
 /// If the choice says `verify`, each frame is decoded as soon as it is coded, and compared with
 /// its picture before its Cluster is written, in memory that is taken once, before the first byte
@@ -228,10 +207,11 @@ fn put_pictures<R: ByteIn, W: ByteOut, A: Allocator + Copy>(
 /// No picture is read before the Clusters of those before it are written. `Read` if a read
 /// failed: nothing is written if the head wants one more byte; else the Clusters of exactly the
 /// pictures that were read whole are, and the next picture wants one more byte. `OutOfMemory`,
-/// which comes after the head alone: so, too, or the next picture was read whole, and memory for
-/// its frame was refused. `Write` if a write failed: a beginning of the file is then written,
-/// which ends in the Cluster of the last picture that was read, or in Cues; or the file whose
-/// Segment has no size, with a beginning of what it is written over by.
+/// which comes after the head alone, and only if that has none of these faults: so, too, or the
+/// next picture was read whole, and memory for its frame was refused. `Write` if a write failed: a
+/// beginning of the file is then written, which ends in the Cluster of the last picture that was
+/// read, or in Cues; or the file whose Segment has no size, with a beginning of what it is written
+/// over by.
 pub fn pack_matroska<R: ByteIn, W: PatchOut, A: Allocator + Copy>(
     alloc: A,
     profile: Profile,
@@ -242,10 +222,17 @@ pub fn pack_matroska<R: ByteIn, W: PatchOut, A: Allocator + Copy>(
     ensures ok { IfOk result (PacksMatroska profile choice.now
         (passage R.remaining R.failures input.old input.new)
         (passage W.contents W.failures output.old output.new)) }
+    ensures asks { IfOk result (λ packed. (packs : PacksMatroska profile choice.now
+        (passage R.remaining R.failures input.old input.new)
+        (passage W.contents W.failures output.old output.new) packed)
+        × AsksMatroska W.contents W.overwrites output.old output.new choice.now packs.video
+        packs.accepted packed.finished) }
     ensures err { IfErr result (RefusesMatroska profile choice.now
         (passage R.remaining R.failures input.old input.new)
         (passage W.contents W.failures output.old output.new)) }
     ensures own { IfErr result (IsMatroskaPackFault profile) }
+    ensures sound { IfErr result (λ f. f ≡ fault.OutOfMemory →
+        HasTimed profile choice.now (R.remaining input.old)) }
 {
     y4m_laws::text_is_read_as_its_pictures();
     y4m_laws::text_is_read_as_its_images();

@@ -4,12 +4,14 @@ ghost use Rattle.std.specs.Prelude.{◌≡◌, ◌≤◌, IfOk, IfErr, true};
 ghost use Rattle.ffv1_wire.specs.Passage.{passage};
 ghost use Rattle.ffv1_reads.specs.Head.{head_of};
 ghost use Rattle.ffv1_avi.specs.Written.{frames_of};
-ghost use Rattle.ffv1_pack.specs.Pack.{Packs, RefusesPack};
+ghost use Rattle.ffv1_video.specs.declared.fault.Fault.TheVariants as fault;
+ghost use Rattle.ffv1_pack.specs.Pack.{HasAccepted, Packs, RefusesPack};
 ghost use Rattle.ffv1_pack.specs.Internal.Pack.{EncodesVideo, StopsVideo};
 ghost use Rattle.ffv1_pack.specs.Pack.{IsPackFault};
 ghost use Rattle.ffv1_pack.specs.Packing.{bytes_in};
 
 use crate::encoding::{encode_pictures, encoder_for, file_head};
+use crate::judging::judge;
 use crate::video::VideoReader;
 use ffv1_avi::write_avi;
 use ffv1_reads::FileHead;
@@ -52,10 +54,13 @@ fn encode_video<R: ByteIn, A: Allocator + Copy>(
     ensures err { IfErr result (StopsVideo profile choice.now
         (passage R.remaining R.failures input.old input.new)) }
     ensures own { IfErr result (IsPackFault profile) }
+    ensures sound { IfErr result (λ f. f ≡ fault.OutOfMemory →
+        HasAccepted profile choice.now (R.remaining input.old)) }
 {
     y4m_laws::text_is_read_as_its_pictures();
     y4m_laws::text_is_read_as_its_images();
     let mut reader = VideoReader::open(alloc, profile, input)?;
+    judge(alloc, profile, choice, &reader)?;
     let mut encoder = encoder_for(alloc, profile, choice, &reader)?;
     let head = file_head(alloc, choice, &reader, encoder.config())?;
     let mut frames = Vec::new(alloc);
@@ -102,9 +107,9 @@ fn bytes_in<A: Allocator>(frames: &[Vec<u8, A>]) -> u64
 /// `SliceTooLong` if a slice takes more than 16777215 bytes, and, in `Wide`, `ChunkTooLong` if its
 /// frame takes more than 1073741824, which is not read; `NoFrames` if there is no picture;
 /// `TooLarge` if the size of RIFF would pass 2147483647. `Read` if a read failed, where the head or
-/// the next picture wants one more byte. `OutOfMemory`, which comes after the head alone: before
-/// the first picture is read, for what is read of the next one, or for its frame once it was read
-/// whole. Nothing is written then. `Write` if a write
+/// the next picture wants one more byte. `OutOfMemory`, which comes after the head alone, and only
+/// if the head has none of these faults: before the first picture is read, for what is read of the
+/// next one, or for its frame once it was read whole. Nothing is written then. `Write` if a write
 /// failed: a beginning of the file is then written, and not all of it.
 pub fn pack<R: ByteIn, W: ByteOut, A: Allocator + Copy>(
     alloc: A,
@@ -120,6 +125,8 @@ pub fn pack<R: ByteIn, W: ByteOut, A: Allocator + Copy>(
         (passage R.remaining R.failures input.old input.new)
         (passage W.contents W.failures output.old output.new)) }
     ensures own { IfErr result (IsPackFault profile) }
+    ensures sound { IfErr result (λ f. f ≡ fault.OutOfMemory →
+        HasAccepted profile choice.now (R.remaining input.old)) }
 {
     let stream = encode_video(alloc, profile, input, choice)?;
     write_avi(output, &stream.head, &stream.frames)?;

@@ -1,7 +1,8 @@
 -- Reads a video and encodes it.
 use Rattle.std.proofs.lemmas.Result.{err_from_is_err_and}
-use Rattle.std.proofs.Common.{refl, ◌≡◌, ◌⊎◌, ◌<◌, length, arith, subst, true}
+use Rattle.std.proofs.Common.{refl, ◌≡◌, ◌⊎◌, ◌<◌, length, arith, inr, subst, true}
 use Rattle.std.proofs.lemmas.Grind.{common_steps}
+use Rattle.ffv1_pack.proofs.ConfigurationJudged.{has_accepted, no_memory_head}
 use Rattle.ffv1_pack.proofs.FrameBytes.{empty_of}
 use Rattle.ffv1_pack.proofs.VideoEnds.{encodes_video, no_frames, some_frames}
 use Rattle.ffv1_pack.proofs.VideoEncoded.{no_head, none, rejected, stops, wants_memory}
@@ -54,6 +55,45 @@ returns-then-is_empty-clause-err g c =
     c.encode_pictures.new.frames _ c.is_empty.ensures c.if-is_empty.true in
     none c.args.profile c.args.choice.now _ _ _ _ _ refl refl c.in_ok-reader.ensures.ok for
     c.in_ok-encode_pictures.ensures.ok (no_frames _ empty)
+
+pub returns-in_err-judge-clause-err : goal.returns-in_err-judge-clause-err
+returns-in_err-judge-clause-err g c =
+    let p = err_from_is_err_and c.from_residual-in_err-judge.result
+    c.from_residual-in_err-judge.ensures.1 in
+    rw (p.1, p.2) (rejected c.args.profile c.args.choice.now _ _ c.in_err-judge.field-0.0
+    c.in_ok-reader.ensures.ok (inr c.in_err-judge.ensures.err))
+
+pub returns-in_err-reader-clause-sound : goal.returns-in_err-reader-clause-sound
+returns-in_err-reader-clause-sound g c =
+    let p = err_from_is_err_and c.from_residual.result c.from_residual.ensures.1 in
+    rw (p.1, p.2) (λ e. absurd (no_memory_head _ _ _ c.in_err-reader.ensures.err e))
+
+pub returns-in_err-judge-clause-sound : goal.returns-in_err-judge-clause-sound
+returns-in_err-judge-clause-sound g c =
+    let p = err_from_is_err_and c.from_residual-in_err-judge.result
+    c.from_residual-in_err-judge.ensures.1 in
+    rw (p.1, p.2) (λ e. absurd (c.in_err-judge.ensures.memory e))
+
+pub returns-in_err-encoder-clause-sound : goal.returns-in_err-encoder-clause-sound
+returns-in_err-encoder-clause-sound g c =
+    let p = err_from_is_err_and c.from_residual-in_err-encoder.result
+    c.from_residual-in_err-encoder.ensures.1 in
+    rw (p.1, p.2) (λ _. has_accepted c.args.profile c.args.choice.now _ _
+    c.in_ok-reader.ensures.ok c.in_ok-judge.ensures.ok)
+
+pub returns-in_err-head-clause-sound : goal.returns-in_err-head-clause-sound
+returns-in_err-head-clause-sound g c =
+    let p = err_from_is_err_and c.from_residual-in_err-head.result
+    c.from_residual-in_err-head.ensures.1 in
+    rw (p.1, p.2) (λ _. has_accepted c.args.profile c.args.choice.now _ _
+    c.in_ok-reader.ensures.ok c.in_ok-judge.ensures.ok)
+
+pub returns-in_err-encode_pictures-clause-sound : goal.returns-in_err-encode_pictures-clause-sound
+returns-in_err-encode_pictures-clause-sound g c =
+    let p = err_from_is_err_and c.from_residual-in_err-encode_pictures.result
+    c.from_residual-in_err-encode_pictures.ensures.1 in
+    rw (p.1, p.2) (λ _. has_accepted c.args.profile c.args.choice.now _ _
+    c.in_ok-reader.ensures.ok c.in_ok-judge.ensures.ok)
 
 pub returns-clause-ok : goal.returns-clause-ok
 returns-clause-ok g c =

@@ -7,6 +7,7 @@ use Rattle.ffv1_reads.specs.Head.{head_of}
 use Rattle.ffv1_avi.specs.Written.{frames_of, most}
 use Rattle.ffv1_avi.specs.Writes.{WritesFile}
 use Rattle.ffv1_pack.specs.Packing.{bytes_in}
+use Rattle.ffv1_pack.proofs.ConfigurationJudged.{video_accepted}
 use Rattle.ffv1_pack.proofs.FilePacked.{file_refused, file_written, refused_own}
 use Rattle.ffv1_pack.proofs.FrameBytes.{few_bytes, many_frames}
 use Rattle.ffv1_pack.proofs.packing.pack.Goals as goal
@@ -20,6 +21,19 @@ returns-in_err-write_avi-clause-err g c =
     (passage g.W.ByteOut.contents g.W.ByteOut.failures c.args.output.now c.write_avi.new.out)
     (head_of c.in_ok-stream.stream.head) (frames_of fs) (Err c.in_err-write_avi.field-0.0))
     c.deref.ensures.value c.in_err-write_avi.ensures))
+
+pub returns-in_err-stream-clause-sound : goal.returns-in_err-stream-clause-sound
+returns-in_err-stream-clause-sound g c =
+    let p = err_from_is_err_and c.from_residual.result c.from_residual.ensures.1 in
+    rw (p.1, p.2) c.in_err-stream.ensures.sound
+
+pub returns-in_err-write_avi-clause-sound : goal.returns-in_err-write_avi-clause-sound
+returns-in_err-write_avi-clause-sound g c =
+    let p = err_from_is_err_and c.from_residual-in_err-write_avi.result
+    c.from_residual-in_err-write_avi.ensures.1 in
+    let encoded = c.in_ok-stream.ensures.ok in
+    rw (p.1, p.2) (λ _. video_accepted c.args.profile c.args.choice.now _ _ encoded.video
+    encoded.accepted encoded.ends encoded.for)
 
 pub bytes_in-requires : goal.bytes_in-requires
 bytes_in-requires g c =
