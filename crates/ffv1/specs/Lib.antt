@@ -1,2 +1,4 @@
 pub mod Looked
 pub mod Statuses
+pub mod Orders
+pub mod Streams

@@ -21,26 +21,14 @@ use std::time::Clock;
 /// What is compared, and how that is said.
 #[derive(Clone, Copy)]
 pub struct Comparing<'a> {
-    // The path of the file.
-    input: &'a str,
-    // The path of the list.
-    list: &'a str,
-    // Whether one line of the file is printed.
-    quiet: bool,
-    // Whether it says how much of the file is read.
-    progress: bool,
-}
-
-impl<'a> Comparing<'a> {
-    /// Puts together what an order says of it.
-    pub fn new(input: &'a str, list: &'a str, quiet: bool, progress: bool) -> Comparing<'a> {
-        Comparing {
-            input,
-            list,
-            quiet,
-            progress,
-        }
-    }
+    /// The path of the file.
+    pub input: &'a str,
+    /// The path of the list.
+    pub list: &'a str,
+    /// Whether one line of the file is printed.
+    pub quiet: bool,
+    /// Whether it says how much of the file is read.
+    pub progress: bool,
 }
 
 /// The MD5s of a list.

@@ -1,6 +1,7 @@
 //! Checks a file, and prints what its frames take, or one line of it.
 
 ghost use Rattle.std.specs.Prelude.{◌≡◌, Err, IfErr, IfOk, IsOk, None, Some, false};
+ghost use Rattle.ffv1.specs.Orders.{checking};
 ghost use Rattle.ffv1.specs.Statuses.{IsAnyFault, IsFault};
 ghost use Rattle.ffv1.specs.declared.refusal.Refusal.TheVariants as refusal;
 ghost use Rattle.ffv1_unpack.specs.Check.{IsCheckFault};
@@ -11,8 +12,9 @@ use crate::input::{open_input, watched};
 use crate::met::{Met, Noted};
 use crate::quiet::{LastLines, tell_verdict};
 use crate::refusal::Refusal;
-use ffv1_engine::{Fault, Profile, check_all, check_all_range, check_range};
-use ffv1_wire::{ByteIn, ByteOut, ToWrite};
+use crate::streams::check_stream;
+use ffv1_engine::Fault;
+use ffv1_wire::{ByteOut, ToWrite};
 use ffv1_words::FrameRange;
 use std::alloc::Global;
 use std::io;
@@ -38,11 +40,7 @@ pub struct Checking {
 impl Checking {
     /// Puts together what an order says of it.
     pub fn new(all: bool, place: bool, quiet: bool, progress: bool, range: FrameRange) -> Checking
-        ensures all { result.all ≡ all }
-        ensures place { result.place ≡ place }
-        ensures quiet { result.quiet ≡ quiet }
-        ensures progress { result.progress ≡ progress }
-        ensures range { result.range ≡ range }
+        ensures { result ≡ checking all place quiet progress range }
     {
         Checking {
             all,
@@ -66,23 +64,6 @@ fn judged(first: Option<Fault>) -> Result<(), Refusal>
     }
 }
 
-/// Decodes frames of a file, also those after one that is refused; of all frames also what is left
-/// of a Matroska file after a fault of its own. Answers the first fault of those.
-fn judge<R: ByteIn, W: ByteOut>(
-    alloc: Global,
-    input: &mut R,
-    writer: &mut W,
-    place: bool,
-    range: FrameRange,
-) -> Result<Option<Fault>, Fault>
-    ensures { IfErr result (IsCheckFault profile.Wide) }
-{
-    if range == FrameRange::ALL {
-        return check_all(alloc, Profile::Wide, input, writer, place);
-    }
-    check_all_range(alloc, Profile::Wide, input, writer, place, range)
-}
-
 /// Decodes frames of a file, and writes what each took, and with `place` where one is refused; with
 /// `all` also those after one that is refused. Answers the first fault of those.
 fn write_check<W: ByteOut>(
@@ -98,13 +79,13 @@ fn write_check<W: ByteOut>(
 {
     let (source, metadata) = open_input(rt, input, met)?;
     let mut reader = watched(rt, source, &metadata, checking.progress);
-    let place = checking.place;
-    let range = checking.range;
-    if checking.all {
-        return judge(alloc, &mut reader, writer, place, range);
-    }
-    check_range(alloc, Profile::Wide, &mut reader, writer, place, range)?;
-    Ok(None)
+    let Checking {
+        all,
+        place,
+        range,
+        ..
+    } = checking;
+    check_stream(alloc, &mut reader, writer, all, place, range)
 }
 
 /// Decodes frames of a file, and prints one line of it. `Write` if that cannot be printed.

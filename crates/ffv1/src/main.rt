@@ -3,13 +3,11 @@
 //! `ffv1_engine`.
 #![tactic(auto)]
 
-ghost use Rattle.std.specs.Prelude.{◌≡◌, ◌≢◌, ◌⊎◌, ◌≤◌, ℕ, Err, IfErr, IfOk, IsOk, true};
+ghost use Rattle.std.specs.Prelude.{◌≡◌, ◌≤◌, ℕ, Err, IfErr, IfOk, IsOk};
 ghost use Rattle.std.specs.Process.{exit_status};
-ghost use Rattle.clap.specs.Words.{kind_of};
-ghost use Rattle.clap.specs.declared.error.kind.ErrorKind.TheVariants as kind;
 ghost use Rattle.ffv1.specs.declared.refusal.Refusal.TheVariants as refusal;
-ghost use Rattle.ffv1.specs.Statuses.{IsAnyFault, IsFault, IsMakingRefusal, IsStatus, makes_file};
-ghost use Rattle.ffv1.specs.Statuses.{status_of};
+ghost use Rattle.ffv1.specs.Statuses.{IsAnyFault, IsComparingRefusal, IsFault, IsMakingRefusal};
+ghost use Rattle.ffv1.specs.Statuses.{IsStatus, makes_file, status_of};
 ghost use Rattle.ffv1_unpack.specs.Show.{IsShowFault};
 ghost use Rattle.ffv1_video.specs.declared.profile.Profile.TheVariants as profile;
 ghost use Rattle.ffv1_video.specs.declared.fault.Fault.{Fault};
@@ -20,41 +18,42 @@ mod against;
 mod arguments;
 mod checking;
 mod input;
+mod lines;
 mod making;
 mod met;
 mod notes;
+mod orders;
 mod output;
 mod progress;
 mod quiet;
 mod refusal;
 mod several;
+mod streams;
 mod told;
 
 use against::{Comparing, run_against};
 use arguments::{looks, other_words};
-use checking::{Checking, run_check};
-use clap::Error;
+use checking::run_check;
 use either::{Left, Right};
-use ffv1_engine::{
-    Fault, PackedMatroska, Profile, framemd5_range, framemd5_text, pack, pack_matroska, show,
-    trial, unpack_range,
-};
+use ffv1_engine::{Fault, PackedMatroska, trial};
 use ffv1_wire::{ByteIn, ToFile, ToWrite, read_byte};
-use ffv1_words::{Choice, ContainerChoice, FrameRange, Order, help_topic, is_hyphen, words};
+use ffv1_words::{Choice, ContainerChoice, FrameRange, Order, is_hyphen, words};
 use input::{Again, open_input, watched};
+use lines::command;
 use making::Making;
 use met::{Met, Noted};
 use notes::{Notes, tell_notes};
+use orders::{Doer, Looking, run_order};
 use output::{Target, open_output};
 use refusal::Refusal;
-use several::Looks;
 use std::alloc::Global;
 use std::io::Input;
 use std::process::ExitCode;
 use std::rt::Files;
 use std::time::Clock;
 use std::{env, io};
-use told::{Paths, advise, help};
+use streams::{framemd5_stream, pack_clusters, pack_stream, show_stream, unpack_stream};
+use told::{Paths, advise};
 
 /// Prints a count: on standard output, or on standard error if the output itself goes there.
 fn print_count(
@@ -80,25 +79,15 @@ fn pack_target<R: ByteIn, H: Files + Print>(
     reader: &mut R,
     target: Target<'_, H>,
     choice: &Choice,
-) -> Result<PackedMatroska, Fault> {
+) -> Result<PackedMatroska, Refusal>
+    ensures { IfErr result IsAnyFault }
+{
     match target {
         Left(file) if file.inner().is_regular() => {
-            pack_matroska(alloc, Profile::Wide, reader, &mut ToFile::new(file), choice)
+            pack_clusters(alloc, reader, &mut ToFile::new(file), choice)
         }
-        Left(file) => pack_matroska(
-            alloc,
-            Profile::Wide,
-            reader,
-            &mut ToWrite::new(file),
-            choice,
-        ),
-        Right(printer) => pack_matroska(
-            alloc,
-            Profile::Wide,
-            reader,
-            &mut ToWrite::new(printer),
-            choice,
-        ),
+        Left(file) => pack_clusters(alloc, reader, &mut ToWrite::new(file), choice),
+        Right(printer) => pack_clusters(alloc, reader, &mut ToWrite::new(printer), choice),
     }
 }
 
@@ -121,13 +110,7 @@ fn run_pack(
         let packed = pack_target(alloc, &mut reader, target, choice)?;
         (packed.frames, packed.bytes, false)
     } else {
-        let packed = pack(
-            alloc,
-            Profile::Wide,
-            &mut reader,
-            &mut ToWrite::new(target),
-            choice,
-        )?;
+        let packed = pack_stream(alloc, &mut reader, &mut ToWrite::new(target), choice)?;
         (packed.frames, packed.bytes, packed.loses_colour)
     };
     let keeps_rate = choice.rate_given && met.is_text();
@@ -154,8 +137,7 @@ fn run_unpack(
     let (source, metadata) = open_input(rt, files.input, met)?;
     let target = open_output(rt, files.output, &metadata, files.no_clobber, met)?;
     let mut reader = watched(rt, source, &metadata, files.progress);
-    let output = ToWrite::new(target);
-    let (_written, answer) = unpack_range(alloc, Profile::Wide, &mut reader, output, range);
+    let (_written, answer) = unpack_stream(alloc, &mut reader, ToWrite::new(target), range);
     let frames = answer?;
     let count = format!(in alloc; "frames {frames}")?;
     print_count(rt, files.output, &count, met)
@@ -174,8 +156,7 @@ fn run_show(
 {
     let (mut reader, _) = open_input(rt, input, met)?;
     let mut writer = ToWrite::new(Noted::new(met, io::writer(rt)));
-    show(alloc, Profile::Wide, &mut reader, &mut writer, cost)?;
-    Ok(())
+    show_stream(alloc, &mut reader, &mut writer, cost)
 }
 
 /// Prints the MD5 of each picture of a file, or of a text, which begins with `P` or `Y`. Only
@@ -195,12 +176,7 @@ fn run_framemd5(
     };
     let mut reader = Again::new(first, source);
     let mut writer = ToWrite::new(Noted::new(met, io::writer(rt)));
-    if range == FrameRange::ALL && (first == Some(b'P') || first == Some(b'Y')) {
-        framemd5_text(alloc, Profile::Wide, &mut reader, &mut writer)?;
-    } else {
-        framemd5_range(alloc, Profile::Wide, &mut reader, &mut writer, range)?;
-    }
-    Ok(())
+    framemd5_stream(alloc, first, &mut reader, &mut writer, range)
 }
 
 /// Codes and decodes the mono picture of a file, and prints what it found.
@@ -249,25 +225,6 @@ fn tell(rt: &impl Eprint, met: &Met, paths: Paths<'_>, done: Result<(), Refusal>
     Ok(status_of(done))
 }
 
-/// What is done with each file of an order.
-#[derive(Clone, Copy)]
-enum Looking {
-    Check(Checking),
-    Show { cost: bool },
-    FrameMd5(FrameRange),
-    Trial,
-}
-
-impl Looking {
-    /// Whether a line of the path of each of several files is printed.
-    fn names_files(self) -> bool {
-        match self {
-            Looking::Check(checking) => !checking.quiet,
-            Looking::Show { .. } | Looking::FrameMd5(_) | Looking::Trial => true,
-        }
-    }
-}
-
 /// Looks at one file.
 fn look(
     rt: &(impl Files + Input + Print + Eprint + Clock),
@@ -287,79 +244,51 @@ fn look(
     }
 }
 
-/// What looks at files in one way.
+/// What does the parts of an order by the calls of the system.
 #[derive(Drop)]
-struct Looker<'a, R> {
+struct BySystem<'a, R> {
     rt: &'a R,
     alloc: Global,
-    looking: Looking,
     met: &'a Met,
 }
 
-impl<R: Files + Input + Print + Eprint + Clock> Looks for Looker<'_, R> {
-    ghost names = { λ s _ _ t. t ≡ s };
+impl<R: Files + Input + Print + Eprint + Clock> Doer for BySystem<'_, R> {
+    ghost packs = { λ s files _ _ outcome t.
+        (t ≡ s) × IfErr outcome (IsMakingRefusal files.no_clobber) };
 
-    ghost looks = { λ s _ outcome t. (t ≡ s) × IfErr outcome IsAnyFault };
+    ghost unpacks = { λ s files _ outcome t.
+        (t ≡ s) × IfErr outcome (IsMakingRefusal files.no_clobber) };
 
-    fn name(&mut self, path: &str) -> bool {
-        !self.looking.names_files() || self.met.printed(println!(self.rt; "file {path}")).is_ok()
+    ghost compares = { λ s _ outcome t. (t ≡ s) × IfErr outcome IsComparingRefusal };
+
+    ghost names = { λ s _ _ _ t. t ≡ s };
+
+    ghost looks = { λ s _ _ outcome t. (t ≡ s) × IfErr outcome IsAnyFault };
+
+    fn pack(
+        &mut self,
+        files: &Making<'_>,
+        container: ContainerChoice,
+        choice: &Choice,
+    ) -> Result<(), Refusal> {
+        run_pack(self.rt, self.alloc, files, container, choice, self.met)
     }
 
-    fn look(&mut self, path: &str) -> Result<(), Refusal> {
-        look(self.rt, self.alloc, path, self.looking, self.met)
+    fn unpack(&mut self, files: &Making<'_>, range: FrameRange) -> Result<(), Refusal> {
+        run_unpack(self.rt, self.alloc, files, range, self.met)
     }
-}
 
-/// Looks at one file, or at several. Answers the exit status.
-fn look_all(
-    rt: &(impl Files + Input + Print + Eprint + Clock),
-    alloc: Global,
-    paths: &[&str],
-    looking: Looking,
-) -> io::Result<u8>
-    ensures { IfOk result (λ status. status ≤ 1) }
-{
-    let met = &Met::new();
-    let mut looker = Looker {
-        rt,
-        alloc,
-        looking,
-        met,
-    };
-    several::look_all(rt, met, &mut looker, paths)
-}
-
-/// Checks one file or several, or compares one with a list of MD5s. Answers the exit status.
-fn check_files(
-    rt: &(impl Files + Input + Print + Eprint + Clock),
-    alloc: Global,
-    inputs: &[&str],
-    checking: Checking,
-    against: Option<&str>,
-    met: &Met,
-) -> io::Result<u8>
-    ensures { IfOk result (λ status. status ≤ 1) }
-{
-    if let (Some(list), Some(input)) = (against, inputs.first()) {
-        let comparing = Comparing::new(input, list, checking.quiet, checking.progress);
-        let (paths, done) = run_against(rt, alloc, comparing, met);
-        return tell(rt, met, paths, done);
+    fn compare<'a>(&mut self, comparing: Comparing<'a>) -> (Paths<'a>, Result<(), Refusal>) {
+        run_against(self.rt, self.alloc, comparing, self.met)
     }
-    look_all(rt, alloc, inputs, Looking::Check(checking))
-}
 
-/// Unpacks frames of a file, and says why if that is not done. Answers the exit status.
-fn unpack_files(
-    rt: &(impl Files + Input + Print + Eprint + Clock),
-    alloc: Global,
-    files: &Making<'_>,
-    range: FrameRange,
-    met: &Met,
-) -> io::Result<u8>
-    ensures { IfOk result (IsStatus true) }
-{
-    let done = run_unpack(rt, alloc, files, range, met);
-    tell(rt, met, files.paths(), done)
+    fn name(&mut self, looking: Looking, path: &str) -> bool {
+        !looking.names_files() || self.met.printed(println!(self.rt; "file {path}")).is_ok()
+    }
+
+    fn look(&mut self, looking: Looking, path: &str) -> Result<(), Refusal> {
+        look(self.rt, self.alloc, path, looking, self.met)
+    }
 }
 
 /// Does what an order asks for. Answers the exit status.
@@ -371,77 +300,8 @@ fn run(
     ensures { IfOk result (IsStatus (makes_file order.entry)) }
 {
     let met = &Met::new();
-    match order {
-        Order::Pack {
-            input,
-            output,
-            choice,
-            container,
-            no_clobber,
-            progress,
-        } => {
-            let files = Making::new(input, output, no_clobber, progress);
-            let done = run_pack(rt, alloc, &files, container, &choice, met);
-            tell(rt, met, files.paths(), done)
-        }
-        Order::Unpack {
-            input,
-            output,
-            no_clobber,
-            progress,
-            range,
-        } => {
-            let files = Making::new(input, output, no_clobber, progress);
-            unpack_files(rt, alloc, &files, range, met)
-        }
-        Order::Check {
-            inputs,
-            all,
-            place,
-            quiet,
-            progress,
-            against,
-            range,
-        } => {
-            let checking = Checking::new(all, place, quiet, progress, range);
-            check_files(rt, alloc, inputs, checking, against, met)
-        }
-        Order::Show { inputs, cost } => look_all(rt, alloc, inputs, Looking::Show { cost }),
-        Order::FrameMd5 { inputs, range } => look_all(rt, alloc, inputs, Looking::FrameMd5(range)),
-        Order::Trial { input } => look_all(rt, alloc, &[input], Looking::Trial),
-    }
-}
-
-/// The exit status of a line that is refused: 0 if it asks for help or for the version.
-fn line_status(error: &Error) -> u8
-    ensures asked { (kind_of error.now ≡ kind.DisplayHelp)
-        ⊎ (kind_of error.now ≡ kind.DisplayVersion) → result ≡ 0 }
-    ensures refused { kind_of error.now ≢ kind.DisplayHelp →
-        kind_of error.now ≢ kind.DisplayVersion → result ≡ 2 }
-{
-    if error.use_stderr() { 2 } else { 0 }
-}
-
-/// Does what the words of the command line ask for: status 0 for success, 1 for a fault, which is
-/// told on standard error, of each file that has one, and 2 for a line or for files that are
-/// refused. All of clap's text goes to standard error, that of help too, which ends with status 0,
-/// as what is known of a fault does.
-fn command(rt: &HostRuntime, alloc: Global, texts: &[&str]) -> io::Result<ExitCode>
-    ensures { IfOk result (λ code. exit_status code ≤ 2) }
-{
-    if let Some(topic) = help_topic(texts) {
-        return Ok(ExitCode::from(help(rt, topic)?));
-    }
-    match words(alloc, texts) {
-        Err(error) => {
-            eprint!(rt; "{error}")?;
-            Ok(ExitCode::from(line_status(&error)))
-        }
-        Ok(order) => {
-            let status = run(rt, alloc, order)?;
-            Ok(ExitCode::from(status))
-        }
-    }
+    let (_, status) = run_order(rt, met, BySystem { rt, alloc, met }, order);
+    status
 }
 
 /// Refuses the words of the command line that are not UTF-8, and looks at the other files if the
@@ -472,7 +332,15 @@ fn line(rt: &HostRuntime, alloc: Global) -> io::Result<ExitCode>
         Err(error) => return Err(error),
     };
     let texts: Vec<&str> = arguments.iter().map(|a| a.as_str()).collect(alloc)?;
-    command(rt, alloc, texts.as_slice())
+    let met = &Met::new();
+    let (_, status) = command(
+        rt,
+        alloc,
+        met,
+        BySystem { rt, alloc, met },
+        texts.as_slice(),
+    );
+    Ok(ExitCode::from(status?))
 }
 
 fn main(rt: HostRuntime) -> ExitCode {

@@ -1,6 +1,7 @@
 //! What a command that makes a file is given.
 
 ghost use Rattle.std.specs.Prelude.{◌≡◌};
+ghost use Rattle.ffv1.specs.Orders.{making};
 
 use crate::told::Paths;
 
@@ -28,10 +29,7 @@ impl<'a> Making<'a> {
 
     /// Puts together what an order says of its files.
     pub fn new(input: &'a str, output: &'a str, no_clobber: bool, progress: bool) -> Making<'a>
-        ensures input { result.input ≡ input.entry }
-        ensures output { result.output ≡ output.entry }
-        ensures no_clobber { result.no_clobber ≡ no_clobber }
-        ensures progress { result.progress ≡ progress }
+        ensures { result ≡ making input.entry output.entry no_clobber progress }
     {
         Making {
             input,

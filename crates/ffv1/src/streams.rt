@@ -1,0 +1,197 @@
+//! What commands do with a reader and a writer, once their files are open: all at the profile
+//! `Wide`.
+
+ghost use Rattle.std.specs.Prelude.{◌≡◌, ◌≢◌, IfErr, IfOk, MatchResult, None, Some, false, true};
+ghost use Rattle.ffv1_wire.specs.Passage.{passage};
+ghost use Rattle.ffv1_pack.specs.Pack.{Packs, RefusesPack};
+ghost use Rattle.ffv1_pack.specs.PackMatroska.{PacksMatroska, RefusesMatroska};
+ghost use Rattle.ffv1_pack.specs.TextMd5.{TextDone, TextStops};
+ghost use Rattle.ffv1_unpack.specs.Check.{IsCheckFault};
+ghost use Rattle.ffv1_unpack.specs.FrameMd5.{Md5RangeDone, Md5RangeStops};
+ghost use Rattle.ffv1_unpack.specs.Show.{IsShowFault, ShowDone, ShowStops};
+ghost use Rattle.ffv1_unpack.specs.Unpack.{UnpackRangeDone, UnpackRangeStops};
+ghost use Rattle.ffv1_video.specs.Profiles.{greatest_depth};
+ghost use Rattle.ffv1_words.specs.Order.{leaves_out};
+ghost use Rattle.ffv1_video.specs.declared.profile.Profile.TheVariants as profile;
+ghost use Rattle.ffv1.specs.Statuses.{IsAnyFault, IsFault};
+ghost use Rattle.ffv1.specs.Streams.{Checks};
+
+use crate::refusal::Refusal;
+use ffv1_engine::{
+    Fault, Packed, PackedMatroska, Profile, check_all, check_all_range, check_range,
+    framemd5_range, framemd5_text, pack, pack_matroska, show, unpack_range,
+};
+use ffv1_wire::{ByteIn, ByteOut, PatchOut};
+use ffv1_words::{Choice, FrameRange};
+use std::alloc::Global;
+
+/// Whether a range may leave out frames of a file.
+fn is_part(range: FrameRange) -> bool
+    ensures { result ≡ leaves_out range }
+{
+    range.first != 0 || range.count.is_some()
+}
+
+/// Decodes frames of a file, and writes what each took, and with `place` where one is refused; with
+/// `all` also those after one that is refused, and if no frame is left out also what is left of a
+/// Matroska file after a fault of its own. Answers the first fault of those.
+pub fn check_stream<R: ByteIn, W: ByteOut>(
+    alloc: Global,
+    input: &mut R,
+    output: &mut W,
+    all: bool,
+    place: bool,
+    range: FrameRange,
+) -> Result<Option<Fault>, Fault>
+    ensures checks { Checks all place range (passage R.remaining R.failures input.old input.new)
+        (passage W.contents W.failures output.old output.new) result }
+    ensures none { all ≡ false → IfOk result (λ first. first ≡ None) }
+    ensures own { IfErr result (IsCheckFault profile.Wide) }
+{
+    if !all {
+        check_range(alloc, Profile::Wide, input, output, place, range)?;
+        return Ok(None);
+    }
+    if is_part(range) {
+        return check_all_range(alloc, Profile::Wide, input, output, place, range);
+    }
+    check_all(alloc, Profile::Wide, input, output, place)
+}
+
+/// Writes what a file says, and with `cost` what its frames cost.
+pub fn show_stream<R: ByteIn, W: ByteOut>(
+    alloc: Global,
+    input: &mut R,
+    output: &mut W,
+    cost: bool,
+) -> Result<(), Refusal>
+    ensures shows { MatchResult result
+        (λ _. ShowDone profile.Wide (passage R.remaining R.failures input.old input.new)
+        (passage W.contents W.failures output.old output.new) cost)
+        (IsFault (ShowStops profile.Wide (passage R.remaining R.failures input.old input.new)
+        (passage W.contents W.failures output.old output.new) cost)) }
+    ensures own { IfErr result (IsFault (IsShowFault profile.Wide cost)) }
+    ensures fault { IfErr result IsAnyFault }
+{
+    match show(alloc, Profile::Wide, input, output, cost) {
+        Ok(()) => Ok(()),
+        Err(fault) => Err(Refusal::Fault(fault)),
+    }
+}
+
+/// Writes the MD5 of each picture of a file, or of a text, which begins with `P` or `Y`. Only
+/// frames of a file are left out.
+pub fn framemd5_stream<R: ByteIn, W: ByteOut>(
+    alloc: Global,
+    first: Option<u8>,
+    input: &mut R,
+    output: &mut W,
+    range: FrameRange,
+) -> Result<(), Refusal>
+    ensures images { leaves_out range ≡ false → first ≡ Some 80 → MatchResult result
+        (λ _. TextDone (greatest_depth profile.Wide)
+        (passage R.remaining R.failures input.old input.new)
+        (passage W.contents W.failures output.old output.new))
+        (IsFault (TextStops (greatest_depth profile.Wide)
+        (passage R.remaining R.failures input.old input.new)
+        (passage W.contents W.failures output.old output.new))) }
+    ensures text { leaves_out range ≡ false → first ≡ Some 89 → MatchResult result
+        (λ _. TextDone (greatest_depth profile.Wide)
+        (passage R.remaining R.failures input.old input.new)
+        (passage W.contents W.failures output.old output.new))
+        (IsFault (TextStops (greatest_depth profile.Wide)
+        (passage R.remaining R.failures input.old input.new)
+        (passage W.contents W.failures output.old output.new))) }
+    ensures file { first ≢ Some 80 → first ≢ Some 89 → MatchResult result
+        (λ _. Md5RangeDone profile.Wide range
+        (passage R.remaining R.failures input.old input.new)
+        (passage W.contents W.failures output.old output.new))
+        (IsFault (Md5RangeStops profile.Wide range
+        (passage R.remaining R.failures input.old input.new)
+        (passage W.contents W.failures output.old output.new))) }
+    ensures frames { leaves_out range ≡ true → MatchResult result
+        (λ _. Md5RangeDone profile.Wide range
+        (passage R.remaining R.failures input.old input.new)
+        (passage W.contents W.failures output.old output.new))
+        (IsFault (Md5RangeStops profile.Wide range
+        (passage R.remaining R.failures input.old input.new)
+        (passage W.contents W.failures output.old output.new))) }
+    ensures fault { IfErr result IsAnyFault }
+{
+    if !is_part(range) && (first == Some(b'P') || first == Some(b'Y')) {
+        return match framemd5_text(alloc, Profile::Wide, input, output) {
+            Ok(()) => Ok(()),
+            Err(fault) => Err(Refusal::Fault(fault)),
+        };
+    }
+    match framemd5_range(alloc, Profile::Wide, input, output, range) {
+        Ok(()) => Ok(()),
+        Err(fault) => Err(Refusal::Fault(fault)),
+    }
+}
+
+/// Unpacks frames of a file into a text of their pictures. Answers the writer, and how many
+/// pictures there are.
+pub fn unpack_stream<R: ByteIn, W: ByteOut>(
+    alloc: Global,
+    input: &mut R,
+    output: W,
+    range: FrameRange,
+) -> (W, Result<u64, Refusal>)
+    ensures unpacks { MatchResult result.1
+        (UnpackRangeDone profile.Wide range (passage R.remaining R.failures input.old input.new)
+        (passage W.contents W.failures output result.0))
+        (IsFault (UnpackRangeStops profile.Wide range
+        (passage R.remaining R.failures input.old input.new)
+        (passage W.contents W.failures output result.0))) }
+    ensures fault { IfErr result.1 IsAnyFault }
+{
+    let (output, answer) = unpack_range(alloc, Profile::Wide, input, output, range);
+    match answer {
+        Ok(count) => (output, Ok(count)),
+        Err(fault) => (output, Err(Refusal::Fault(fault))),
+    }
+}
+
+/// Packs a video into AVI.
+pub fn pack_stream<R: ByteIn, W: ByteOut>(
+    alloc: Global,
+    input: &mut R,
+    output: &mut W,
+    choice: &Choice,
+) -> Result<Packed, Refusal>
+    ensures packs { MatchResult result
+        (Packs profile.Wide choice.now (passage R.remaining R.failures input.old input.new)
+        (passage W.contents W.failures output.old output.new))
+        (IsFault (RefusesPack profile.Wide choice.now
+        (passage R.remaining R.failures input.old input.new)
+        (passage W.contents W.failures output.old output.new))) }
+    ensures fault { IfErr result IsAnyFault }
+{
+    match pack(alloc, Profile::Wide, input, output, choice) {
+        Ok(packed) => Ok(packed),
+        Err(fault) => Err(Refusal::Fault(fault)),
+    }
+}
+
+/// Packs a video into Matroska.
+pub fn pack_clusters<R: ByteIn, W: PatchOut>(
+    alloc: Global,
+    input: &mut R,
+    output: &mut W,
+    choice: &Choice,
+) -> Result<PackedMatroska, Refusal>
+    ensures packs { MatchResult result
+        (PacksMatroska profile.Wide choice.now
+        (passage R.remaining R.failures input.old input.new)
+        (passage W.contents W.failures output.old output.new))
+        (IsFault (RefusesMatroska profile.Wide choice.now
+        (passage R.remaining R.failures input.old input.new)
+        (passage W.contents W.failures output.old output.new))) }
+    ensures fault { IfErr result IsAnyFault }
+{
+    match pack_matroska(alloc, Profile::Wide, input, output, choice) {
+        Ok(packed) => Ok(packed),
+        Err(fault) => Err(Refusal::Fault(fault)),
+    }
+}
