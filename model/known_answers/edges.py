@@ -3,8 +3,8 @@
 sample: where their parts begin, which records are accepted, and what their payloads decode to. FFmpeg
 5.1.9 decodes each payload that is good to the same picture; the places of faults, and what was handed
 over before, were worked out apart from the model."""
-import commands
 import ffv1
+import stream_lines
 from known_answers.case import fault_of
 
 # samples of luma, parts, factor: where each coded part begins in a plane of chroma and how long it is;
@@ -297,6 +297,6 @@ def checks():
             yield f"record of {name}, {is_wide}", read(record, width, height, is_wide), wanted
         if held is not None:
             config = ffv1.read_record(bytes.fromhex(record), width, height, wide=True)
-            yield f"held of {name}", commands.held(config) + (1025,), held
+            yield f"held of {name}", stream_lines.held(config) + (1025,), held
     for name, *shape, payload, place, lines, decisions, room in FRAMES:
         yield f"frame: {name}", decoded(frame_of(*shape), payload, room), (place, lines, decisions)

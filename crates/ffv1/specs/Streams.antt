@@ -8,8 +8,8 @@ use Rattle.ffv1_unpack.specs.CheckAll.{AllDone, AllStops, CheckAllRangeDone, Che
 use Rattle.ffv1_video.specs.declared.fault.Fault.{Fault}
 use Rattle.ffv1_video.specs.declared.profile.Profile.TheVariants as profile
 
--- all frames, also those behind one that is refused, and the answer is the first fault; if none is
--- left out, also what is behind a fault of the file itself
+-- all frames, also those after one that is refused, and the answer is the first fault; if none is
+-- left out, also what comes after a fault of the file itself
 abbrev pub JudgesBy : Bool → Bool → FrameRange → Passage → Passage →
     Result (Option Fault) Fault → Type 0
 JudgesBy false place range input output result = MatchResult result

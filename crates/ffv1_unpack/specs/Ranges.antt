@@ -1,5 +1,5 @@
 -- Playing some frames of a file that come one after the other: those before them are read and not
--- decoded, and those behind them are not read.
+-- decoded, and those after them are not read.
 use Rattle.std.specs.Prelude.{◌≡◌, ◌⊎◌, ℕ, ◌+◌, ◌<◌, List, [], ◌++◌, length, None}
 use Rattle.std.specs.Io.KnownBytes.{Appends}
 use Rattle.ffv1_range.specs.Counts.{saturated}
@@ -66,7 +66,7 @@ module _ (profile : Profile) (first : ℕ) (input : Passage) (passed : ℕ) wher
 module _ (profile : Profile) (range : FrameRange) (text : Stream → List Frame → List ℕ)
     (input output : Passage) where
   -- the frames of the range, at least one, were decoded, and their text was written; if there are
-  -- as many as it names, nothing behind them was read
+  -- as many as it names, nothing after them was read
   pub record PlaysRange : Type 0 where
     pub stream : Stream
     pub frames : List Frame

@@ -134,7 +134,7 @@ fn open_range<R: ByteIn, W: ByteOut, A: Allocator + Copy>(
 /// Decodes the frames of a range of a file that the profile reads, and writes a line of each as
 /// soon as it is decoded, and at the end how many of the range there were, as `check` does. The
 /// numbers are those of the file. The frames before the range are read, and not decoded. If there
-/// are as many as the range names, nothing behind them is read.
+/// are as many as the range names, nothing after them is read.
 ///
 /// The faults are those of `check`, as far as the file is read; `NoFrames` is also a file that has
 /// no frame of the range.
@@ -272,7 +272,7 @@ pub fn check_all<R: ByteIn, W: ByteOut, A: Allocator + Copy>(
 /// is refused, as `check_all` does: a frame that is refused is one of the range. The numbers are
 /// those of the file, the last line has the frames of the range, and how many of them are refused.
 /// The frames before the range are read, and not decoded. If there are as many as the range names,
-/// nothing behind them is read.
+/// nothing after them is read.
 ///
 /// Answers the fault of the first payload of the range that is refused, and None if none is. The
 /// first fault of the file itself ends it, in a Matroska file, too, which `check_all` reads on. The

@@ -286,7 +286,7 @@ fn open_range<R: ByteIn, A: Allocator + Copy>(
 /// Decodes the frames of a range of a file that the profile reads, and writes of their pictures
 /// what `framemd5` writes: the head of the first one of the range, and a line for each frame as
 /// soon as it is decoded, with its number in the file. The frames before the range are read, and
-/// not decoded. If there are as many as the range names, nothing behind them is read.
+/// not decoded. If there are as many as the range names, nothing after them is read.
 ///
 /// The faults are those of `framemd5`, as far as the file is read; `NoFrames` is also a file that
 /// has no frame of the range.

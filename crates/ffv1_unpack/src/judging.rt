@@ -102,7 +102,7 @@ pub(crate) fn write_refusal<W: ByteOut, A: Allocator>(
     Ok(())
 }
 
-/// What is told of the frame that is judged next.
+/// What is told of the next frame to judge.
 #[derive(Clone, Copy)]
 struct Judging {
     /// Which places of faults are written.

@@ -26,7 +26,7 @@ pub fn range_has_the_payloads_of_the_file()
         × (has_more most (length some) ≡ true → more ≡ []) }
 {}
 
-/// What is written of frames in two parts, the second with the numbers behind the first, is what is
+/// What is written of frames in two parts, the second with the numbers after the first, is what is
 /// written of them in one, but for heads and last lines.
 pub fn parts_make_up_the_whole()
     ensures lines { (kind : FrameLine) (c : Configuration) (i : ℕ) (xs ys : List Frame) →

@@ -168,7 +168,7 @@ fn open_unpacking_range<R: ByteIn, A: Allocator + Copy>(
 /// Decodes the frames of a range of a file that the profile reads, and writes their pictures as
 /// `unpack` does: the header of YUV4MPEG2 says what the first frame of the range says, and
 /// `FormatChanged` is by that. The frames before the range are read, and not decoded. If there are
-/// as many as the range names, nothing behind them is read. Answers how many frames of the range
+/// as many as the range names, nothing after them is read. Answers how many frames of the range
 /// there were, at most 2^64 - 1, and hands the writer back.
 ///
 /// The faults are those of `unpack`, as far as the file is read; `NoFrames` is also a file that has
