@@ -225,6 +225,8 @@ impl<A: Allocator> FileReader<A> {
             (length frame.new.items) result }
         ensures again { (f : FileFault) → self.old.fault ≡ Some f → (result ≡ Err f)
             × (self.new ≡ self.old) × (frame.new.items ≡ []) × (input.new ≡ input.old) }
+        ensures capacity { (f : FileFault) → self.old.fault ≡ Some f →
+            vec_capacity frame.new ≡ vec_capacity frame.old }
         ensures kept { self.new.room ≡ self.old.room }
         ensures located { self.old.fault ≡ None → (scope : Scope) (text : Option (List ℕ)) →
             Reached scope text (R.remaining input.old) self.old →

@@ -123,6 +123,8 @@ fn read_tracks<R: ByteIn, A: Allocator>(
         (length content.new.items) result }
     ensures grown { OnOk result (RoomRead (R.remaining input.old) (R.remaining input.new)
         (vec_capacity config.old) (vec_capacity config.new)) }
+    ensures kept { OnOk result (RoomRead (R.remaining input.old) (R.remaining input.new)
+        (vec_capacity content.old) (vec_capacity content.new)) }
 {
     keep_tracks(input, size, content, config)?;
     let track = read_track(content.as_slice())?;
@@ -170,6 +172,8 @@ fn visit<R: ByteIn, A: Allocator>(
         (passage R.remaining R.failures input.old input.new) result }
     ensures grown { OnOk result (RoomRead (R.remaining input.old) (R.remaining input.new)
         (vec_capacity config.old) (vec_capacity config.new)) }
+    ensures kept { OnOk result (RoomRead (R.remaining input.old) (R.remaining input.new)
+        (vec_capacity content.old) (vec_capacity content.new)) }
 {
     if found.is_none() && element.ident == TRACKS {
         let numbers = read_tracks(input, element.size, content, config)?;
@@ -207,6 +211,8 @@ fn read_beginning<R: ByteIn, A: Allocator>(
         (passage R.remaining R.failures input.old input.new) result }
     ensures grown { OnOk result (RoomRead (R.remaining input.old) (R.remaining input.new)
         (vec_capacity config.old) (vec_capacity config.new)) }
+    ensures kept { OnOk result (RoomRead (R.remaining input.old) (R.remaining input.new)
+        (vec_capacity content.old) (vec_capacity content.new)) }
     ensures from { BeginsFrom place (passage R.remaining R.failures input.old input.new)
         config.new.items result here.new }
 {
@@ -232,7 +238,7 @@ fn read_beginning<R: ByteIn, A: Allocator>(
 
 /// Reads a file, whose first byte may have been read, up to where its frames begin: the size of its
 /// Segment, what its track says, with the record in place of what the vector `config` has, and the
-/// place. The room of that vector grows by at most as many bytes as are read.
+/// place. The room of both vectors grows by at most as many bytes as are read.
 #[tactic(auto, unfolding(crate::specs::Opened::open_read))]
 pub(crate) fn read_opening<R: ByteIn, A: Allocator>(
     first: Option<u8>,
@@ -246,6 +252,8 @@ pub(crate) fn read_opening<R: ByteIn, A: Allocator>(
         (passage_with first R.remaining R.failures input.old input.new) result }
     ensures grown { OnOk result (RoomRead (bytes_with first (R.remaining input.old))
         (R.remaining input.new) (vec_capacity config.old) (vec_capacity config.new)) }
+    ensures kept { OnOk result (RoomRead (bytes_with first (R.remaining input.old))
+        (R.remaining input.new) (vec_capacity content.old) (vec_capacity content.new)) }
     ensures from { OpensFrom (passage_with first R.remaining R.failures input.old input.new)
         config.new.items result offset.new }
 {

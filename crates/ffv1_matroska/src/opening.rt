@@ -1,10 +1,12 @@
 //! The beginning of a file: the header of EBML, and that of the Segment.
 
 ghost use Rattle.std.specs.Prelude.{◌≡◌, ◌≤◌, ◌<◌, ◌^◌, ℕ, List, Option, IfOk, OnOk, length};
+ghost use Rattle.std.specs.Vec.{vec_capacity};
 ghost use Rattle.ffv1_wire.specs.Passage.{passage};
 ghost use Rattle.ffv1_reads.specs.First.{bytes_with, passage_with};
 ghost use Rattle.ffv1_reads.specs.Offsets.{ReadsOn};
 ghost use Rattle.ffv1_reads.specs.Reads.{Answers};
+ghost use Rattle.ffv1_reads.specs.Room.{HasRoom, RoomRead};
 ghost use Rattle.ffv1_ebml.specs.Vints.{number_of};
 ghost use Rattle.ffv1_matroska.specs.Opened.{ebml_read};
 ghost use Rattle.ffv1_matroska.specs.Opening.{content_kept, header_in, ident_read};
@@ -113,7 +115,7 @@ fn read_top_size<R: ByteIn>(input: &mut R, offset: &mut u64) -> Result<Option<u6
     Ok(size_with(8 - data.left, data.value))
 }
 
-/// Reads content in place of what the vector has.
+/// Reads content in place of what the vector has, which then has room as `ffv1_reads::fill` says.
 ///
 /// `BadElement` if its size is unknown, `ChunkTooLong` if it is above 67108864 bytes, of
 /// which no byte is read; then as `fill`.
@@ -123,8 +125,10 @@ fn keep_content<R: ByteIn, A: Allocator>(
     size: Option<u64>,
     content: &mut Vec<u8, A>,
 ) -> Result<(), FileFault>
-    ensures { Answers (λ (_ : Unit {0}). content.new.items) (content_kept size)
+    ensures answer { Answers (λ (_ : Unit {0}). content.new.items) (content_kept size)
         (passage R.remaining R.failures input.old input.new) result }
+    ensures kept { HasRoom (vec_capacity content.old) (vec_capacity content.new)
+        (length content.new.items) result }
 {
     let Some(size) = size else {
         return Err(FileFault::BadElement);
@@ -136,7 +140,7 @@ fn keep_content<R: ByteIn, A: Allocator>(
 }
 
 /// Reads the header of EBML, of which the first byte may have been read; it is kept in place of
-/// what the vector has.
+/// what the vector has, whose room grows by at most as many bytes as are read.
 ///
 /// `NotMatroska` if the file begins otherwise, then as `read_top_size`, `keep_content` and
 /// `judge_header`. Its bytes are counted if there is no fault.
@@ -151,6 +155,8 @@ pub(crate) fn read_ebml<R: ByteIn, A: Allocator>(
         (passage_with first R.remaining R.failures input.old input.new) result }
     ensures counted { IfOk result (λ u. ReadsOn ebml_read (bytes_with first (R.remaining input.old))
         (R.remaining input.new) u offset.old offset.new) }
+    ensures kept { OnOk result (RoomRead (bytes_with first (R.remaining input.old))
+        (R.remaining input.new) (vec_capacity content.old) (vec_capacity content.new)) }
 {
     read_ident(first, input, EBML)?;
     *offset = offset.saturating_add(4);

@@ -190,7 +190,8 @@ impl<A: Allocator> MatroskaReader<A> {
     /// if a CRC-32 is not the sum, which is known at the end of the element: of a Cluster, before
     /// the frame is given that ends it. `Read` if a read failed, `OutOfMemory`. After a fault the
     /// vector holds a beginning of the frame, and each further call answers the fault again,
-    /// empties the vector and reads nothing. The vector has room as `ffv1_reads::fill` says.
+    /// empties the vector and reads nothing. The vector has room as `ffv1_reads::fill` says; it
+    /// keeps its room in a call that reads nothing.
     pub fn next_frame<R: ByteIn>(
         &mut self,
         input: &mut R,
@@ -217,6 +218,10 @@ impl<A: Allocator> MatroskaReader<A> {
             × (input.new ≡ input.old) }
         ensures again { (f : FileFault) → self.old.fault ≡ Some f → (result ≡ Err f)
             × (self.new ≡ self.old) × (frame.new.items ≡ []) × (input.new ≡ input.old) }
+        ensures capacity { (f : FileFault) → self.old.fault ≡ Some f →
+            vec_capacity frame.new ≡ vec_capacity frame.old }
+        ensures idle { self.old.fault ≡ None → self.old.place ≡ ended →
+            vec_capacity frame.new ≡ vec_capacity frame.old }
         ensures kept { self.new.room ≡ self.old.room }
         ensures offset { self.old.fault ≡ None → OffsetAfter self.old
             (passage R.remaining R.failures input.old input.new) result self.new }

@@ -39,6 +39,7 @@ loop-element-init g c = (
   0,
   reads_none spot_taken (InSegment None c.args.place) _,
   λ flat. (flat, omega arith),
+  room_none _ _,
 )
 
 pub returns-in_err-element-clause-answer : goal.returns-in_err-element-clause-answer
@@ -142,6 +143,9 @@ loop-element-preserved g c =
       counts_more inv.5 step,
       λ flat.
           (let before = inv.6 flat in (refl, omega (arith, left, before.0, before.1))),
+      room_then inv.7
+          (room_then (room_or_none (header_read here) _ _ _ _ c.in_ok-element.ensures.answer.1)
+          c.in_ok-found.ensures.kept),
     )
 
 pub returns-in_default-found-2-clause-answer : goal.returns-in_default-found-2-clause-answer
@@ -173,6 +177,14 @@ returns-then-element-eq-CLUSTER-clause-grown g c = room_then c.loop-element.inva
 
 pub returns-clause-grown : goal.returns-clause-grown
 returns-clause-grown g c = room_then c.loop-element.invariant.3
+    (room_or_none (header_read c.loop-element.here) _ _ _ _ c.in_ok-element.ensures.answer.1)
+
+pub returns-then-element-eq-CLUSTER-clause-kept : goal.returns-then-element-eq-CLUSTER-clause-kept
+returns-then-element-eq-CLUSTER-clause-kept g c = room_then c.loop-element.invariant.7
+    (room_or_none (header_read c.loop-element.here) _ _ _ _ c.in_ok-element.ensures.answer.1)
+
+pub returns-clause-kept : goal.returns-clause-kept
+returns-clause-kept g c = room_then c.loop-element.invariant.7
     (room_or_none (header_read c.loop-element.here) _ _ _ _ c.in_ok-element.ensures.answer.1)
 
 pub returns-in_err-element-clause-from : goal.returns-in_err-element-clause-from

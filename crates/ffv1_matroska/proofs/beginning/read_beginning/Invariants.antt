@@ -23,6 +23,8 @@ invariant-loop-element g l =
     (InSegment (found_kept l.found l.config.items) l.here) n
     × (l.fn.place.cluster + l.fn.place.group ≡ 0 → (l.here.cluster + l.here.group ≡ 0) ×
     (n + amount l.here ≡ amount l.fn.place))
+    × RoomRead (g.R.ByteIn.remaining l.initial.input) (g.R.ByteIn.remaining l.input)
+    (vec_capacity l.initial.content) (vec_capacity l.content)
 
 abbrev pub decreases-loop-element : goal.decreases-loop-element
 decreases-loop-element g l = amount l.here

@@ -76,6 +76,10 @@ pub returns-clause-grown : goal.returns-clause-grown
 returns-clause-grown g c = room_then (room_kept _ c.in_ok-read_ebml.ensures.answer.1)
     (room_then (room_kept _ c.in_ok-size.ensures.answer.1) c.in_ok-numbers.ensures.grown)
 
+pub returns-clause-kept : goal.returns-clause-kept
+returns-clause-kept g c = room_then c.in_ok-read_ebml.ensures.kept
+    (room_then (room_kept _ c.in_ok-size.ensures.answer.1) c.in_ok-numbers.ensures.kept)
+
 pub returns-in_err-read_ebml-clause-from : goal.returns-in_err-read_ebml-clause-from
 returns-in_err-read_ebml-clause-from g c =
     let p = err_from_is_err_and c.from_residual.result c.from_residual.ensures.1 in

@@ -23,3 +23,8 @@ returns-clause-grown g c =
     let most : vec_capacity c.push_bytes.new.config ≤ max (vec_capacity c.args.config.now)
     (length c.keep_tracks.new.content.items) = grind (arith, common_steps) in
     content_room c.args.size _ _ _ _ _ c.in_ok-keep_tracks.ensures.answer.1 most
+
+pub returns-clause-kept : goal.returns-clause-kept
+returns-clause-kept g c =
+    let content = c.in_ok-keep_tracks.ensures in
+    content_room c.args.size _ _ _ _ _ content.answer.1 content.kept
