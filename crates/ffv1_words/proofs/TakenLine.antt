@@ -210,12 +210,14 @@ module _ (lists : OptionWords) (are : AreOptionWords lists) where
       let flag = flag_named (rows_after check.rules [] rest) (codes "place") place.text place.is place.passes in
       let short = value_left check rest (rule_at check 3) refl refl (inr (inr (inr (inl refl)))) refl e in
       let quiet = flag_named (rows_after check.rules [] rest) (codes "quiet") short.text short.is short.passes in
-      let range = frames_named check rest refl refl (inr (inr (inr (inr (inr (inl refl)))))) (inr (inr (inr (inr (inr (inr (inl refl))))))) e in
-      let told = value_left check rest (rule_at check 7) refl refl (inr (inr (inr (inr (inr (inr (inr (inl refl)))))))) refl e in
+      let object = value_left check rest (rule_at check 4) refl refl (inr (inr (inr (inr (inl refl))))) refl e in
+      let json = flag_named (rows_after check.rules [] rest) (codes "json") object.text object.is object.passes in
+      let range = frames_named check rest refl refl (inr (inr (inr (inr (inr (inr (inl refl))))))) (inr (inr (inr (inr (inr (inr (inr (inl refl)))))))) e in
+      let told = value_left check rest (rule_at check 8) refl refl (inr (inr (inr (inr (inr (inr (inr (inr (inl refl))))))))) refl e in
       let progress = flag_named (rows_after check.rules [] rest) (codes "progress") told.text told.is told.passes in
       let list = first_of (codes "against") (rows_after check.rules [] rest) in (
-        order.Check (paths input.texts) all.0 flag.0 quiet.0 progress.0 (option_map path list) range.0,
-        (refl, input.all ∙ ap Some (texts_of input.texts), all.1, flag.1, quiet.1, progress.1, text_of list, range.1),
+        order.Check (paths input.texts) all.0 flag.0 quiet.0 json.0 progress.0 (option_map path list) range.0,
+        (refl, input.all ∙ ap Some (texts_of input.texts), all.1, flag.1, quiet.1, json.1, progress.1, text_of list, range.1),
       )
 
   abbrev show : Shape
@@ -229,8 +231,21 @@ module _ (lists : OptionWords) (are : AreOptionWords lists) where
       let flag = flag_named (rows_after show.rules [] rest) (codes "cost") cost.text cost.is cost.passes in
       (order.Show (paths input.texts) flag.0, (refl, input.all ∙ ap Some (texts_of input.texts), flag.1))
 
+  abbrev info : Shape
+  info = command 4
+
+  info_named : NamesOrder info
+  unfolding clap_on_literals
+  info_named rest e =
+      let input = value_left info rest (rule_at info 0) refl refl (inl refl) refl e in
+      let on = value_left info rest (rule_at info 1) refl refl (inr (inl refl)) refl e in
+      let count = flag_named (rows_after info.rules [] rest) (codes "count") on.text on.is on.passes in
+      let object = value_left info rest (rule_at info 2) refl refl (inr (inr (inl refl))) refl e in
+      let json = flag_named (rows_after info.rules [] rest) (codes "json") object.text object.is object.passes in
+      (order.Info (paths input.texts) count.0 json.0, (refl, input.all ∙ ap Some (texts_of input.texts), count.1, json.1))
+
   abbrev framemd5 : Shape
-  framemd5 = command 4
+  framemd5 = command 5
 
   framemd5_named : NamesOrder framemd5
   unfolding clap_on_literals
@@ -240,7 +255,7 @@ module _ (lists : OptionWords) (are : AreOptionWords lists) where
       (order.FrameMd5 (paths input.texts) range.0, (refl, input.all ∙ ap Some (texts_of input.texts), range.1))
 
   abbrev trial : Shape
-  trial = command 5
+  trial = command 6
 
   trial_named : NamesOrder trial
   unfolding clap_on_literals
@@ -251,7 +266,7 @@ module _ (lists : OptionWords) (are : AreOptionWords lists) where
   -- ---- the line
 
   abbrev help : Shape
-  help = command 6
+  help = command 7
 
   help_asked : (word : Text) → answers_to word (label_of help) ≡ true → bytes_eq word (codes "help") ≡ true
   unfolding clap_on_literals
@@ -265,11 +280,12 @@ module _ (lists : OptionWords) (are : AreOptionWords lists) where
   named s word (inr (inl is)) met no_help = subst NamesOrder is unpack_named
   named s word (inr (inr (inl is))) met no_help = subst NamesOrder is check_named
   named s word (inr (inr (inr (inl is)))) met no_help = subst NamesOrder is show_named
-  named s word (inr (inr (inr (inr (inl is))))) met no_help = subst NamesOrder is framemd5_named
-  named s word (inr (inr (inr (inr (inr (inl is)))))) met no_help = subst NamesOrder is trial_named
-  named s word (inr (inr (inr (inr (inr (inr (inl is))))))) met no_help =
+  named s word (inr (inr (inr (inr (inl is))))) met no_help = subst NamesOrder is info_named
+  named s word (inr (inr (inr (inr (inr (inl is)))))) met no_help = subst NamesOrder is framemd5_named
+  named s word (inr (inr (inr (inr (inr (inr (inl is))))))) met no_help = subst NamesOrder is trial_named
+  named s word (inr (inr (inr (inr (inr (inr (inr (inl is)))))))) met no_help =
       absurd (true≢false (sym (help_asked word (subst (λ (x : Shape). answers_to word (label_of x) ≡ true) (sym is) met)) ∙ no_help))
-  named s word (inr (inr (inr (inr (inr (inr (inr none))))))) met no_help = absurd none
+  named s word (inr (inr (inr (inr (inr (inr (inr (inr none)))))))) met no_help = absurd none
 
   -- a line that clap takes names an order
   pub taken_names : (words : List Text) → takes (line_app lists) words ≡ true → (o : Order) × Names o (subcommand_of (line_app lists) words)

@@ -123,15 +123,19 @@ unpack_app = with_progress (with_no_clobber (with_range (two_files (codes "unpac
 
 abbrev pub check_app : App
 check_app = with_progress (with_range
-    (with_rule (with_rule (with_rule (with_rule (some_files (codes "check"))
+    (with_rule (with_rule (with_rule (with_rule (with_rule (some_files (codes "check"))
     (flag_rule (codes "all"))) (flag_rule (codes "place"))) (flag_rule (codes "quiet")))
-    (path_rule (codes "against"))))
+    (flag_rule (codes "json"))) (path_rule (codes "against"))))
 
 abbrev pub framemd5_app : App
 framemd5_app = with_range (some_files (codes "framemd5"))
 
 abbrev pub show_app : App
 show_app = with_rule (some_files (codes "show")) (flag_rule (codes "cost"))
+
+abbrev pub info_app : App
+info_app = with_rule (with_rule (some_files (codes "info")) (flag_rule (codes "count")))
+    (flag_rule (codes "json"))
 
 -- the program, which has a version, wants a command, and answers with its help if there are no
 -- words
@@ -154,11 +158,14 @@ abbrev pub looks_app : OptionWords → App
 looks_app words =
     with_subcommand (with_subcommand (files_app words) check_app.top) show_app.top
 
+-- and with those that tell what some are
+abbrev pub tells_app : OptionWords → App
+tells_app words =
+    with_subcommand (with_subcommand (looks_app words) info_app.top) framemd5_app.top
+
 -- the whole line, by the words that options take
 abbrev pub line_app : OptionWords → App
-line_app words =
-    with_subcommand (with_subcommand (looks_app words)
-    framemd5_app.top) (one_file (codes "trial")).top
+line_app words = with_subcommand (tells_app words) (one_file (codes "trial")).top
 
 -- the words that `--contexts` takes
 abbrev pub AreContexts : Words → Type 0

@@ -10,7 +10,8 @@ ghost use Rattle.ffv1_words.specs.CommandLine.{with_codec_id, with_colour, with_
 ghost use Rattle.ffv1_words.specs.CommandLine.{with_no_clobber, with_pace, with_progress};
 ghost use Rattle.ffv1_words.specs.CommandLine.{with_slices, with_verify};
 ghost use Rattle.ffv1_words.specs.CommandLine.{pack_app, unpack_app, check_app, show_app, top_app};
-ghost use Rattle.ffv1_words.specs.CommandLine.{files_app, looks_app, line_app};
+ghost use Rattle.ffv1_words.specs.CommandLine.{files_app, info_app, looks_app, line_app};
+ghost use Rattle.ffv1_words.specs.CommandLine.{tells_app};
 ghost use Rattle.ffv1_words.specs.CommandLine.{AreOptionWords};
 ghost use Rattle.ffv1_words.specs.CommandLine.{OnLine};
 ghost use Rattle.ffv1_words.specs.Order.{IsOrder, IsRefused, IsRefusedIfTaken, is_in_conflict};
@@ -272,11 +273,13 @@ fn check_command<'a>(alloc: Global) -> Result<Command<'a>, AllocError>
     let all = "Go on after a frame that is refused, and count those";
     let place = "Say where: slice, plane, line and column of a frame, or the byte of the file";
     let quiet = "Print one line of each file: that it is sound, or its first fault and the place";
+    let json = "Print one object of JSON of each file, on a line, in place of what else it tells";
     let against = "Compare each picture's MD5 with this list, of FFmpeg's framemd5";
     let command = some_files_command(alloc, "check", about, CODED_FILES)?
         .arg(flag_arg(alloc, "all", all))?
         .arg(flag_arg(alloc, "place", place))?
         .arg(flag_arg(alloc, "quiet", quiet))?
+        .arg(flag_arg(alloc, "json", json))?
         .arg(path_arg(alloc, "against", against))?;
     let command = add_range(alloc, command)?;
     command.arg(progress_arg(alloc))
@@ -289,6 +292,18 @@ fn show_command<'a>(alloc: Global) -> Result<Command<'a>, AllocError>
     let about = "Tell what files say of their pictures, and how much a decoder of them holds";
     let cost = "Decode all frames then, and tell what each costs";
     some_files_command(alloc, "show", about, CODED_FILES)?.arg(flag_arg(alloc, "cost", cost))
+}
+
+fn info_command<'a>(alloc: Global) -> Result<Command<'a>, AllocError>
+    ensures { IfOk result (λ c.
+        (app_of c ≡ info_app) × ((fields_of c).has_globals ≡ false)) }
+{
+    let about = "Tell what files are: container, size, rate, colours, coder, slices, other tracks";
+    let count = "Read all frames, and tell how many there are, and how long they last";
+    let json = "Print one object of JSON of each file, on a line";
+    some_files_command(alloc, "info", about, CODED_FILES)?
+        .arg(flag_arg(alloc, "count", count))?
+        .arg(flag_arg(alloc, "json", json))
 }
 
 fn framemd5_command<'a>(alloc: Global) -> Result<Command<'a>, AllocError>
@@ -347,14 +362,22 @@ fn looks_command<'a>(alloc: Global, words: OptionWords<'a>) -> Result<Command<'a
         .subcommand(show_command(alloc)?)
 }
 
+fn tells_command<'a>(alloc: Global, words: OptionWords<'a>) -> Result<Command<'a>, AllocError>
+    ensures { IfOk result (λ c.
+        (app_of c ≡ tells_app words.entry)
+        × ((fields_of c).has_globals ≡ false)) }
+{
+    looks_command(alloc, words)?
+        .subcommand(info_command(alloc)?)?
+        .subcommand(framemd5_command(alloc)?)
+}
+
 fn line_command<'a>(alloc: Global, words: OptionWords<'a>) -> Result<Command<'a>, AllocError>
     ensures { IfOk result (λ c.
         (app_of c ≡ line_app words.entry)
         × ((fields_of c).has_globals ≡ false)) }
 {
-    looks_command(alloc, words)?
-        .subcommand(framemd5_command(alloc)?)?
-        .subcommand(trial_command(alloc)?)
+    tells_command(alloc, words)?.subcommand(trial_command(alloc)?)
 }
 
 /// The words that options take.
@@ -416,13 +439,13 @@ fn read<'a>(alloc: Global, lists: OptionWords<'a>, words: &'a [&'a str]) -> Resu
 /// text for both its files other than `-`, or writes to `/dev/stdout`, `/dev/fd/1` or
 /// `/proc/self/fd/1`, if `pack` without a container writes to a name that ends in `.mov`,
 /// `.mp4`, `.mxf`, `.y4m` or `.ppm`, in letters of either case, if `pack` is given a codec ID, or
-/// something to say of colours, and does not write Matroska, or `check`, `show` or `framemd5` have
-/// `-` more than once, the list of `check` among them, `check` has a list and also `--all`,
-/// `--place` or other than one file, or `check` or `framemd5` leave out frames, and have a list or
-/// other than one file; or memory was refused. A line that clap takes names an order,
+/// something to say of colours, and does not write Matroska, or `check`, `show`, `info` or
+/// `framemd5` have `-` more than once, the list of `check` among them, `check` has a list and also
+/// `--all`, `--place` or other than one file, or `check` or `framemd5` leave out frames, and have a
+/// list or other than one file; or memory was refused. A line that clap takes names an order,
 /// and fails for want of memory and for such a conflict alone.
 ///
-/// The list of the files of `check`, `show` and `framemd5` is kept until the program ends.
+/// The list of the files of `check`, `show`, `info` and `framemd5` is kept until the program ends.
 pub fn words<'a>(alloc: Global, words: &'a [&'a str]) -> Result<Order<'a>, Error>
     ensures ok { IfOk result (λ o.
         OnLine (λ line. IsOrder line (map (λ w. w.now) words.entry.now) o)) }

@@ -357,6 +357,7 @@ fn check_order<'a>(rows: &ArgMatches<'a>, inputs: Option<&'a [&'a str]>) -> Opti
     let all = flag(rows, "all")?;
     let place = flag(rows, "place")?;
     let quiet = flag(rows, "quiet")?;
+    let json = flag(rows, "json")?;
     let progress = flag(rows, "progress")?;
     let range = range_of_frames(rows)?;
     Some(Order::Check {
@@ -364,6 +365,7 @@ fn check_order<'a>(rows: &ArgMatches<'a>, inputs: Option<&'a [&'a str]>) -> Opti
         all,
         place,
         quiet,
+        json,
         progress,
         against: path(rows, "against"),
         range,
@@ -379,6 +381,22 @@ fn show_order<'a>(rows: &ArgMatches<'a>, inputs: Option<&'a [&'a str]>) -> Optio
     let inputs = inputs?;
     let cost = flag(rows, "cost")?;
     Some(Order::Show { inputs, cost })
+}
+
+fn info_order<'a>(rows: &ArgMatches<'a>, inputs: Option<&'a [&'a str]>) -> Option<Order<'a>>
+    requires { ArePaths inputs (all_of (codes "IN") (rows_of (found_of rows.now))) }
+    ensures some { IfSome result (λ o.
+        Names o (Some (codes "info", rows_of (found_of rows.now)))) }
+    ensures none { IsNone result → NamesNone (Some (codes "info", rows_of (found_of rows.now))) }
+{
+    let inputs = inputs?;
+    let count = flag(rows, "count")?;
+    let json = flag(rows, "json")?;
+    Some(Order::Info {
+        inputs,
+        count,
+        json,
+    })
 }
 
 fn framemd5_order<'a>(rows: &ArgMatches<'a>, inputs: Option<&'a [&'a str]>) -> Option<Order<'a>>
@@ -420,6 +438,8 @@ pub fn order_of<'a>(
         check_order(rows, inputs)
     } else if name == "show" {
         show_order(rows, inputs)
+    } else if name == "info" {
+        info_order(rows, inputs)
     } else if name == "framemd5" {
         framemd5_order(rows, inputs)
     } else if name == "trial" {

@@ -155,8 +155,9 @@ impl FrameRange {
         count: None,
     };
 
-    /// Whether it may leave out frames of a file.
-    fn leaves_out(self) -> bool
+    /// Whether it may leave out frames of a file: it does not begin with the first, or it has a
+    /// number of them.
+    pub fn leaves_out(self) -> bool
         ensures { result ≡ leaves_out self }
     {
         self.first != 0 || self.count.is_some()
@@ -204,6 +205,8 @@ pub enum Order<'a> {
         place: bool,
         /// Whether to print one line of each file, in place of those of its frames.
         quiet: bool,
+        /// Whether to print an object of JSON of each file, on a line, in place of those.
+        json: bool,
         /// Whether to say how much of the file is read.
         progress: bool,
         /// The path of a list of MD5s, if the frames of the file are compared with one.
@@ -217,6 +220,15 @@ pub enum Order<'a> {
         inputs: &'a [&'a str],
         /// Whether to print the cost of its frames too.
         cost: bool,
+    },
+    /// Prints what each file is: facts of its container, its tracks, its pictures.
+    Info {
+        /// The paths of the files.
+        inputs: &'a [&'a str],
+        /// Whether its frames are read, and counted.
+        count: bool,
+        /// Whether to print an object of JSON of each file, on a line, in place of lines.
+        json: bool,
     },
     /// Prints the MD5 of each picture of each file.
     FrameMd5 {
@@ -447,7 +459,7 @@ impl<'a> Order<'a> {
                 ..
             } => check_conflict(inputs, all, place, against, range),
             Order::FrameMd5 { inputs, range } => framemd5_conflict(inputs, range),
-            Order::Show { inputs, .. } => {
+            Order::Show { inputs, .. } | Order::Info { inputs, .. } => {
                 if has_hyphens(inputs) {
                     return Some(READ_ONCE);
                 }

@@ -12,8 +12,10 @@ returns c =
     c.flag_arg-2.ensures.own in
     let quiet = added _ _ _ _ _ c.in_ok-arg-3.ensures place c.flag_arg-3.ensures.rule
     c.flag_arg-3.ensures.own in
-    let against = added _ _ _ _ _ c.in_ok-command.ensures quiet c.path_arg.ensures.rule
+    let json = added _ _ _ _ _ c.in_ok-arg-4.ensures quiet c.flag_arg-4.ensures.rule
+    c.flag_arg-4.ensures.own in
+    let against = added _ _ _ _ _ c.in_ok-command.ensures json c.path_arg.ensures.rule
     c.path_arg.ensures.own in
     let ranged = c.in_ok-command-2.ensures in
-    added_last _ _ _ _ _ c.arg-5.ensures (ranged.0 ∙ ap with_range against.0, ranged.1)
+    added_last _ _ _ _ _ c.arg-6.ensures (ranged.0 ∙ ap with_range against.0, ranged.1)
     c.progress_arg.ensures.rule c.progress_arg.ensures.own
