@@ -1,0 +1,9 @@
+pub mod KeptBytes
+pub mod TrackSteps
+pub mod ChunkSearch
+pub mod DurationLemmas
+pub mod VideoSearch
+pub mod VintLengths
+pub mod QuotedStrings
+pub mod MaskedStrings
+pub mod FactChains

@@ -1,0 +1,9 @@
+pub mod Strings
+pub mod Facts
+pub mod Beginnings
+pub mod Durations
+pub mod Tracks
+pub mod MatroskaOutline
+pub mod AviOutline
+pub mod Steps
+pub mod Outline
