@@ -1,13 +1,13 @@
 mod FaultsLocated
-mod FramesInTurn
+pub mod FramesInTurn
 mod Openings
-mod FrameDecoded
-mod FileRead
-mod FramesPlayed
+pub mod FrameDecoded
+pub mod FileRead
+pub mod FramesPlayed
 mod FramesTold
 mod FramesUnpacked
-mod FilePlayed
-mod FramesPassed
+pub mod FilePlayed
+pub mod FramesPassed
 mod FileChecked
 mod FramesJudged
 mod FileJudged
@@ -23,9 +23,9 @@ mod ImagesWritten
 mod ImagesSoFar
 mod StreamText
 mod FileShown
-mod FileSteps
+pub mod FileSteps
 mod LineParts
-mod OwnFaults
+pub mod OwnFaults
 mod Md5sSoFar
 mod Md5Numbers
 mod Md5Lists

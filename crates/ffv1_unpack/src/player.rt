@@ -1,6 +1,8 @@
 //! The frames of a file, one after the other.
 
-ghost use Rattle.std.specs.Prelude.{◌≡◌, ◌⊎◌, ◌<◌, IfErr, IfOk, IfSome, None, OnOk, Some, true};
+ghost use Rattle.std.specs.Prelude.{◌≡◌, ◌⊎◌, ◌<◌, ◌≤◌, ◌+◌, ◌*◌, IfErr, IfOk, IfSome, None};
+ghost use Rattle.std.specs.Prelude.{OnOk, Some, length, max, true};
+ghost use Rattle.std.specs.Vec.{vec_capacity};
 ghost use Rattle.ffv1_wire.specs.Passage.{passage};
 ghost use Rattle.ffv1_reads.specs.Head.{head_of};
 ghost use Rattle.ffv1_files.specs.Offsets.{Reached};
@@ -35,8 +37,10 @@ pub enum Stop {
     Payload(FrameFault),
 }
 
-/// The configuration of a head's record, for pictures of the head's size, in the profile.
-fn read_head<A: Allocator + Copy>(
+/// The configuration of a head's record, for pictures of the head's size, in the profile. Refuses
+/// with the record's first fault, or with `OutOfMemory` if memory for its quantisation table sets
+/// is refused.
+pub fn read_head<A: Allocator + Copy>(
     alloc: A,
     profile: Profile,
     head: &FileHead<A>,
@@ -217,6 +221,9 @@ pub(crate) fn play<R: ByteIn, S: LineSink, A: Allocator>(
         × (amount player.new.reader.place < amount player.old.reader.place))) }
     ensures located { LocatedStep player.old.reader
         (passage R.remaining R.failures input.old input.new) result player.new.reader }
+    ensures kept { player.new.reader.room ≡ player.old.reader.room }
+    ensures room { vec_capacity player.new.payload ≤ max (vec_capacity player.old.payload)
+        (2 * length player.new.payload.items + 65536) }
 {
     match player.reader.next_frame(input, &mut player.payload) {
         Ok(false) => Ok(None),
