@@ -1,0 +1,7 @@
+mod FactText
+mod Groups
+mod FramesRead
+mod FramesTold
+mod FileTold
+mod OutlineTold
+mod LowestTerms

@@ -1,0 +1,40 @@
+-- What the first bytes of a file say is written, and then the facts of its stream.
+use Rattle.std.proofs.Common.{◌≡◌, ℕ, Bool, Option, Err, Ok, List, inl, inr, subst, sym}
+use Rattle.std.specs.Io.KnownBytes.{Keeps}
+use Rattle.ffv1_wire.specs.Passage.{Passage, between}
+use Rattle.ffv1_video.specs.declared.fault.Fault.{Fault}
+use Rattle.ffv1_video.specs.declared.profile.Profile.{Profile}
+use Rattle.ffv1_outline.specs.Beginnings.{IsBeginning}
+use Rattle.ffv1_outline.specs.Outline.{outline_facts}
+use Rattle.ffv1_outline.specs.declared.facts.Form.{Form}
+use Rattle.ffv1_unpack.specs.Internal.Told.{WritesFrame}
+use Rattle.ffv1_info.specs.Info.{Begins, InfoDone, InfoStops, OutlineThen}
+use Rattle.ffv1_info.specs.StreamInfo.{StreamInfoDone, StreamInfoStops}
+use Rattle.ffv1_info.proofs.Groups.{group_stops}
+
+module _ (file : Option (List ℕ)) (bytes first : List ℕ) (broken : Bool) (input : Option (List ℕ)) (is : bytes ≡ first) (are : IsBeginning file broken first) (same : Keeps file input) where
+  abbrev pub begun : Begins file
+  begun = record { bytes = bytes; broken = broken; are = subst (IsBeginning file broken) (sym is) are; input = input; same = same }
+
+module _ (form : Form) (file : Option (List ℕ)) (begins : Begins file) (o0 o1 o2 i2 : Option (List ℕ)) (ob om oa z ia : ℕ) where
+  then : (Then : Passage → Passage → Type 0) (done : Unit {0}) → WritesFrame (outline_facts form begins.bytes) (between o0 o1 ob om) (Ok done) → z ≡ 0 → Then (between begins.input i2 z ia) (between o1 o2 om oa) →
+      OutlineThen form file (between o0 o2 ob oa) Then
+  then Then done wrote none h = record {
+    begins = begins;
+    written = o1;
+    writes = wrote.1;
+    rest = i2;
+    failures = ia;
+    behind = subst (λ n. Then (between begins.input i2 n ia) (between o1 o2 ob oa)) none (subst (λ n. Then (between begins.input i2 z ia) (between o1 o2 n oa)) wrote.0 h);
+  }
+
+  module _ (profile : Profile) (count : Bool) (done : Unit {0}) (wrote : WritesFrame (outline_facts form begins.bytes) (between o0 o1 ob om) (Ok done)) (none : z ≡ 0) where
+    pub all_told : StreamInfoDone profile form count (between begins.input i2 z ia) (between o1 o2 om oa) → InfoDone profile form count file (between o0 o2 ob oa)
+    all_told h = then (StreamInfoDone profile form count) done wrote none h
+
+    pub rest_stops : (f : Fault) → StreamInfoStops profile form count (between begins.input i2 z ia) (between o1 o2 om oa) f → InfoStops profile form count file (between o0 o2 ob oa) f
+    rest_stops f h = inr (inr (then (λ p q. StreamInfoStops profile form count p q f) done wrote none h))
+
+pub outline_stops : (profile : Profile) (form : Form) (count : Bool) (file : Option (List ℕ)) (begins : Begins file) (o0 o1 : Option (List ℕ)) (ob om : ℕ) (f : Fault) → WritesFrame (outline_facts form begins.bytes) (between o0 o1 ob om) (Err f) →
+    InfoStops profile form count file (between o0 o1 ob om) f
+outline_stops profile form count file begins o0 o1 ob om f h = inr (inl (record { begins = begins; stops = group_stops (outline_facts form begins.bytes) o0 o1 ob om f h }))

@@ -1,0 +1,5 @@
+pub mod Names
+pub mod StreamFacts
+pub mod StreamInfo
+pub mod Info
+pub mod Internal
