@@ -1,7 +1,7 @@
 -- What is done of an order, by what does it: which of its parts, on which files, and what its exit
 -- status is.
-use Rattle.std.specs.Prelude.{◌≡◌, ◌≢◌, ◌⊎◌, ℕ, Bool, List, [], ◌∷◌, length, Option, Some}
-use Rattle.std.specs.Prelude.{None, Result, IfOk, OnErr, slice_get}
+use Rattle.std.specs.Prelude.{◌≡◌, ◌≢◌, ◌⊎◌, ℕ, Bool, true, false, not, List, [], ◌∷◌, length}
+use Rattle.std.specs.Prelude.{Option, None, Some, Result, IfOk, OnErr, slice_get}
 use Rattle.std.specs.Borrow.{Bor}
 use Rattle.clap.specs.Words.{kind_of}
 use Rattle.clap.specs.declared.error.Error.{Error}
@@ -16,6 +16,7 @@ use Rattle.ffv1_words.specs.declared.order.ContainerChoice.{ContainerChoice}
 use Rattle.ffv1_words.specs.declared.order.FrameRange.{FrameRange}
 use Rattle.ffv1_words.specs.declared.order.Order.{Order}
 use Rattle.ffv1_words.specs.declared.order.Order.TheVariants as order
+use Rattle.ffv1.specs.Infos.{informing}
 use Rattle.ffv1.specs.Looked.{Look, LooksAtEach, LooksNamed, Naming, Outcome, StopsAt, paths_of}
 use Rattle.ffv1.specs.Looked.{status_of_each}
 use Rattle.ffv1.specs.Statuses.{status_of}
@@ -26,6 +27,8 @@ use Rattle.ffv1.specs.declared.orders.Looker.{Looker}
 use Rattle.ffv1.specs.declared.orders.Looking.{Looking}
 use Rattle.ffv1.specs.declared.orders.Looking.TheVariants as looking
 use Rattle.ffv1.specs.declared.refusal.Refusal.{Refusal}
+use Rattle.ffv1.specs.declared.telling.Telling.{Telling}
+use Rattle.ffv1.specs.declared.telling.Telling.TheVariants as telling
 
 -- each part: what does it before, what it is given, what came of it, and what does it after
 abbrev pub Packing : Type 0 → Type 1
@@ -106,7 +109,7 @@ ChecksBy does s how (Some list) (Some input) inputs status t =
     Does (does.compares s (record {
       input = input;
       list = list;
-      quiet = how.quiet;
+      told = how.told;
       progress = how.progress;
     })) status t
 
@@ -115,14 +118,40 @@ abbrev pub ChecksAll : {D E : Type 0} → Doing D → D → Checking → Option 
 ChecksAll does s how against inputs status t =
     ChecksBy does s how against (slice_get inputs 0) inputs status t
 
-abbrev pub checking : Bool → Bool → Bool → Bool → FrameRange → Checking
-checking all place quiet progress range = record {
+-- how a file is told of: by lines of its frames, by one line, or by an object of JSON on one
+abbrev pub telling_of : Bool → Bool → Telling
+telling_of quiet true = telling.Object
+telling_of true false = telling.Line
+telling_of false false = telling.Frames
+
+abbrev pub checking : Bool → Bool → Telling → Bool → FrameRange → Checking
+checking all place told progress range = record {
   all = all;
   place = place;
-  quiet = quiet;
+  told = told;
   progress = progress;
   range = range;
 }
+
+-- whether it is by lines of its frames
+abbrev pub is_of_frames : Telling → Bool
+is_of_frames telling.Frames = true
+is_of_frames telling.Line = false
+is_of_frames telling.Object = false
+
+-- whether a line of the path of each of several files is printed
+abbrev pub names_files : Looking → Bool
+names_files (looking.Check checking) = is_of_frames checking.told
+names_files (looking.Info how) = not how.json
+names_files way = true
+
+-- whether an order looks at each of its files in one way
+abbrev pub looks_at_files : Order → Bool
+looks_at_files (order.Show inputs cost) = true
+looks_at_files (order.Info inputs count json) = true
+looks_at_files (order.FrameMd5 inputs range) = true
+looks_at_files (order.Trial input) = true
+looks_at_files o = false
 
 -- what an order asks for is done
 abbrev pub DoesOrder : {D E : Type 0} → Doing D → D → Order → Result ℕ E → D → Type 0
@@ -130,10 +159,13 @@ DoesOrder does s (order.Pack input output choice container no_clobber progress) 
     Does (does.packs s (making input output no_clobber progress) container choice) status t
 DoesOrder does s (order.Unpack input output no_clobber progress range) status t =
     Does (does.unpacks s (making input output no_clobber progress) range) status t
-DoesOrder does s (order.Check inputs all place quiet progress against range) status t =
-    ChecksAll does s (checking all place quiet progress range) against inputs.now status t
+DoesOrder does s (order.Check inputs all place quiet json progress against range) status t =
+    ChecksAll does s (checking all place (telling_of quiet json) progress range) against
+    inputs.now status t
 DoesOrder does s (order.Show inputs cost) status t =
     LooksAll does s (looking.Show cost) (paths_of inputs.now) status t
+DoesOrder does s (order.Info inputs count json) status t =
+    LooksAll does s (looking.Info (informing count json)) (paths_of inputs.now) status t
 DoesOrder does s (order.FrameMd5 inputs range) status t =
     LooksAll does s (looking.FrameMd5 range) (paths_of inputs.now) status t
 DoesOrder does s (order.Trial input) status t =

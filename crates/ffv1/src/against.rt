@@ -1,22 +1,23 @@
 //! Compares the pictures of a file with a list of MD5s, and prints what comes of it.
 
-ghost use Rattle.std.specs.Prelude.{◌≡◌, IfErr};
+ghost use Rattle.std.specs.Prelude.{◌≡◌, IfErr, IfOk};
+ghost use Rattle.ffv1.specs.Against.{ComparesIn, Compares, ListsIn, TellsIn, UnlistedIn};
+ghost use Rattle.ffv1.specs.Against.{list_refusal, unlike_refusal};
+ghost use Rattle.ffv1.specs.Made.{IsUntold};
+ghost use Rattle.ffv1.specs.Opened.{OfFile, unread};
 ghost use Rattle.ffv1.specs.Statuses.{IsComparingRefusal};
-ghost use Rattle.ffv1.specs.declared.refusal.Refusal.TheVariants as refusal;
-ghost use Rattle.ffv1_video.specs.declared.fault.Fault.TheVariants as fault;
+ghost use Rattle.ffv1_wire.specs.Passage.{passage};
 
-use crate::input::{open_input, watched};
-use crate::met::Met;
+use crate::BySystem;
+use crate::input::Opens;
 use crate::refusal::Refusal;
+use crate::telling::Telling;
 use crate::told::Paths;
+use crate::verdict::tell_compared;
 use ffv1_engine::{Fault, ListFault, Profile, Unlike, check_against, read_list};
-use ffv1_wire::FromRead;
 use ffv1_words::is_hyphen;
 use std::alloc::Global;
 use std::io;
-use std::io::{BufReader, Input};
-use std::rt::Files;
-use std::time::Clock;
 
 /// What is compared, and how that is said.
 #[derive(Clone, Copy)]
@@ -25,55 +26,72 @@ pub struct Comparing<'a> {
     pub input: &'a str,
     /// The path of the list.
     pub list: &'a str,
-    /// Whether one line of the file is printed.
-    pub quiet: bool,
+    /// How the file is told of.
+    pub told: Telling,
     /// Whether it says how much of the file is read.
     pub progress: bool,
 }
 
-/// The MD5s of a list.
-fn md5s_of(
-    rt: &(impl Files + Input),
-    alloc: Global,
-    list: &str,
-    met: &Met,
-) -> Result<Vec<u128>, Refusal>
-    ensures { IfErr result IsComparingRefusal }
+/// Why an order is not done whose list is refused.
+fn list_refusal(fault: ListFault) -> Refusal
+    ensures value { result ≡ list_refusal fault }
+    ensures refused { IsComparingRefusal result }
 {
-    let (source, _) = open_input(rt, list, met)?;
-    let Ok(buffered) = BufReader::new(alloc, source.into_inner()) else {
-        return Err(Refusal::Fault(Fault::OutOfMemory));
-    };
-    let mut reader = FromRead::new(buffered);
+    match fault {
+        ListFault::Read => Refusal::Fault(Fault::Read),
+        ListFault::OutOfMemory => Refusal::Fault(Fault::OutOfMemory),
+        ListFault::Line(line) => Refusal::List(line),
+    }
+}
+
+/// Why an order is not done whose file is unlike a list, or has a fault.
+fn unlike_refusal(unlike: Unlike) -> Refusal
+    ensures value { result ≡ unlike_refusal unlike }
+    ensures refused { IsComparingRefusal result }
+{
+    match unlike {
+        Unlike::Fault(fault) => Refusal::Fault(fault),
+        Unlike::Differs(frame) => Refusal::Differs(frame),
+    }
+}
+
+/// The MD5s of a list.
+fn md5s_of<O: Opens>(alloc: Global, opener: &O, list: &str) -> Result<Vec<u128>, Refusal>
+    ensures listed { IfOk result (λ md5s. ListsIn (O.lists opener.now list.now)
+        (O.lacks opener.now list.now) O.Lines.remaining O.Lines.failures md5s.items) }
+    ensures unlisted { IfErr result (UnlistedIn (O.lists opener.now list.now)
+        (O.lacks opener.now list.now) O.Lines.remaining O.Lines.failures) }
+    ensures refused { IfErr result IsComparingRefusal }
+{
+    let mut reader = opener.open_list(alloc, list)?;
     match read_list(alloc, &mut reader) {
         Ok(md5s) => Ok(md5s),
-        Err(ListFault::Read) => Err(Refusal::Fault(Fault::Read)),
-        Err(ListFault::OutOfMemory) => Err(Refusal::Fault(Fault::OutOfMemory)),
-        Err(ListFault::Line(line)) => Err(Refusal::List(line)),
+        Err(fault) => Err(list_refusal(fault)),
     }
 }
 
 /// Compares all pictures of a file with these MD5s.
-fn compare(
-    rt: &(impl Files + Input + Eprint + Clock),
+fn compare<O: Opens>(
     alloc: Global,
-    comparing: Comparing<'_>,
+    opener: &O,
+    input: &str,
+    progress: bool,
     md5s: &[u128],
-    met: &Met,
 ) -> Result<(), Refusal>
-    ensures { IfErr result IsComparingRefusal }
+    ensures compares { OfFile (O.opens opener.now input.now) (O.misses opener.now input.now)
+        O.Reader.remaining O.Reader.failures (λ first last. Compares md5s.now
+        (passage O.Reader.remaining O.Reader.failures first last) result) (result ≡ unread) }
+    ensures refused { IfErr result IsComparingRefusal }
 {
-    let (source, metadata) = open_input(rt, comparing.input, met)?;
-    let mut reader = watched(rt, source, &metadata, comparing.progress);
+    let mut reader = opener.open(input, progress)?;
     match check_against(alloc, Profile::Wide, &mut reader, md5s) {
         Ok(()) => Ok(()),
-        Err(Unlike::Fault(fault)) => Err(Refusal::Fault(fault)),
-        Err(Unlike::Differs(frame)) => Err(Refusal::Differs(frame)),
+        Err(unlike) => Err(unlike_refusal(unlike)),
     }
 }
 
-/// Prints what came of it: how many frames there are, if all agree; with `quiet` also what is
-/// refused, in one line that begins with the path.
+/// Prints what came of it: how many frames there are, if all agree; in one line of the file also
+/// what is refused.
 fn print_answer(
     rt: &impl Print,
     path: &str,
@@ -96,41 +114,71 @@ fn print_answer(
     }
 }
 
-/// Reads the list, and then compares all pictures of the file with it.
-fn read_and_compare<'a>(
-    rt: &(impl Files + Input + Print + Eprint + Clock),
-    alloc: Global,
-    comparing: Comparing<'a>,
-    met: &Met,
-) -> (&'a str, usize, Result<(), Refusal>)
-    ensures { IfErr result.2 IsComparingRefusal }
+/// Prints what came of it. `Write` if that cannot be printed, `OutOfMemory` if memory of it is
+/// refused.
+fn tell_against<R: Print, O>(
+    system: &BySystem<'_, R, O>,
+    told: Telling,
+    path: &str,
+    frames: usize,
+    done: Result<(), Refusal>,
+) -> Result<(), Refusal>
+    ensures untold { IfErr result IsUntold }
+    ensures refused { IfErr result IsComparingRefusal }
 {
-    match md5s_of(rt, alloc, comparing.list, met) {
+    let (rt, met) = (system.rt, system.met);
+    match told {
+        Telling::Object => tell_compared(rt, system.alloc, met, path, frames, done),
+        Telling::Line => met.printed(print_answer(rt, path, true, frames, done)),
+        Telling::Frames => met.printed(print_answer(rt, path, false, frames, done)),
+    }
+}
+
+/// Reads the list, and then compares all pictures of the file with it.
+fn read_and_compare<'a, R, O: Opens>(
+    system: &BySystem<'_, R, O>,
+    comparing: Comparing<'a>,
+) -> (&'a str, usize, Result<(), Refusal>)
+    ensures compares { ComparesIn (O.lists system.now.opener comparing.entry.list.now)
+        (O.lacks system.now.opener comparing.entry.list.now) O.Lines.remaining O.Lines.failures
+        (O.opens system.now.opener comparing.entry.input.now)
+        (O.misses system.now.opener comparing.entry.input.now) O.Reader.remaining
+        O.Reader.failures result.2 }
+    ensures refused { IfErr result.2 IsComparingRefusal }
+{
+    let Comparing {
+        input,
+        list,
+        progress,
+        ..
+    } = comparing;
+    match md5s_of(system.alloc, &system.opener, list) {
         Ok(md5s) => {
-            met.clear();
-            let done = compare(rt, alloc, comparing, &md5s, met);
-            (comparing.input, md5s.len(), done)
+            system.met.clear();
+            let done = compare(system.alloc, &system.opener, input, progress, &md5s);
+            (input, md5s.len(), done)
         }
-        Err(refusal) => (comparing.list, 0, Err(refusal)),
+        Err(refusal) => (list, 0, Err(refusal)),
     }
 }
 
 /// Reads the list, and then compares all pictures of the file with it. It prints how many frames
-/// there are, if all agree; with `quiet` it prints one line, whatever comes of it. Answers also
-/// the path of what is refused.
-pub fn run_against<'a>(
-    rt: &(impl Files + Input + Print + Eprint + Clock),
-    alloc: Global,
+/// there are, if all agree; or one line, whatever comes of it. Answers also the path of what is
+/// refused.
+pub fn run_against<'a, R: Print, O: Opens>(
+    system: &BySystem<'_, R, O>,
     comparing: Comparing<'a>,
-    met: &Met,
 ) -> (Paths<'a>, Result<(), Refusal>)
-    ensures { IfErr result.1 IsComparingRefusal }
+    ensures compares { TellsIn (O.lists system.now.opener comparing.entry.list.now)
+        (O.lacks system.now.opener comparing.entry.list.now) O.Lines.remaining O.Lines.failures
+        (O.opens system.now.opener comparing.entry.input.now)
+        (O.misses system.now.opener comparing.entry.input.now) O.Reader.remaining
+        O.Reader.failures result.1 }
+    ensures refused { IfErr result.1 IsComparingRefusal }
 {
-    let (path, frames, done) = read_and_compare(rt, alloc, comparing, met);
-    let printed = met.printed(print_answer(rt, path, comparing.quiet, frames, done));
-    let done = match printed {
-        Ok(()) => done,
-        Err(refusal) => Err(refusal),
-    };
-    (Paths::looked(path), done)
+    let (path, frames, done) = read_and_compare(system, comparing);
+    match tell_against(system, comparing.told, path, frames, done) {
+        Ok(()) => (Paths::looked(path), done),
+        Err(refusal) => (Paths::looked(path), Err(refusal)),
+    }
 }

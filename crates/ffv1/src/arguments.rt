@@ -12,7 +12,7 @@ const LONGEST: usize = 131072;
 pub fn looks(order: Order<'_>) -> bool {
     matches!(
         order,
-        Order::Check { .. } | Order::Show { .. } | Order::FrameMd5 { .. }
+        Order::Check { .. } | Order::Show { .. } | Order::Info { .. } | Order::FrameMd5 { .. }
     )
 }
 

@@ -1,26 +1,27 @@
 //! Checks a file, and prints what its frames take, or one line of it.
 
-ghost use Rattle.std.specs.Prelude.{◌≡◌, Err, IfErr, IfOk, IsOk, None, Some, false};
-ghost use Rattle.ffv1.specs.Orders.{checking};
+ghost use Rattle.std.specs.Prelude.{◌≡◌, Err, IfErr, IfOk, IsOk, None, Ok, Some, false};
+ghost use Rattle.ffv1_wire.specs.Passage.{passage};
+ghost use Rattle.ffv1.specs.Opened.{ChecksFile, ChecksIn, Untold, judged};
+ghost use Rattle.ffv1.specs.Orders.{checking, is_of_frames};
 ghost use Rattle.ffv1.specs.Statuses.{IsAnyFault, IsFault};
 ghost use Rattle.ffv1.specs.declared.refusal.Refusal.TheVariants as refusal;
 ghost use Rattle.ffv1_unpack.specs.Check.{IsCheckFault};
 ghost use Rattle.ffv1_video.specs.declared.fault.Fault.{Fault};
 ghost use Rattle.ffv1_video.specs.declared.profile.Profile.TheVariants as profile;
 
-use crate::input::{open_input, watched};
+use crate::input::Opens;
 use crate::met::{Met, Noted};
-use crate::quiet::{LastLines, tell_verdict};
+use crate::quiet::{LastLines, tell_line};
 use crate::refusal::Refusal;
 use crate::streams::check_stream;
+use crate::telling::Telling;
+use crate::verdict::tell_object;
 use ffv1_engine::Fault;
 use ffv1_wire::{ByteOut, ToWrite};
 use ffv1_words::FrameRange;
 use std::alloc::Global;
 use std::io;
-use std::io::Input;
-use std::rt::Files;
-use std::time::Clock;
 
 /// How a file is checked.
 #[derive(Clone, Copy)]
@@ -29,8 +30,8 @@ pub struct Checking {
     pub all: bool,
     /// Whether it says where a fault is.
     pub place: bool,
-    /// Whether one line of the file is printed, and none of its frames.
-    pub quiet: bool,
+    /// How the file is told of.
+    pub told: Telling,
     /// Whether it says how much of the file is read.
     pub progress: bool,
     /// The frames that are checked.
@@ -39,13 +40,13 @@ pub struct Checking {
 
 impl Checking {
     /// Puts together what an order says of it.
-    pub fn new(all: bool, place: bool, quiet: bool, progress: bool, range: FrameRange) -> Checking
-        ensures { result ≡ checking all place quiet progress range }
+    pub fn new(all: bool, place: bool, told: Telling, progress: bool, range: FrameRange) -> Checking
+        ensures { result ≡ checking all place told progress range }
     {
         Checking {
             all,
             place,
-            quiet,
+            told,
             progress,
             range,
         }
@@ -55,6 +56,7 @@ impl Checking {
 /// What becomes of an order whose frames were all judged: the first fault of one that is refused is
 /// its own.
 fn judged(first: Option<Fault>) -> Result<(), Refusal>
+    ensures value { result ≡ judged (Ok first) }
     ensures sound { first ≡ None → IsOk result }
     ensures refused { (f : Fault) → first ≡ Some f → result ≡ Err (refusal.Fault f) }
 {
@@ -64,21 +66,36 @@ fn judged(first: Option<Fault>) -> Result<(), Refusal>
     }
 }
 
+/// What becomes of an order by what its check answered: a fault that ended it, and the first fault
+/// of a frame that is refused, are its own.
+fn outcome_of(answer: Result<Option<Fault>, Fault>) -> Result<(), Refusal>
+    ensures value { result ≡ judged answer }
+    ensures fault { IfErr result IsAnyFault }
+    ensures own { IfErr answer (IsCheckFault profile.Wide) → IfOk answer (λ first. first ≡ None) →
+        IfErr result (IsFault (IsCheckFault profile.Wide)) }
+{
+    match answer {
+        Ok(first) => judged(first),
+        Err(fault) => Err(Refusal::Fault(fault)),
+    }
+}
+
 /// Decodes frames of a file, and writes what each took, and with `place` where one is refused; with
 /// `all` also those after one that is refused. Answers the first fault of those.
-fn write_check<W: ByteOut>(
-    rt: &(impl Files + Input + Eprint + Clock),
+fn write_check<O: Opens, W: ByteOut>(
     alloc: Global,
+    opener: &O,
     input: &str,
     checking: Checking,
-    met: &Met,
     writer: &mut W,
 ) -> Result<Option<Fault>, Fault>
+    ensures checks { ChecksFile (O.opens opener.now input.now) (O.misses opener.now input.now)
+        O.Reader.remaining O.Reader.failures checking.all checking.place checking.range
+        (passage W.contents W.failures writer.old writer.new) result }
     ensures none { checking.all ≡ false → IfOk result (λ first. first ≡ None) }
     ensures own { IfErr result (IsCheckFault profile.Wide) }
 {
-    let (source, metadata) = open_input(rt, input, met)?;
-    let mut reader = watched(rt, source, &metadata, checking.progress);
+    let mut reader = opener.open(input, checking.progress)?;
     let Checking {
         all,
         place,
@@ -88,10 +105,37 @@ fn write_check<W: ByteOut>(
     check_stream(alloc, &mut reader, writer, all, place, range)
 }
 
-/// Decodes frames of a file, and prints one line of it. `Write` if that cannot be printed.
-fn run_quiet(
-    rt: &(impl Files + Input + Print + Eprint + Clock),
+/// Prints one line of a file that was checked, or an object of JSON on one. `answer` is what the
+/// check answered, and `lines` has what it wrote, with places.
+fn tell_verdict(
+    rt: &impl Print,
     alloc: Global,
+    input: &str,
+    lines: &LastLines<'_>,
+    checking: Checking,
+    answer: Result<Option<Fault>, Fault>,
+) -> Result<(), Refusal>
+    ensures told { is_of_frames checking.told ≡ false →
+        IfErr result (λ r. Untold checking.told (Err r)) }
+    ensures fault { IfErr result IsAnyFault }
+    ensures own { IfErr result (IsFault (IsCheckFault profile.Wide)) }
+{
+    let all = checking.all;
+    match checking.told {
+        Telling::Object => tell_object(rt, alloc, input, lines, all, answer),
+        Telling::Line | Telling::Frames => {
+            let printed = tell_line(rt, input, lines, all, answer);
+            lines.met().printed(printed)
+        }
+    }
+}
+
+/// Decodes frames of a file, and prints one line of it: `Write` if that cannot be printed,
+/// `OutOfMemory` if memory of it is refused.
+fn run_verdict<O: Opens>(
+    rt: &impl Print,
+    alloc: Global,
+    opener: &O,
     input: &str,
     checking: Checking,
     met: &Met,
@@ -99,23 +143,25 @@ fn run_quiet(
     ensures fault { IfErr result IsAnyFault }
     ensures own { checking.all ≡ false →
         IfErr result (IsFault (IsCheckFault profile.Wide)) }
+    ensures checks { is_of_frames checking.told ≡ false → ChecksIn (O.opens opener.now input.now)
+        (O.misses opener.now input.now) O.Reader.remaining O.Reader.failures checking result }
 {
-    let all = checking.all;
     let located = Checking {
         place: true,
         ..checking
     };
-    let mut lines = LastLines::new();
-    let answer = write_check(rt, alloc, input, located, met, &mut lines);
-    met.printed(tell_verdict(rt, input, &lines, all, answer))?;
-    judged(answer?)
+    let mut lines = LastLines::new(met);
+    let answer = write_check(alloc, opener, input, located, &mut lines);
+    tell_verdict(rt, alloc, input, &lines, checking, answer)?;
+    outcome_of(answer)
 }
 
 /// Decodes frames of a file, and prints what each took, and with `place` where one is refused;
-/// with `all` also those after one that is refused. With `quiet` one line of the file is printed.
-pub fn run_check(
-    rt: &(impl Files + Input + Print + Eprint + Clock),
+/// with `all` also those after one that is refused; or prints one line of the file.
+pub fn run_check<O: Opens>(
+    rt: &impl Print,
     alloc: Global,
+    opener: &O,
     input: &str,
     checking: Checking,
     met: &Met,
@@ -123,10 +169,12 @@ pub fn run_check(
     ensures fault { IfErr result IsAnyFault }
     ensures own { checking.all ≡ false →
         IfErr result (IsFault (IsCheckFault profile.Wide)) }
+    ensures checks { ChecksIn (O.opens opener.now input.now) (O.misses opener.now input.now)
+        O.Reader.remaining O.Reader.failures checking result }
 {
-    if checking.quiet {
-        return run_quiet(rt, alloc, input, checking, met);
+    if checking.told.is_of_frames() {
+        let mut writer = ToWrite::new(Noted::new(met, io::writer(rt)));
+        return outcome_of(write_check(alloc, opener, input, checking, &mut writer));
     }
-    let mut writer = ToWrite::new(Noted::new(met, io::writer(rt)));
-    judged(write_check(rt, alloc, input, checking, met, &mut writer)?)
+    run_verdict(rt, alloc, opener, input, checking, met)
 }

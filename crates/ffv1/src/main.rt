@@ -3,20 +3,24 @@
 //! `ffv1_engine`.
 #![tactic(auto)]
 
-ghost use Rattle.std.specs.Prelude.{◌≡◌, ◌≤◌, ℕ, Err, IfErr, IfOk, IsOk};
+ghost use Rattle.std.specs.Prelude.{◌≡◌, ◌≤◌, ℕ, Err, IfErr, IfOk, IsOk, false, true};
 ghost use Rattle.std.specs.Process.{exit_status};
 ghost use Rattle.ffv1.specs.declared.refusal.Refusal.TheVariants as refusal;
-ghost use Rattle.ffv1.specs.Statuses.{IsAnyFault, IsComparingRefusal, IsFault, IsMakingRefusal};
-ghost use Rattle.ffv1.specs.Statuses.{IsStatus, makes_file, status_of};
+ghost use Rattle.ffv1.specs.Against.{TellsIn};
+ghost use Rattle.ffv1.specs.Made.{PacksIn, UnpacksIn};
+ghost use Rattle.ffv1.specs.Opened.{LooksIn, PrintsIn, ShowsIn, TriesIn};
+ghost use Rattle.ffv1.specs.Orders.{names_files};
+ghost use Rattle.ffv1.specs.Statuses.{IsAnyFault, IsFault, IsStatus, makes_file, status_of};
 ghost use Rattle.ffv1_unpack.specs.Show.{IsShowFault};
+ghost use Rattle.ffv1_words.specs.Order.{is_matroska};
 ghost use Rattle.ffv1_video.specs.declared.profile.Profile.TheVariants as profile;
 ghost use Rattle.ffv1_video.specs.declared.fault.Fault.{Fault};
-ghost use Rattle.ffv1_video.specs.declared.fault.Fault.TheVariants as fault;
 
 mod advice;
 mod against;
 mod arguments;
 mod checking;
+mod infos;
 mod input;
 mod lines;
 mod making;
@@ -29,22 +33,22 @@ mod quiet;
 mod refusal;
 mod several;
 mod streams;
+mod telling;
 mod told;
+mod verdict;
 
 use against::{Comparing, run_against};
 use arguments::{looks, other_words};
 use checking::run_check;
-use either::{Left, Right};
-use ffv1_engine::{Fault, PackedMatroska, trial};
-use ffv1_wire::{ByteIn, ToFile, ToWrite, read_byte};
-use ffv1_words::{Choice, ContainerChoice, FrameRange, Order, is_hyphen, words};
-use input::{Again, open_input, watched};
+use ffv1_engine::Fault;
+use ffv1_wire::{ToWrite, read_byte};
+use ffv1_words::{Choice, ContainerChoice, FrameRange, Order, words};
+use infos::run_info;
+use input::{Again, Opens, SystemFiles};
 use lines::command;
-use making::Making;
+use making::{Making, run_pack, run_unpack};
 use met::{Met, Noted};
-use notes::{Notes, tell_notes};
 use orders::{Doer, Looking, run_order};
-use output::{Target, open_output};
 use refusal::Refusal;
 use std::alloc::Global;
 use std::io::Input;
@@ -52,125 +56,43 @@ use std::process::ExitCode;
 use std::rt::Files;
 use std::time::Clock;
 use std::{env, io};
-use streams::{framemd5_stream, pack_clusters, pack_stream, show_stream, unpack_stream};
+use streams::{framemd5_stream, show_stream, trial_stream};
 use told::{Paths, advise};
 
-/// Prints a count: on standard output, or on standard error if the output itself goes there.
-fn print_count(
-    rt: &(impl Print + Eprint),
-    output: &str,
-    count: &str,
-    met: &Met,
-) -> Result<(), Refusal>
-    ensures { IfErr result (λ r. r ≡ refusal.Fault fault.Write) }
-{
-    let printed = if is_hyphen(output) {
-        eprintln!(rt; "{count}")
-    } else {
-        println!(rt; "{count}")
-    };
-    met.printed(printed)
-}
-
-/// Packs a video into Matroska. A regular file is written over at the end; a pipe, a device and
-/// standard output are not.
-fn pack_target<R: ByteIn, H: Files + Print>(
-    alloc: Global,
-    reader: &mut R,
-    target: Target<'_, H>,
-    choice: &Choice,
-) -> Result<PackedMatroska, Refusal>
-    ensures { IfErr result IsAnyFault }
-{
-    match target {
-        Left(file) if file.inner().is_regular() => {
-            pack_clusters(alloc, reader, &mut ToFile::new(file), choice)
-        }
-        Left(file) => pack_clusters(alloc, reader, &mut ToWrite::new(file), choice),
-        Right(printer) => pack_clusters(alloc, reader, &mut ToWrite::new(printer), choice),
-    }
-}
-
-/// Packs a video into a file, and prints how many frames and bytes of them there are, after notes
-/// of what the file does not hold. The input is opened first, and then the output.
-fn run_pack(
-    rt: &(impl Files + Input + Print + Eprint + Clock),
-    alloc: Global,
-    files: &Making<'_>,
-    container: ContainerChoice,
-    choice: &Choice,
-    met: &Met,
-) -> Result<(), Refusal>
-    ensures { IfErr result (IsMakingRefusal files.now.no_clobber) }
-{
-    let (source, metadata) = open_input(rt, files.input, met)?;
-    let target = open_output(rt, files.output, &metadata, files.no_clobber, met)?;
-    let mut reader = watched(rt, source, &metadata, files.progress);
-    let (frames, bytes, loses_colour) = if container.is_matroska(files.output) {
-        let packed = pack_target(alloc, &mut reader, target, choice)?;
-        (packed.frames, packed.bytes, false)
-    } else {
-        let packed = pack_stream(alloc, &mut reader, &mut ToWrite::new(target), choice)?;
-        (packed.frames, packed.bytes, packed.loses_colour)
-    };
-    let keeps_rate = choice.rate_given && met.is_text();
-    let notes = Notes {
-        loses_colour,
-        keeps_rate,
-    };
-    met.printed(tell_notes(rt, files.paths(), notes))?;
-    let count = format!(in alloc; "frames {frames} bytes {bytes}")?;
-    print_count(rt, files.output, &count, met)
-}
-
-/// Unpacks frames of a file into a text of their pictures, and prints how many there are. The input
-/// is opened first, and then the output.
-fn run_unpack(
-    rt: &(impl Files + Input + Print + Eprint + Clock),
-    alloc: Global,
-    files: &Making<'_>,
-    range: FrameRange,
-    met: &Met,
-) -> Result<(), Refusal>
-    ensures { IfErr result (IsMakingRefusal files.now.no_clobber) }
-{
-    let (source, metadata) = open_input(rt, files.input, met)?;
-    let target = open_output(rt, files.output, &metadata, files.no_clobber, met)?;
-    let mut reader = watched(rt, source, &metadata, files.progress);
-    let (_written, answer) = unpack_stream(alloc, &mut reader, ToWrite::new(target), range);
-    let frames = answer?;
-    let count = format!(in alloc; "frames {frames}")?;
-    print_count(rt, files.output, &count, met)
-}
-
 /// Prints what a file says, and with `cost` what its frames cost.
-fn run_show(
-    rt: &(impl Files + Input + Print),
+fn run_show<O: Opens>(
+    rt: &impl Print,
     alloc: Global,
+    opener: &O,
     input: &str,
     cost: bool,
     met: &Met,
 ) -> Result<(), Refusal>
+    ensures shows { ShowsIn (O.opens opener.now input.now) (O.misses opener.now input.now)
+        O.Reader.remaining O.Reader.failures cost result }
     ensures fault { IfErr result IsAnyFault }
     ensures own { IfErr result (IsFault (IsShowFault profile.Wide cost)) }
 {
-    let (mut reader, _) = open_input(rt, input, met)?;
+    let mut reader = opener.open(input, false)?;
     let mut writer = ToWrite::new(Noted::new(met, io::writer(rt)));
     show_stream(alloc, &mut reader, &mut writer, cost)
 }
 
 /// Prints the MD5 of each picture of a file, or of a text, which begins with `P` or `Y`. Only
 /// frames of a file are left out.
-fn run_framemd5(
-    rt: &(impl Files + Input + Print),
+fn run_framemd5<O: Opens>(
+    rt: &impl Print,
     alloc: Global,
+    opener: &O,
     input: &str,
     range: FrameRange,
     met: &Met,
 ) -> Result<(), Refusal>
-    ensures { IfErr result IsAnyFault }
+    ensures prints { PrintsIn (O.opens opener.now input.now) (O.misses opener.now input.now)
+        O.Reader.remaining O.Reader.failures range result }
+    ensures fault { IfErr result IsAnyFault }
 {
-    let (mut source, _) = open_input(rt, input, met)?;
+    let mut source = opener.open(input, false)?;
     let Ok(first) = read_byte(&mut source) else {
         return Err(Refusal::Fault(Fault::Read));
     };
@@ -180,18 +102,20 @@ fn run_framemd5(
 }
 
 /// Codes and decodes the mono picture of a file, and prints what it found.
-fn run_trial(
-    rt: &(impl Files + Input + Print),
+fn run_trial<O: Opens>(
+    rt: &impl Print,
     alloc: Global,
+    opener: &O,
     input: &str,
     met: &Met,
 ) -> Result<(), Refusal>
-    ensures { IfErr result IsAnyFault }
+    ensures tries { TriesIn (O.opens opener.now input.now) (O.misses opener.now input.now)
+        O.Reader.remaining O.Reader.failures result }
+    ensures fault { IfErr result IsAnyFault }
 {
-    let (mut reader, _) = open_input(rt, input, met)?;
+    let mut reader = opener.open(input, false)?;
     let mut writer = ToWrite::new(Noted::new(met, io::writer(rt)));
-    trial(alloc, &mut reader, &mut writer)?;
-    Ok(())
+    trial_stream(alloc, &mut reader, &mut writer)
 }
 
 /// The exit status of an order: 0 if it was done, 1 for a fault, or if a list of MD5s or a frame of
@@ -226,44 +150,60 @@ fn tell(rt: &impl Eprint, met: &Met, paths: Paths<'_>, done: Result<(), Refusal>
 }
 
 /// Looks at one file.
-fn look(
-    rt: &(impl Files + Input + Print + Eprint + Clock),
+fn look<O: Opens>(
+    rt: &impl Print,
     alloc: Global,
+    opener: &O,
     path: &str,
     looking: Looking,
     met: &Met,
 ) -> Result<(), Refusal>
-    ensures { IfErr result IsAnyFault }
+    ensures looks { LooksIn (O.opens opener.now path.now) (O.misses opener.now path.now)
+        O.Reader.remaining O.Reader.failures looking result }
+    ensures fault { IfErr result IsAnyFault }
 {
     met.clear();
     match looking {
-        Looking::Check(checking) => run_check(rt, alloc, path, checking, met),
-        Looking::Show { cost } => run_show(rt, alloc, path, cost, met),
-        Looking::FrameMd5(range) => run_framemd5(rt, alloc, path, range, met),
-        Looking::Trial => run_trial(rt, alloc, path, met),
+        Looking::Check(checking) => run_check(rt, alloc, opener, path, checking, met),
+        Looking::Show { cost } => run_show(rt, alloc, opener, path, cost, met),
+        Looking::Info(informing) => run_info(rt, alloc, opener, path, informing, met),
+        Looking::FrameMd5(range) => run_framemd5(rt, alloc, opener, path, range, met),
+        Looking::Trial => run_trial(rt, alloc, opener, path, met),
     }
 }
 
-/// What does the parts of an order by the calls of the system.
+/// What does the parts of an order by the calls of the system. Files are opened and made by what is
+/// given for that.
 #[derive(Drop)]
-struct BySystem<'a, R> {
+pub struct BySystem<'a, R, O> {
     rt: &'a R,
     alloc: Global,
     met: &'a Met,
+    opener: O,
 }
 
-impl<R: Files + Input + Print + Eprint + Clock> Doer for BySystem<'_, R> {
-    ghost packs = { λ s files _ _ outcome t.
-        (t ≡ s) × IfErr outcome (IsMakingRefusal files.no_clobber) };
+impl<R: Print + Eprint, O: Opens> Doer for BySystem<'_, R, O> {
+    ghost packs = { λ s files container choice outcome t. (t ≡ s)
+        × PacksIn (O.opens s.opener files.input.now) (O.makes s.opener files.output.now)
+        (O.refuses s.opener files) O.Reader.remaining O.Reader.failures O.Writer.contents
+        O.Writer.failures (is_matroska container files.output.now) choice outcome };
 
-    ghost unpacks = { λ s files _ outcome t.
-        (t ≡ s) × IfErr outcome (IsMakingRefusal files.no_clobber) };
+    ghost unpacks = { λ s files range outcome t. (t ≡ s)
+        × UnpacksIn (O.opens s.opener files.input.now) (O.makes s.opener files.output.now)
+        (O.refuses s.opener files) O.Reader.remaining O.Reader.failures O.Writer.contents
+        O.Writer.failures range outcome };
 
-    ghost compares = { λ s _ outcome t. (t ≡ s) × IfErr outcome IsComparingRefusal };
+    ghost compares = { λ s comparing outcome t. (t ≡ s)
+        × TellsIn (O.lists s.opener comparing.list.now) (O.lacks s.opener comparing.list.now)
+        O.Lines.remaining O.Lines.failures (O.opens s.opener comparing.input.now)
+        (O.misses s.opener comparing.input.now) O.Reader.remaining O.Reader.failures outcome };
 
-    ghost names = { λ s _ _ _ t. t ≡ s };
+    ghost names = { λ s looking _ printed t.
+        (t ≡ s) × (names_files looking ≡ false → printed ≡ true) };
 
-    ghost looks = { λ s _ _ outcome t. (t ≡ s) × IfErr outcome IsAnyFault };
+    ghost looks = { λ s looking path outcome t. (t ≡ s)
+        × LooksIn (O.opens s.opener path) (O.misses s.opener path) O.Reader.remaining
+        O.Reader.failures looking outcome };
 
     fn pack(
         &mut self,
@@ -271,15 +211,15 @@ impl<R: Files + Input + Print + Eprint + Clock> Doer for BySystem<'_, R> {
         container: ContainerChoice,
         choice: &Choice,
     ) -> Result<(), Refusal> {
-        run_pack(self.rt, self.alloc, files, container, choice, self.met)
+        run_pack(&*self, files, container, choice)
     }
 
     fn unpack(&mut self, files: &Making<'_>, range: FrameRange) -> Result<(), Refusal> {
-        run_unpack(self.rt, self.alloc, files, range, self.met)
+        run_unpack(&*self, files, range)
     }
 
     fn compare<'a>(&mut self, comparing: Comparing<'a>) -> (Paths<'a>, Result<(), Refusal>) {
-        run_against(self.rt, self.alloc, comparing, self.met)
+        run_against(&*self, comparing)
     }
 
     fn name(&mut self, looking: Looking, path: &str) -> bool {
@@ -287,7 +227,7 @@ impl<R: Files + Input + Print + Eprint + Clock> Doer for BySystem<'_, R> {
     }
 
     fn look(&mut self, looking: Looking, path: &str) -> Result<(), Refusal> {
-        look(self.rt, self.alloc, path, looking, self.met)
+        look(self.rt, self.alloc, &self.opener, path, looking, self.met)
     }
 }
 
@@ -300,7 +240,14 @@ fn run(
     ensures { IfOk result (IsStatus (makes_file order.entry)) }
 {
     let met = &Met::new();
-    let (_, status) = run_order(rt, met, BySystem { rt, alloc, met }, order);
+    let opener = SystemFiles { rt, met };
+    let doer = BySystem {
+        rt,
+        alloc,
+        met,
+        opener,
+    };
+    let (_, status) = run_order(rt, met, doer, order);
     status
 }
 
@@ -333,13 +280,14 @@ fn line(rt: &HostRuntime, alloc: Global) -> io::Result<ExitCode>
     };
     let texts: Vec<&str> = arguments.iter().map(|a| a.as_str()).collect(alloc)?;
     let met = &Met::new();
-    let (_, status) = command(
+    let opener = SystemFiles { rt, met };
+    let doer = BySystem {
         rt,
         alloc,
         met,
-        BySystem { rt, alloc, met },
-        texts.as_slice(),
-    );
+        opener,
+    };
+    let (_, status) = command(rt, alloc, met, doer, texts.as_slice());
     Ok(ExitCode::from(status?))
 }
 

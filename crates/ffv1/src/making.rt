@@ -1,9 +1,21 @@
-//! What a command that makes a file is given.
+//! What a command that makes a file is given, and what it does.
 
-ghost use Rattle.std.specs.Prelude.{◌≡◌};
+ghost use Rattle.std.specs.Prelude.{◌≡◌, IfErr};
+ghost use Rattle.ffv1_words.specs.Order.{is_matroska};
+ghost use Rattle.ffv1.specs.Made.{IsUntold, PacksIn, UnpacksIn};
 ghost use Rattle.ffv1.specs.Orders.{making};
+ghost use Rattle.ffv1.specs.Statuses.{IsAnyFault, IsMakingRefusal};
+ghost use Rattle.ffv1.specs.declared.refusal.Refusal.TheVariants as refusal;
+ghost use Rattle.ffv1_video.specs.declared.fault.Fault.TheVariants as fault;
 
+use crate::BySystem;
+use crate::input::Opens;
+use crate::met::Met;
+use crate::notes::{Notes, tell_notes};
+use crate::refusal::Refusal;
+use crate::streams::{Counts, pack_into, unpack_stream};
 use crate::told::Paths;
+use ffv1_words::{Choice, ContainerChoice, FrameRange, is_hyphen};
 
 /// What a command that makes a file is given.
 #[derive(Clone, Copy)]
@@ -37,5 +49,109 @@ impl<'a> Making<'a> {
             no_clobber,
             progress,
         }
+    }
+}
+
+/// Prints a count: on standard output, or on standard error if the output itself goes there.
+fn print_count(
+    rt: &(impl Print + Eprint),
+    output: &str,
+    count: &str,
+    met: &Met,
+) -> Result<(), Refusal>
+    ensures { IfErr result (λ r. r ≡ refusal.Fault fault.Write) }
+{
+    let printed = if is_hyphen(output) {
+        eprintln!(rt; "{count}")
+    } else {
+        println!(rt; "{count}")
+    };
+    met.printed(printed)
+}
+
+/// Prints how many frames and bytes of them there are, after notes of what the file does not hold.
+/// `Write` if a line cannot be printed, `OutOfMemory` if memory of it is refused.
+fn tell_packed<R: Print + Eprint, O>(
+    system: &BySystem<'_, R, O>,
+    files: &Making<'_>,
+    choice: &Choice,
+    counts: Counts,
+) -> Result<(), Refusal>
+    ensures untold { IfErr result IsUntold }
+    ensures fault { IfErr result IsAnyFault }
+{
+    let Counts {
+        frames,
+        bytes,
+        loses_colour,
+    } = counts;
+    let met = system.met;
+    let keeps_rate = choice.rate_given && met.is_text();
+    let notes = Notes {
+        loses_colour,
+        keeps_rate,
+    };
+    met.printed(tell_notes(system.rt, files.paths(), notes))?;
+    let count = format!(in system.alloc; "frames {frames} bytes {bytes}")?;
+    print_count(system.rt, files.output, &count, met)
+}
+
+/// Prints how many pictures there are. `Write` if the line cannot be printed, `OutOfMemory` if
+/// memory of it is refused.
+fn tell_unpacked<R: Print + Eprint, O>(
+    system: &BySystem<'_, R, O>,
+    files: &Making<'_>,
+    frames: u64,
+) -> Result<(), Refusal>
+    ensures untold { IfErr result IsUntold }
+    ensures fault { IfErr result IsAnyFault }
+{
+    let count = format!(in system.alloc; "frames {frames}")?;
+    print_count(system.rt, files.output, &count, system.met)
+}
+
+/// Packs a video into a file, and prints how many frames and bytes of them there are, after notes
+/// of what the file does not hold.
+pub fn run_pack<R: Print + Eprint, O: Opens>(
+    system: &BySystem<'_, R, O>,
+    files: &Making<'_>,
+    container: ContainerChoice,
+    choice: &Choice,
+) -> Result<(), Refusal>
+    ensures packs { PacksIn (O.opens system.now.opener files.now.input.now)
+        (O.makes system.now.opener files.now.output.now) (O.refuses system.now.opener files.now)
+        O.Reader.remaining O.Reader.failures O.Writer.contents O.Writer.failures
+        (is_matroska container files.now.output.now) choice.now result }
+    ensures refused { IfErr result (IsMakingRefusal files.now.no_clobber) }
+{
+    let (mut reader, mut writer) = system.opener.make(files)?;
+    match pack_into(
+        system.alloc,
+        &mut reader,
+        &mut writer,
+        container.is_matroska(files.output),
+        choice,
+    ) {
+        Ok(counts) => tell_packed(system, files, choice, counts),
+        Err(refusal) => Err(refusal),
+    }
+}
+
+/// Unpacks frames of a file into a text of their pictures, and prints how many there are.
+pub fn run_unpack<R: Print + Eprint, O: Opens>(
+    system: &BySystem<'_, R, O>,
+    files: &Making<'_>,
+    range: FrameRange,
+) -> Result<(), Refusal>
+    ensures unpacks { UnpacksIn (O.opens system.now.opener files.now.input.now)
+        (O.makes system.now.opener files.now.output.now) (O.refuses system.now.opener files.now)
+        O.Reader.remaining O.Reader.failures O.Writer.contents O.Writer.failures range result }
+    ensures refused { IfErr result (IsMakingRefusal files.now.no_clobber) }
+{
+    let (mut reader, writer) = system.opener.make(files)?;
+    let (_written, answer) = unpack_stream(system.alloc, &mut reader, writer, range);
+    match answer {
+        Ok(frames) => tell_unpacked(system, files, frames),
+        Err(refusal) => Err(refusal),
     }
 }

@@ -39,6 +39,8 @@ pub struct Met {
     head: Cell<[u8; KEPT]>,
     // How many bytes were read of it.
     read: Cell<u64>,
+    // How many lines of its frames were written.
+    frames: Cell<u64>,
 }
 
 impl Met {
@@ -48,6 +50,7 @@ impl Met {
             code: Cell::new(0),
             head: Cell::new([0; KEPT]),
             read: Cell::new(0),
+            frames: Cell::new(0),
         }
     }
 
@@ -56,6 +59,7 @@ impl Met {
         self.code.set(0);
         self.head.set([0; KEPT]);
         self.read.set(0);
+        self.frames.set(0);
     }
 
     /// Keeps why the system refused a call.
@@ -104,6 +108,18 @@ impl Met {
         self.head.set(head);
     }
 
+    /// Counts a line that was written, if it is of a frame.
+    pub fn wrote(&self, line: &[u8]) {
+        if line.starts_with(b"frame ") {
+            self.frames.set(self.frames.get().saturating_add(1));
+        }
+    }
+
+    /// How many lines of frames were written.
+    pub fn frames(&self) -> u64 {
+        self.frames.get()
+    }
+
     /// Whether IN begins as YUV4MPEG2 does.
     pub fn is_text(&self) -> bool {
         self.head.get().starts_with(b"Y")
@@ -148,13 +164,6 @@ impl<'a, T> Noted<'a, T> {
     {
         Noted { inner, met }
     }
-
-    /// What is wrapped.
-    pub fn inner(&self) -> &T
-        ensures { result.now ≡ self.now.inner }
-    {
-        &self.inner
-    }
 }
 
 impl<R: Read> Read for Noted<'_, R> {
@@ -179,7 +188,10 @@ impl<W: Write> Write for Noted<'_, W> {
 
     fn write(&mut self, buf: &[u8]) -> io::Result<usize> {
         match self.inner.write(buf) {
-            Ok(count) => Ok(count),
+            Ok(count) => {
+                self.met.wrote(&buf[..count]);
+                Ok(count)
+            }
             Err(error) => {
                 self.met.refused(&error);
                 Err(error)

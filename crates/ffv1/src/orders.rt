@@ -3,18 +3,21 @@
 ghost use Rattle.std.specs.Prelude.{◌≡◌, ◌≤◌, IfErr, IfOk, true};
 ghost use Rattle.ffv1.specs.Looked.{paths_of};
 ghost use Rattle.ffv1.specs.Orders.{ChecksAll, ComparingOf, Does, DoesOrder, Doing, LookingAt};
-ghost use Rattle.ffv1.specs.Orders.{LooksAll, NamingOf, Packing, Unpacking, looks_in, names_in};
+ghost use Rattle.ffv1.specs.Orders.{LooksAll, NamingOf, Packing, Unpacking, looks_at_files};
+ghost use Rattle.ffv1.specs.Orders.{looks_in, names_files, names_in};
 ghost use Rattle.ffv1.specs.Statuses.{IsAnyFault, IsComparingRefusal, IsMakingRefusal, IsStatus};
 ghost use Rattle.ffv1.specs.Statuses.{makes_file};
 ghost use Rattle.ffv1.specs.declared.orders.Looking.TheVariants as looking;
 
 use crate::against::Comparing;
 use crate::checking::Checking;
+use crate::infos::Informing;
 use crate::making::Making;
 use crate::met::Met;
 use crate::refusal::Refusal;
 use crate::several::{self, Looks};
 use crate::tell;
+use crate::telling::Telling;
 use crate::told::Paths;
 use ffv1_words::{Choice, ContainerChoice, FrameRange, Order};
 use std::io;
@@ -26,6 +29,8 @@ pub enum Looking {
     Check(Checking),
     /// It is shown, with what its frames cost or without.
     Show { cost: bool },
+    /// Its facts are told so.
+    Info(Informing),
     /// The MD5s of its pictures are printed.
     FrameMd5(FrameRange),
     /// Its picture is coded and decoded again.
@@ -34,9 +39,12 @@ pub enum Looking {
 
 impl Looking {
     /// Whether a line of the path of each of several files is printed.
-    pub fn names_files(self) -> bool {
+    pub fn names_files(self) -> bool
+        ensures { result ≡ names_files self }
+    {
         match self {
-            Looking::Check(checking) => !checking.quiet,
+            Looking::Check(checking) => checking.told.is_of_frames(),
+            Looking::Info(informing) => !informing.json,
             Looking::Show { .. } | Looking::FrameMd5(_) | Looking::Trial => true,
         }
     }
@@ -163,7 +171,7 @@ fn check_all<D: Doer>(
     let comparing = Comparing {
         input,
         list,
-        quiet: checking.quiet,
+        told: checking.told,
         progress: checking.progress,
     };
     let mut doer = doer;
@@ -204,6 +212,35 @@ fn unpack_file<D: Doer>(
     let mut doer = doer;
     let done = doer.unpack(files, range);
     (doer, tell(rt, met, files.paths(), done))
+}
+
+/// Looks at the files of an order that looks at each in one way. Answers the exit status.
+fn look_in<D: Doer>(rt: &impl Eprint, met: &Met, doer: D, order: Order<'_>) -> (D, io::Result<u8>)
+    ensures does { looks_at_files order.entry ≡ true → DoesOrder (record {
+      packs = D.packs;
+      unpacks = D.unpacks;
+      compares = D.compares;
+      names = D.names;
+      looks = D.looks;
+    }) doer order.entry result.1 result.0 }
+    ensures small { IfOk result.1 (λ status. status ≤ 1) }
+{
+    match order {
+        Order::Show { inputs, cost } => { look_all(rt, met, doer, Looking::Show { cost }, inputs) }
+        Order::Info {
+            inputs,
+            count,
+            json,
+        } => {
+            let informing = Informing::new(count, json);
+            look_all(rt, met, doer, Looking::Info(informing), inputs)
+        }
+        Order::FrameMd5 { inputs, range } => {
+            look_all(rt, met, doer, Looking::FrameMd5(range), inputs)
+        }
+        Order::Trial { input } => look_all(rt, met, doer, Looking::Trial, &[input]),
+        Order::Pack { .. } | Order::Unpack { .. } | Order::Check { .. } => (doer, Ok(0)),
+    }
 }
 
 /// Does what an order asks for, and says on standard error what is refused. Answers what did it,
@@ -250,17 +287,17 @@ pub fn run_order<D: Doer>(
             all,
             place,
             quiet,
+            json,
             progress,
             against,
             range,
         } => {
-            let checking = Checking::new(all, place, quiet, progress, range);
+            let told = Telling::new(quiet, json);
+            let checking = Checking::new(all, place, told, progress, range);
             check_all(rt, met, doer, checking, inputs, against)
         }
-        Order::Show { inputs, cost } => { look_all(rt, met, doer, Looking::Show { cost }, inputs) }
-        Order::FrameMd5 { inputs, range } => {
-            look_all(rt, met, doer, Looking::FrameMd5(range), inputs)
+        Order::Show { .. } | Order::Info { .. } | Order::FrameMd5 { .. } | Order::Trial { .. } => {
+            look_in(rt, met, doer, order)
         }
-        Order::Trial { input } => look_all(rt, met, doer, Looking::Trial, &[input]),
     }
 }

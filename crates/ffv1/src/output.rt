@@ -2,6 +2,7 @@
 //! output.
 
 ghost use Rattle.std.specs.Prelude.{◌≡◌, ◌⊎◌, [], IfErr, Ok, OnErr, OnOk, false, true};
+ghost use Rattle.ffv1.specs.Output.{making_options};
 ghost use Rattle.ffv1.specs.declared.refusal.Refusal.TheVariants as refusal;
 ghost use Rattle.ffv1_video.specs.declared.fault.Fault.TheVariants as fault;
 
@@ -22,17 +23,8 @@ pub struct Anew<F: Drop> {
     file: F,
     // Whether it still holds what it held when it was opened.
     is_old: bool,
-    // Whether it is a regular file, which may be written over.
+    // Whether it is a regular file, which may be written over: a pipe and a device are not.
     is_regular: bool,
-}
-
-impl<F: Drop> Anew<F> {
-    /// Whether it is a regular file, which may be written over.
-    pub fn is_regular(&self) -> bool
-        ensures { result ≡ self.now.is_regular }
-    {
-        self.is_regular
-    }
 }
 
 impl<F: OpenFile + Drop> Anew<F> {
@@ -63,18 +55,55 @@ impl<F: Write + OpenFile + Drop> Write for Anew<F> {
 
 impl<F: Seek + OpenFile + Drop> Seek for Anew<F> {
     fn seek(&mut self, to: SeekFrom) -> io::Result<u64> {
+        if !self.is_regular {
+            return Err(io::Error::from(ErrorKind::NotSeekable));
+        }
         self.file.seek(to)
     }
 }
 
+/// A writer that cannot be sent to a place, so that nothing is written over.
+#[derive(Drop)]
+pub struct Onward<W> {
+    inner: W,
+}
+
+impl<W: Write> Write for Onward<W> {
+    ghost contents = { λ s. W.contents s.inner };
+
+    fn write(&mut self, buf: &[u8]) -> io::Result<usize> {
+        self.inner.write(buf)
+    }
+
+    fn flush(&mut self) -> io::Result<()> {
+        self.inner.flush()
+    }
+}
+
+impl<W> Seek for Onward<W> {
+    fn seek(&mut self, _to: SeekFrom) -> io::Result<u64> {
+        Err(io::Error::from(ErrorKind::NotSeekable))
+    }
+}
+
 /// A file, or standard output.
-pub type Target<'a, H> = Either<Noted<'a, Anew<<H as Files>::File>>, Noted<'a, Printer<'a, H>>>;
+pub type Target<'a, H> = Noted<'a, Either<Anew<<H as Files>::File>, Onward<Printer<'a, H>>>>;
 
 /// Whether these are one file, by its device and number. Streams and terminals, of which nothing
 /// is lost, are none.
 fn is_one_file(input: &Metadata, output: &Metadata) -> bool {
     let is_kept = input.is_file() || input.file_type().is_block_device();
     is_kept && input.dev() == output.dev() && input.ino() == output.ino()
+}
+
+/// How OUT is opened: to be written, and made if nothing is there, but not emptied; with
+/// `no_clobber` it has to be made.
+fn options_for(no_clobber: bool) -> OpenOptions
+    ensures { result ≡ making_options no_clobber }
+{
+    let mut options = OpenOptions::new();
+    options.write(true).create(true).create_new(no_clobber);
+    options
 }
 
 /// Opens OUT if it is not the file of IN, and `-` is standard output. A file that is there is
@@ -100,11 +129,12 @@ pub fn open_output<'a, H: Files + Print>(
         }
     }
     if is_hyphen(path) {
-        return Ok(Right(Noted::new(met, io::writer(rt))));
+        let printer = Onward {
+            inner: io::writer(rt),
+        };
+        return Ok(Noted::new(met, Right(printer)));
     }
-    let mut options = OpenOptions::new();
-    options.write(true).create(true).create_new(no_clobber);
-    match options.open(rt, path) {
+    match options_for(no_clobber).open(rt, path) {
         Ok(file) => {
             let (is_regular, is_old) = match file.metadata() {
                 Ok(metadata) => (metadata.is_file(), metadata.is_file() && metadata.len() > 0),
@@ -115,7 +145,7 @@ pub fn open_output<'a, H: Files + Print>(
                 is_old,
                 is_regular,
             };
-            Ok(Left(Noted::new(met, target)))
+            Ok(Noted::new(met, Left(target)))
         }
         Err(error) if no_clobber && error.kind() == ErrorKind::AlreadyExists => {
             Err(Refusal::Exists)

@@ -2,7 +2,9 @@
 
 ghost use Rattle.std.specs.Prelude.{◌≡◌};
 
+use crate::met::Met;
 use ffv1_wire::{ByteIn, Failed};
+use std::fmt;
 use std::time::{Clock, Instant};
 
 /// The seconds between two lines, at least.
@@ -17,8 +19,11 @@ const MEBIBYTE: u64 = 1048576;
 pub struct Watched<'a, R, P> {
     inner: R,
     rt: &'a P,
-    // When it printed last, or was made; none if it prints nothing.
-    told: Option<Instant>,
+    met: &'a Met,
+    // When it was made; none if it prints nothing.
+    begun: Option<Instant>,
+    // How many seconds it had been there when it printed last; 0 if it has not.
+    told: u64,
     // How many bytes there are, if that is known.
     size: Option<u64>,
     read: u64,
@@ -26,10 +31,16 @@ pub struct Watched<'a, R, P> {
 
 impl<'a, R, P: Eprint + Clock> Watched<'a, R, P> {
     /// Wraps a reader. It prints only if `progress` asks for that.
-    pub fn new(rt: &'a P, inner: R, size: Option<u64>, progress: bool) -> Watched<'a, R, P>
+    pub fn new(
+        rt: &'a P,
+        inner: R,
+        size: Option<u64>,
+        progress: bool,
+        met: &'a Met,
+    ) -> Watched<'a, R, P>
         ensures { result.inner ≡ inner }
     {
-        let told = if progress {
+        let begun = if progress {
             Instant::now(rt).ok()
         } else {
             None
@@ -37,7 +48,9 @@ impl<'a, R, P: Eprint + Clock> Watched<'a, R, P> {
         Watched {
             inner,
             rt,
-            told,
+            met,
+            begun,
+            told: 0,
             size,
             read: 0,
         }
@@ -48,30 +61,54 @@ impl<'a, R, P: Eprint + Clock> Watched<'a, R, P> {
         ensures { self.new.inner ≡ self.old.inner }
     {
         self.read = self.read.saturating_add(bytes);
-        let Some(told) = self.told else {
+        let Some(begun) = self.begun else {
             return;
         };
         let Ok(now) = Instant::now(self.rt) else {
             return;
         };
-        if now.duration_since(told).as_secs() >= PAUSE {
-            self.told = Some(now);
-            tell(self.rt, self.read, self.size);
+        let seconds = now.duration_since(begun).as_secs();
+        if seconds.saturating_sub(self.told) >= PAUSE {
+            self.told = seconds;
+            let so_far = SoFar {
+                read: self.read,
+                size: self.size,
+                frames: self.met.frames(),
+                seconds,
+            };
+            let _ = eprintln!(self.rt; "ffv1: {so_far}");
         }
     }
 }
 
-/// Prints how many bytes were read, of how many if that is known.
-fn tell(rt: &impl Eprint, read: u64, size: Option<u64>) {
-    let done = read / MEBIBYTE;
-    let _ = match size {
-        Some(size) if size > 0 => {
+/// How far a file was read after so many seconds, at least one.
+#[derive(Clone, Copy)]
+struct SoFar {
+    // How many bytes were read, and of how many, if that is known.
+    read: u64,
+    size: Option<u64>,
+    // How many lines of frames were written.
+    frames: u64,
+    seconds: u64,
+}
+
+impl fmt::Display for SoFar {
+    fn fmt<W: fmt::Write>(&self, f: &mut fmt::Formatter<W>) -> fmt::Result {
+        let done = self.read / MEBIBYTE;
+        write!(f, "read {done} MiB")?;
+        if let Some(size) = self.size {
             let whole = size / MEBIBYTE;
-            let share = read.saturating_mul(100) / size;
-            eprintln!(rt; "ffv1: read {done} MiB of {whole}, {share} %")
+            let share = self.read.saturating_mul(100) / size.max(1);
+            let rest = size.saturating_sub(self.read);
+            let left = rest.saturating_mul(self.seconds) / self.read.max(1);
+            write!(f, " of {whole}, {share} %, {left} s left")?;
         }
-        _ => eprintln!(rt; "ffv1: read {done} MiB"),
-    };
+        if self.frames > 0 {
+            let rate = self.frames / self.seconds.max(1);
+            write!(f, ", {rate} frames a second")?;
+        }
+        Ok(())
+    }
 }
 
 impl<R: ByteIn, P: Eprint + Clock> ByteIn for Watched<'_, R, P> {

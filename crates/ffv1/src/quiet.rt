@@ -1,8 +1,9 @@
 //! One line of a file in place of those of its frames. What `check` writes is not printed, and no
-//! more of it is kept than that line tells.
+//! more of it is kept than that line tells, or an object of JSON.
 
 ghost use Rattle.std.specs.Prelude.{None};
 
+use crate::met::Met;
 use ffv1_engine::Fault;
 use ffv1_wire::{ByteOut, Failed};
 use ffv1_words::is_hyphen;
@@ -78,7 +79,7 @@ impl Line {
 
 /// Where a fault is, in the digits of its numbers.
 #[derive(Clone, Copy)]
-enum Place<'a> {
+pub enum Place<'a> {
     /// In this frame, and in this slice of it.
     Slice(&'a str, &'a str),
     /// At this byte of the file.
@@ -99,7 +100,8 @@ impl fmt::Display for Place<'_> {
 
 /// A writer of lines, which keeps the last one that ended, and the first one of a fault's place.
 #[derive(Drop)]
-pub struct LastLines {
+pub struct LastLines<'a> {
+    met: &'a Met,
     // The line that has not ended.
     line: Line,
     // The last one that ended.
@@ -110,10 +112,11 @@ pub struct LastLines {
     told: bool,
 }
 
-impl LastLines {
+impl<'a> LastLines<'a> {
     /// No line was written yet.
-    pub fn new() -> LastLines {
+    pub fn new(met: &'a Met) -> LastLines<'a> {
         LastLines {
+            met,
             line: Line::new(),
             last: Line::new(),
             first: Line::new(),
@@ -131,10 +134,30 @@ impl LastLines {
         self.line = Line::new();
     }
 
+    /// What is met in the file.
+    pub fn met(&self) -> &'a Met {
+        self.met
+    }
+
+    /// How many frames there are, if all were judged.
+    pub fn frames(&self) -> &str {
+        self.last.word(1)
+    }
+
+    /// How many faults there are, if all frames were judged and some fault was met.
+    pub fn faults(&self) -> &str {
+        self.last.word(3)
+    }
+
+    /// Where the first fault is.
+    pub fn first_place(&self) -> Place<'_> {
+        self.first.place()
+    }
+
     /// Where a fault is that ended a check: as the last line says. If all frames were asked for
     /// that line may be of a frame before, or of a fault that was passed, and only a byte of the
     /// file is the fault's own.
-    fn place(&self, all: bool) -> Place<'_> {
+    pub fn place(&self, all: bool) -> Place<'_> {
         if self.last.is_told() {
             return Place::Unknown;
         }
@@ -145,12 +168,13 @@ impl LastLines {
     }
 }
 
-impl ByteOut for LastLines {
+impl ByteOut for LastLines<'_> {
     ghost contents = { λ _. None };
 
     ghost failures = { λ _. 0 };
 
     fn write(&mut self, buf: &[u8]) -> Result<usize, Failed> {
+        self.met.wrote(buf);
         for byte in buf {
             if *byte == b'\n' {
                 self.end();
@@ -166,10 +190,10 @@ impl ByteOut for LastLines {
 /// how many are refused, and the first fault, or how many faults there are, if some are of the
 /// file; or the fault that ended the check, and where it is if that is known. `answer` is what the
 /// check answered, and `lines` has what it wrote, with places.
-pub fn tell_verdict(
+pub fn tell_line(
     rt: &impl Print,
     path: &str,
-    lines: &LastLines,
+    lines: &LastLines<'_>,
     all: bool,
     answer: Result<Option<Fault>, Fault>,
 ) -> io::Result<()> {
@@ -180,12 +204,12 @@ pub fn tell_verdict(
     };
     match answer {
         Ok(None) => {
-            let frames = lines.last.word(1);
+            let frames = lines.frames();
             println!(rt; "{path}: sound, {frames} frames")
         }
         Ok(Some(fault)) => {
-            let (frames, faults) = (lines.last.word(1), lines.last.word(3));
-            let place = lines.first.place();
+            let (frames, faults) = (lines.frames(), lines.faults());
+            let place = lines.first_place();
             if lines.told {
                 println!(rt; "{path}: {faults} faults in {frames} frames, the first {fault}{place}")
             } else {

@@ -5,32 +5,25 @@ ghost use Rattle.std.specs.Prelude.{◌≡◌, ◌≢◌, IfErr, IfOk, MatchResu
 ghost use Rattle.ffv1_wire.specs.Passage.{passage};
 ghost use Rattle.ffv1_pack.specs.Pack.{Packs, RefusesPack};
 ghost use Rattle.ffv1_pack.specs.PackMatroska.{PacksMatroska, RefusesMatroska};
-ghost use Rattle.ffv1_pack.specs.TextMd5.{TextDone, TextStops};
 ghost use Rattle.ffv1_unpack.specs.Check.{IsCheckFault};
-ghost use Rattle.ffv1_unpack.specs.FrameMd5.{Md5RangeDone, Md5RangeStops};
-ghost use Rattle.ffv1_unpack.specs.Show.{IsShowFault, ShowDone, ShowStops};
+ghost use Rattle.ffv1_unpack.specs.Show.{IsShowFault};
 ghost use Rattle.ffv1_unpack.specs.Unpack.{UnpackRangeDone, UnpackRangeStops};
-ghost use Rattle.ffv1_video.specs.Profiles.{greatest_depth};
 ghost use Rattle.ffv1_words.specs.Order.{leaves_out};
 ghost use Rattle.ffv1_video.specs.declared.profile.Profile.TheVariants as profile;
+ghost use Rattle.ffv1.specs.Made.{PacksInto};
 ghost use Rattle.ffv1.specs.Statuses.{IsAnyFault, IsFault};
-ghost use Rattle.ffv1.specs.Streams.{Checks};
+ghost use Rattle.ffv1.specs.Streams.{Checks, Informs, Shows, Tries, WritesFrames, WritesMd5s};
 
 use crate::refusal::Refusal;
 use ffv1_engine::{
     Fault, Packed, PackedMatroska, Profile, check_all, check_all_range, check_range,
-    framemd5_range, framemd5_text, pack, pack_matroska, show, unpack_range,
+    framemd5_range, framemd5_text, pack, pack_matroska, show, trial, unpack_range,
 };
+use ffv1_info::info;
+use ffv1_outline::Form;
 use ffv1_wire::{ByteIn, ByteOut, PatchOut};
 use ffv1_words::{Choice, FrameRange};
 use std::alloc::Global;
-
-/// Whether a range may leave out frames of a file.
-fn is_part(range: FrameRange) -> bool
-    ensures { result ≡ leaves_out range }
-{
-    range.first != 0 || range.count.is_some()
-}
 
 /// Decodes frames of a file, and writes what each took, and with `place` where one is refused; with
 /// `all` also those after one that is refused, and if no frame is left out also what is left of a
@@ -52,7 +45,7 @@ pub fn check_stream<R: ByteIn, W: ByteOut>(
         check_range(alloc, Profile::Wide, input, output, place, range)?;
         return Ok(None);
     }
-    if is_part(range) {
+    if range.leaves_out() {
         return check_all_range(alloc, Profile::Wide, input, output, place, range);
     }
     check_all(alloc, Profile::Wide, input, output, place)
@@ -65,15 +58,46 @@ pub fn show_stream<R: ByteIn, W: ByteOut>(
     output: &mut W,
     cost: bool,
 ) -> Result<(), Refusal>
-    ensures shows { MatchResult result
-        (λ _. ShowDone profile.Wide (passage R.remaining R.failures input.old input.new)
-        (passage W.contents W.failures output.old output.new) cost)
-        (IsFault (ShowStops profile.Wide (passage R.remaining R.failures input.old input.new)
-        (passage W.contents W.failures output.old output.new) cost)) }
+    ensures shows { Shows cost (passage R.remaining R.failures input.old input.new)
+        (passage W.contents W.failures output.old output.new) result }
     ensures own { IfErr result (IsFault (IsShowFault profile.Wide cost)) }
     ensures fault { IfErr result IsAnyFault }
 {
     match show(alloc, Profile::Wide, input, output, cost) {
+        Ok(()) => Ok(()),
+        Err(fault) => Err(Refusal::Fault(fault)),
+    }
+}
+
+/// Writes the facts of a file, and with `count` how many frames it has.
+pub fn info_stream<R: ByteIn + Drop, W: ByteOut>(
+    alloc: Global,
+    input: R,
+    output: &mut W,
+    form: Form,
+    count: bool,
+) -> Result<(), Refusal>
+    ensures informs { Informs form count (R.remaining input)
+        (passage W.contents W.failures output.old output.new) result }
+    ensures fault { IfErr result IsAnyFault }
+{
+    match info(alloc, Profile::Wide, input, output, form, count) {
+        Ok(()) => Ok(()),
+        Err(fault) => Err(Refusal::Fault(fault)),
+    }
+}
+
+/// Codes and decodes the first picture of a text, and writes what it found.
+pub fn trial_stream<R: ByteIn, W: ByteOut>(
+    alloc: Global,
+    input: &mut R,
+    output: &mut W,
+) -> Result<(), Refusal>
+    ensures tries { Tries (passage R.remaining R.failures input.old input.new)
+        (passage W.contents W.failures output.old output.new) result }
+    ensures fault { IfErr result IsAnyFault }
+{
+    match trial(alloc, input, output) {
         Ok(()) => Ok(()),
         Err(fault) => Err(Refusal::Fault(fault)),
     }
@@ -88,37 +112,21 @@ pub fn framemd5_stream<R: ByteIn, W: ByteOut>(
     output: &mut W,
     range: FrameRange,
 ) -> Result<(), Refusal>
-    ensures images { leaves_out range ≡ false → first ≡ Some 80 → MatchResult result
-        (λ _. TextDone (greatest_depth profile.Wide)
+    ensures images { leaves_out range ≡ false → first ≡ Some 80 → WritesMd5s
         (passage R.remaining R.failures input.old input.new)
-        (passage W.contents W.failures output.old output.new))
-        (IsFault (TextStops (greatest_depth profile.Wide)
+        (passage W.contents W.failures output.old output.new) result }
+    ensures text { leaves_out range ≡ false → first ≡ Some 89 → WritesMd5s
         (passage R.remaining R.failures input.old input.new)
-        (passage W.contents W.failures output.old output.new))) }
-    ensures text { leaves_out range ≡ false → first ≡ Some 89 → MatchResult result
-        (λ _. TextDone (greatest_depth profile.Wide)
+        (passage W.contents W.failures output.old output.new) result }
+    ensures file { first ≢ Some 80 → first ≢ Some 89 → WritesFrames range
         (passage R.remaining R.failures input.old input.new)
-        (passage W.contents W.failures output.old output.new))
-        (IsFault (TextStops (greatest_depth profile.Wide)
+        (passage W.contents W.failures output.old output.new) result }
+    ensures frames { leaves_out range ≡ true → WritesFrames range
         (passage R.remaining R.failures input.old input.new)
-        (passage W.contents W.failures output.old output.new))) }
-    ensures file { first ≢ Some 80 → first ≢ Some 89 → MatchResult result
-        (λ _. Md5RangeDone profile.Wide range
-        (passage R.remaining R.failures input.old input.new)
-        (passage W.contents W.failures output.old output.new))
-        (IsFault (Md5RangeStops profile.Wide range
-        (passage R.remaining R.failures input.old input.new)
-        (passage W.contents W.failures output.old output.new))) }
-    ensures frames { leaves_out range ≡ true → MatchResult result
-        (λ _. Md5RangeDone profile.Wide range
-        (passage R.remaining R.failures input.old input.new)
-        (passage W.contents W.failures output.old output.new))
-        (IsFault (Md5RangeStops profile.Wide range
-        (passage R.remaining R.failures input.old input.new)
-        (passage W.contents W.failures output.old output.new))) }
+        (passage W.contents W.failures output.old output.new) result }
     ensures fault { IfErr result IsAnyFault }
 {
-    if !is_part(range) && (first == Some(b'P') || first == Some(b'Y')) {
+    if !range.leaves_out() && (first == Some(b'P') || first == Some(b'Y')) {
         return match framemd5_text(alloc, Profile::Wide, input, output) {
             Ok(()) => Ok(()),
             Err(fault) => Err(Refusal::Fault(fault)),
@@ -151,6 +159,17 @@ pub fn unpack_stream<R: ByteIn, W: ByteOut>(
         Ok(count) => (output, Ok(count)),
         Err(fault) => (output, Err(Refusal::Fault(fault))),
     }
+}
+
+/// What is told of a file that was packed.
+#[derive(Clone, Copy)]
+pub struct Counts {
+    /// How many frames there are.
+    pub frames: u64,
+    /// How many bytes the frames have.
+    pub bytes: u64,
+    /// Whether the file does not hold what its video says of colours.
+    pub loses_colour: bool,
 }
 
 /// Packs a video into AVI.
@@ -193,5 +212,38 @@ pub fn pack_clusters<R: ByteIn, W: PatchOut>(
     match pack_matroska(alloc, Profile::Wide, input, output, choice) {
         Ok(packed) => Ok(packed),
         Err(fault) => Err(Refusal::Fault(fault)),
+    }
+}
+
+/// Packs a video into Matroska, or into AVI.
+pub fn pack_into<R: ByteIn, W: PatchOut>(
+    alloc: Global,
+    input: &mut R,
+    output: &mut W,
+    is_matroska: bool,
+    choice: &Choice,
+) -> Result<Counts, Refusal>
+    ensures packs { PacksInto is_matroska choice.now
+        (passage R.remaining R.failures input.old input.new)
+        (passage W.contents W.failures output.old output.new) result }
+    ensures fault { IfErr result IsAnyFault }
+{
+    if is_matroska {
+        return match pack_clusters(alloc, input, output, choice) {
+            Ok(packed) => Ok(Counts {
+                frames: packed.frames,
+                bytes: packed.bytes,
+                loses_colour: false,
+            }),
+            Err(refusal) => Err(refusal),
+        };
+    }
+    match pack_stream(alloc, input, output, choice) {
+        Ok(packed) => Ok(Counts {
+            frames: packed.frames,
+            bytes: packed.bytes,
+            loses_colour: packed.loses_colour,
+        }),
+        Err(refusal) => Err(refusal),
     }
 }

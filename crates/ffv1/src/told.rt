@@ -57,6 +57,17 @@ fn row_numbered(number: u32) -> Option<&'static str> {
     None
 }
 
+/// What is known of a refusal that has a number.
+pub fn known_of(refusal: Refusal) -> &'static str {
+    if let Some((number, _, _)) = told_place(refusal) {
+        return row_numbered(number).unwrap_or("");
+    }
+    match refusal {
+        Refusal::Fault(fault) => row_of(fault),
+        _ => "",
+    }
+}
+
 /// Which line says what to do if the system refused to read, by its number: there is no such file,
 /// no permission, or it is a folder.
 fn place_of_read(code: i32) -> usize {

@@ -9,6 +9,7 @@ mod encoded;
 mod endings;
 mod faults;
 mod frames;
+mod infos;
 mod judged;
 mod lanes;
 mod line;

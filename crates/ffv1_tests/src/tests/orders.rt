@@ -51,7 +51,7 @@ fn names_each<'a>(rt: &impl Abort, alloc: Global, rows: &'a [(&'a [&'a str], Ord
 }
 
 /// Each command.
-static COMMANDS: [(&[&str], Order<'static>); 6] = [
+static COMMANDS: [(&[&str], Order<'static>); 7] = [
     (
         &["ffv1", "pack", "a", "b"],
         Order::Pack {
@@ -80,6 +80,7 @@ static COMMANDS: [(&[&str], Order<'static>); 6] = [
             all: false,
             place: false,
             quiet: false,
+            json: false,
             progress: false,
             against: None,
             range: FrameRange::ALL,
@@ -90,6 +91,14 @@ static COMMANDS: [(&[&str], Order<'static>); 6] = [
         Order::Show {
             inputs: &["a"],
             cost: false,
+        },
+    ),
+    (
+        &["ffv1", "info", "a"],
+        Order::Info {
+            inputs: &["a"],
+            count: false,
+            json: false,
         },
     ),
     (

@@ -4,7 +4,7 @@ use super::{DEFAULTS, names_each};
 use ffv1_engine::{ContainerChoice, FrameRange, Order};
 
 /// Flags, and words that are files after two hyphens.
-static FLAGS: [(&[&str], Order<'static>); 15] = [
+static FLAGS: [(&[&str], Order<'static>); 18] = [
     (
         &["ffv1", "pack", "a", "--no-clobber", "b"],
         Order::Pack {
@@ -54,6 +54,7 @@ static FLAGS: [(&[&str], Order<'static>); 15] = [
             all: false,
             place: true,
             quiet: false,
+            json: false,
             progress: false,
             against: None,
             range: FrameRange::ALL,
@@ -66,6 +67,7 @@ static FLAGS: [(&[&str], Order<'static>); 15] = [
             all: false,
             place: false,
             quiet: false,
+            json: false,
             progress: true,
             against: None,
             range: FrameRange::ALL,
@@ -88,6 +90,7 @@ static FLAGS: [(&[&str], Order<'static>); 15] = [
             all: true,
             place: true,
             quiet: true,
+            json: false,
             progress: true,
             against: None,
             range: FrameRange::ALL,
@@ -100,9 +103,39 @@ static FLAGS: [(&[&str], Order<'static>); 15] = [
             all: false,
             place: false,
             quiet: true,
+            json: false,
             progress: false,
             against: Some("b"),
             range: FrameRange::ALL,
+        },
+    ),
+    (
+        &["ffv1", "check", "--json", "a", "--quiet"],
+        Order::Check {
+            inputs: &["a"],
+            all: false,
+            place: false,
+            quiet: true,
+            json: true,
+            progress: false,
+            against: None,
+            range: FrameRange::ALL,
+        },
+    ),
+    (
+        &["ffv1", "info", "a", "--json", "b"],
+        Order::Info {
+            inputs: &["a", "b"],
+            count: false,
+            json: true,
+        },
+    ),
+    (
+        &["ffv1", "info", "--count", "-"],
+        Order::Info {
+            inputs: &["-"],
+            count: true,
+            json: false,
         },
     ),
     (
@@ -112,6 +145,7 @@ static FLAGS: [(&[&str], Order<'static>); 15] = [
             all: false,
             place: false,
             quiet: false,
+            json: false,
             progress: false,
             against: Some("-"),
             range: FrameRange::ALL,
@@ -137,6 +171,7 @@ static FLAGS: [(&[&str], Order<'static>); 15] = [
             all: false,
             place: false,
             quiet: false,
+            json: false,
             progress: false,
             against: None,
             range: FrameRange {
@@ -169,6 +204,7 @@ static FLAGS: [(&[&str], Order<'static>); 15] = [
             all: false,
             place: false,
             quiet: false,
+            json: false,
             progress: false,
             against: None,
             range: FrameRange::ALL,

@@ -88,7 +88,7 @@ fn words_missing(rt: HostRuntime) {
 }
 
 /// Files too many, options that a command does not have, and no options.
-static UNKNOWN: [&[&str]; 13] = [
+static UNKNOWN: [&[&str]; 15] = [
     &["ffv1", "show", "a", "--from=1"],
     &["ffv1", "trial", "a", "b"],
     &["ffv1", "pack", "a", "b", "c"],
@@ -101,6 +101,8 @@ static UNKNOWN: [&[&str]; 13] = [
     &["ffv1", "check", "a", "--cost"],
     &["ffv1", "show", "a", "--place"],
     &["ffv1", "show", "a", "--quiet"],
+    &["ffv1", "show", "a", "--json"],
+    &["ffv1", "info", "a", "--all"],
     &["ffv1", "pack", "-c", "a", "b"],
 ];
 
@@ -133,7 +135,8 @@ fn calls_for_help(rt: HostRuntime) {
 
 /// Options that are given twice, or that the file has not, files that are one, or are standard
 /// output, a list of MD5s beside what it does not go with, and some frames of two files.
-static CONFLICTS: [&[&str]; 33] = [
+static CONFLICTS: [&[&str]; 34] = [
+    &["ffv1", "info", "-", "a", "-"],
     &["ffv1", "check", "--from", "1", "a", "b"],
     &["ffv1", "framemd5", "--frames", "1", "a", "b"],
     &["ffv1", "check", "--against", "b", "--from", "1", "a"],
