@@ -24,16 +24,17 @@ _ffv1() {
     esac
     if [ -z "$words" ]; then
         case "$command" in
-            "") words="pack unpack check show framemd5 trial help --help --version" ;;
-            help) words="pack unpack check show framemd5 trial faults" ;;
+            "") words="pack unpack check show info framemd5 trial help --help --version" ;;
+            help) words="pack unpack check show info framemd5 trial faults" ;;
             pack)
                 words="--coder --contexts --columns --rows --ec --rate --scale"
                 words="$words --container --codec-id --range --siting --primaries --transfer --matrix"
                 words="$words --verify --no-clobber --progress --help"
                 ;;
             unpack) words="--from --frames --no-clobber --progress --help" ;;
-            check) words="--all --place --quiet --against --from --frames --progress --help" ;;
+            check) words="--all --place --quiet --json --against --from --frames --progress --help" ;;
             show) words="--cost --help" ;;
+            info) words="--count --json --help" ;;
             framemd5) words="--from --frames --help" ;;
             trial) words="--help" ;;
         esac

@@ -1,6 +1,6 @@
 # Completion of ffv1 for fish.
 
-set -l commands pack unpack check show framemd5 trial help
+set -l commands pack unpack check show info framemd5 trial help
 complete -c ffv1 -n "not __fish_seen_subcommand_from $commands" -f
 complete -c ffv1 -n "not __fish_seen_subcommand_from $commands" -l version -d "Tell the version"
 complete -c ffv1 -l help -d "Tell what it takes"
@@ -9,10 +9,11 @@ complete -c ffv1 -n "not __fish_seen_subcommand_from $commands" -a pack -d "Code
 complete -c ffv1 -n "not __fish_seen_subcommand_from $commands" -a unpack -d "Decode a file into a video"
 complete -c ffv1 -n "not __fish_seen_subcommand_from $commands" -a check -d "Decode all frames of files"
 complete -c ffv1 -n "not __fish_seen_subcommand_from $commands" -a show -d "Tell what files say"
+complete -c ffv1 -n "not __fish_seen_subcommand_from $commands" -a info -d "Tell what files are"
 complete -c ffv1 -n "not __fish_seen_subcommand_from $commands" -a framemd5 -d "Write the MD5 of each picture"
 complete -c ffv1 -n "not __fish_seen_subcommand_from $commands" -a trial -d "Code and decode a picture"
 complete -c ffv1 -n "not __fish_seen_subcommand_from $commands" -a help -d "Tell what a command takes"
-complete -c ffv1 -n "__fish_seen_subcommand_from help" -f -a "pack unpack check show framemd5 trial faults"
+complete -c ffv1 -n "__fish_seen_subcommand_from help" -f -a "pack unpack check show info framemd5 trial faults"
 
 complete -c ffv1 -n "__fish_seen_subcommand_from pack" -l coder -x -a "1 2" -d "State transition table"
 complete -c ffv1 -n "__fish_seen_subcommand_from pack" -l contexts -x -a "small large" -d "Contexts"
@@ -38,10 +39,13 @@ complete -c ffv1 -n "__fish_seen_subcommand_from unpack" -l progress -d "Say how
 complete -c ffv1 -n "__fish_seen_subcommand_from check" -l all -d "Go on after a frame that is refused"
 complete -c ffv1 -n "__fish_seen_subcommand_from check" -l place -d "Say where in a frame or a file"
 complete -c ffv1 -n "__fish_seen_subcommand_from check" -l quiet -d "Print one line of each file"
+complete -c ffv1 -n "__fish_seen_subcommand_from check" -l json -d "Print an object of JSON of each file"
 complete -c ffv1 -n "__fish_seen_subcommand_from check" -l against -r -d "Compare with a list of MD5s"
 complete -c ffv1 -n "__fish_seen_subcommand_from check" -l from -x -d "The first frame, from 0"
 complete -c ffv1 -n "__fish_seen_subcommand_from check" -l frames -x -d "How many frames"
 complete -c ffv1 -n "__fish_seen_subcommand_from check" -l progress -d "Say how much is read"
 complete -c ffv1 -n "__fish_seen_subcommand_from show" -l cost -d "Tell what each frame costs"
+complete -c ffv1 -n "__fish_seen_subcommand_from info" -l count -d "Read all frames, and count them"
+complete -c ffv1 -n "__fish_seen_subcommand_from info" -l json -d "Print an object of JSON of each file"
 complete -c ffv1 -n "__fish_seen_subcommand_from framemd5" -l from -x -d "The first frame, from 0"
 complete -c ffv1 -n "__fish_seen_subcommand_from framemd5" -l frames -x -d "How many frames"

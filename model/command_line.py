@@ -66,9 +66,10 @@ COMMANDS = {
         "matrix": (number(0, 255), 2),
     }, flags=["verify", "no-clobber", "progress"]),
     "unpack": Level(2, RANGE, ["no-clobber", "progress"]),
-    "check": Level(1, {"against": (str, None), **RANGE}, ["all", "place", "quiet", "progress"],
+    "check": Level(1, {"against": (str, None), **RANGE}, ["all", "place", "quiet", "json", "progress"],
                    math.inf),
     "show": Level(1, flags=["cost"], most=math.inf),
+    "info": Level(1, flags=["count", "json"], most=math.inf),
     "framemd5": Level(1, RANGE, most=math.inf),
     "trial": Level(1),
 }

@@ -15,14 +15,14 @@ import sys
 sys.dont_write_bytecode = True
 
 import damaged_files
-import ebml
 import ffv1
 import files
-import matroska
 import md5_lists
 from command_line import COMMANDS, Help, Kept, Refused, number, words
 from ffv1 import Fault
+from infos import info, objectively
 from md5_lists import md5_header, md5_line, raw_bytes
+from opening import after, input_of, opened, opened_in
 from packing import is_matroska, pack, pack_matroska, said_in
 from quiet import quietly
 from stream_lines import shown
@@ -30,45 +30,6 @@ from trial import trial
 
 
 # --------------------------------------------------------------------------- unpack, check and show
-
-EBML = b"\x1a"                  # the first byte of a file of Matroska, of the ID of its EBML header
-
-
-def after(data, read):
-    """A reading that gives these bytes first."""
-    def more(count):
-        nonlocal data
-        given, data = data[:count], data[count:]
-        return given or read(count)
-    return more
-
-
-def input_of(source):
-    """The bytes of a file from its beginning, of which the first was looked at, and whether it is
-    Matroska. Own: what begins with the byte 1A is, and all else is an AVI, which is read to the end of
-    its last RIFF."""
-    first = source.some(1)
-    read = after(first, source.read)
-    return (ebml.Input(read), True) if first == EBML else (files.Source(read), False)
-
-
-def opened(source):
-    """The head of a file, its configuration, its frames, and the line of a Segment."""
-    return opened_in(*input_of(source))
-
-
-def opened_in(data, is_matroska, damaged=False):
-    """The same of bytes; where they may be damaged, what is told stands among the frames."""
-    if is_matroska:
-        read = damaged_files.items if damaged else matroska.Segment.frames
-        head, size, frames = matroska.open_matroska(data, read)
-        segment = [f"segment {'open' if size is None else size}"]
-    else:
-        head, frames = files.open_avi(data, True)
-        segment = []
-    config = ffv1.read_record(head.record, head.width, head.height, wide=True)
-    return head, config, frames, segment
-
 
 def planes_of(config, lines):
     """The planes of lines that were handed over."""
@@ -389,7 +350,7 @@ def list_of(path, standard_input):
         with open(os.dup(standard_input) if path == "-" else path, "rb") as file:
             return md5_lists.md5s_of(file, path)
     except OSError:
-        raise md5_lists.Unlike(56, "", path)
+        raise md5_lists.Unlike(56, {}, path)
 
 
 def compare(md5s, source, out):
@@ -399,6 +360,7 @@ def compare(md5s, source, out):
     md5_lists.compare(md5s, (raw_bytes(p, config.rct, config.depth) for p, _ in pictures), out)
 
 
+@objectively
 @quietly
 def perform(order, path, output, standard_input):
     """Does what a line asks for with this IN, opened before OUT. It answers what standard error has."""
@@ -414,6 +376,8 @@ def perform(order, path, output, standard_input):
             check(source, output, order.choice["place"], order.choice["all"], order.choice)
         elif order.command == "show":
             show(source, output, order.choice["cost"])
+        elif order.command == "info":
+            info(source, output, order.choice)
         elif order.command == "framemd5":
             framemd5(source, output, order.choice)
         else:
@@ -430,7 +394,8 @@ def perform_each(order, output, standard_input):
     told, path = [], ""
     try:
         for path in order.files:
-            output("" if order.choice.get("quiet") else f"file {path}\n")
+            is_line = order.choice.get("quiet") or order.choice.get("json")
+            output("" if is_line else f"file {path}\n")
             try:
                 perform(order, path, output, standard_input)
             except Fault as fault:

@@ -110,9 +110,9 @@ def md5s_of(file, path):
                 of, md5 = row_says(line)
                 md5s += [md5] * (of == (stream or 0))
         except ValueError:
-            raise Unlike(66, f" in line {number}", path)
+            raise Unlike(66, {"line": number}, path)
     if not md5s:
-        raise Unlike(66, f" in line {number}", path)
+        raise Unlike(66, {"line": number}, path)
     return md5s
 
 
@@ -122,10 +122,10 @@ def compare(md5s, pictures, out):
     count = 0
     for data in pictures:
         if count == len(md5s) or hashlib.md5(data).hexdigest() != md5s[count]:
-            raise Unlike(89, f" in frame {count}")
+            raise Unlike(89, {"frame": count})
         count += 1
     if count == 0:
         raise Fault(70)
     if count < len(md5s):
-        raise Unlike(89, f" in frame {count}")
+        raise Unlike(89, {"frame": count})
     out(f"frames {count}\n")

@@ -307,6 +307,7 @@ SOME_WORDS = [
     "-x", "-1",
     "pack", "check", "--place=1", "---", "\u00e9", "in/x", "--progress", "--version", "-V",
     "--no-clobber", "--verify", "--container", "--container=mkv", "out.mkv", "--quiet",
+    "--json", "--count",
     "--against", "--against=in", "--from", "--from=1", "--frames=1",
 ]
 OUTPUTS = ["out"] * 24 + ["out.mkv"] * 16 + ["in", "./in", "no/out", "/dev/full", "-", "out.MKV",
@@ -314,7 +315,7 @@ OUTPUTS = ["out"] * 24 + ["out.mkv"] * 16 + ["in", "./in", "no/out", "/dev/full"
 OUTPUTS += command_line.STANDARD_OUTPUT
 RANGES = [["--from", "1"], ["--frames=1"], ["--from=1", "--frames", "1"], ["--from", "2"],
           ["--frames", "2", "--from=0"], ["--from=4294967295"]]
-NAMES = ["pack", "unpack", "check", "show", "framemd5", "trial"]
+NAMES = ["pack", "unpack", "check", "show", "info", "framemd5", "trial"]
 
 
 def any_line(dice):
@@ -348,13 +349,14 @@ def file_line(dice):
     unpack = ["unpack", "in", dice.choice(OUTPUTS)]
     words = dice.choice([unpack, unpack, ["check", "in"], ["check", "--place", "in"],
                          ["check", "in", "--place"], ["show", "in"], ["show", "--cost", "in"],
-                         ["framemd5", "in"]])
+                         ["framemd5", "in"], ["info", "in"], ["info", "--json", "in"],
+                         ["info", "in", "--count"]])
     if words[0] != "unpack" and dice.random() < 0.2:
         words = words + dice.choice([["in"], ["no", "in"], ["out", "in"], ["-"], ["./in", ""]])
     if words[0] == "check" and dice.random() < 0.4:
         words = [words[0], "--all", *words[1:]]
     if words[0] == "check" and dice.random() < 0.2:
-        words = [words[0], "--quiet", *words[1:]]
+        words = [words[0], dice.choice(["--quiet", "--json"]), *words[1:]]
     if words[0] == "check" and dice.random() < 0.2:
         words = [words[0], "--against", dice.choice(["list", "list", "out", "in"]), *words[1:]]
     if words[0] in ("unpack", "check", "framemd5") and dice.random() < 0.2:

@@ -2,13 +2,15 @@
 """Command lines whose answers are known, and not from the model: they were worked out by hand from
 the formats. `check.py` asks them of the model, and `tests/commands` of the built program.
 """
-from known_answers import containers, damaged, depths, lines, lists, matroska_commands, offsets
-from known_answers import payloads, ranges, riffs, shared_chroma, shown, sums, texts, unpacking
+from known_answers import containers, damaged, depths, infos, lines, lists, matroska_commands
+from known_answers import objects, offsets, payloads, ranges, riffs, shared_chroma, shown, sums, texts
+from known_answers import unpacking
 
 
 def cases():
     """All of them."""
     for subject in [texts, payloads, unpacking, containers, riffs, shown, lines, lists,
-                    matroska_commands, depths, sums, offsets, damaged, shared_chroma, ranges]:
+                    matroska_commands, depths, sums, offsets, damaged, shared_chroma, ranges,
+                    objects, infos]:
         for group in subject.CASES:
             yield from group()

@@ -140,6 +140,8 @@ REFUSED = [
     "check --no-clobber in", "show --no-clobber in", "trial --no-clobber in",
     "pack --verify --verify in out", "pack --verify=1 in out", "unpack --verify in out",
     "check --verify in", "trial --verify in",
+    "info", "info --cost in", "info --count=1 in", "info --all in", "info --json --json in",
+    "info - in -", "check --json=1 in", "check --json --json in", "show --json in", "framemd5 --json in",
     "check --quiet=1 in", "check --quiet --quiet in", "show --quiet in", "unpack --quiet in out",
     "framemd5 --quiet in", "check --place=true in", "show --cost=1 in", "pack --columns 99 --help",
     "pack --columns --help", "pack --help=1 in out", "pack in out x --help", "-x --help", "--help=",

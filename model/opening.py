@@ -1,0 +1,45 @@
+# SPDX-License-Identifier: MIT OR Apache-2.0
+"""Files of AVI and Matroska, opened by their first byte."""
+import damaged_files
+import ebml
+import ffv1
+import files
+import matroska
+
+EBML = b"\x1a"                  # the first byte of a file of Matroska, of the ID of its EBML header
+
+
+def after(data, read):
+    """A reading that gives these bytes first."""
+    def more(count):
+        nonlocal data
+        given, data = data[:count], data[count:]
+        return given or read(count)
+    return more
+
+
+def input_of(source):
+    """The bytes of a file from its beginning, of which the first was looked at, and whether it is
+    Matroska. Own: what begins with the byte 1A is, and all else is an AVI, which is read to the end of
+    its last RIFF."""
+    first = source.some(1)
+    read = after(first, source.read)
+    return (ebml.Input(read), True) if first == EBML else (files.Source(read), False)
+
+
+def opened(source):
+    """The head of a file, its configuration, its frames, and the line of a Segment."""
+    return opened_in(*input_of(source))
+
+
+def opened_in(data, is_matroska, damaged=False):
+    """The same of bytes; where they may be damaged, what is told stands among the frames."""
+    if is_matroska:
+        read = damaged_files.items if damaged else matroska.Segment.frames
+        head, size, frames = matroska.open_matroska(data, read)
+        segment = [f"segment {'open' if size is None else size}"]
+    else:
+        head, frames = files.open_avi(data, True)
+        segment = []
+    config = ffv1.read_record(head.record, head.width, head.height, wide=True)
+    return head, config, frames, segment
