@@ -1,4 +1,4 @@
--- How the facts of a file are told.
+-- How the facts of a file are written.
 use Rattle.std.specs.Prelude.{Bool, true, false}
 use Rattle.ffv1_outline.specs.declared.facts.Form.{Form}
 use Rattle.ffv1_outline.specs.declared.facts.Form.TheVariants as form

@@ -17,7 +17,7 @@ use Rattle.ffv1.specs.declared.refusal.Refusal.{Refusal}
 use Rattle.ffv1.specs.declared.refusal.Refusal.TheVariants as refusal
 use Rattle.ffv1.specs.declared.streams.Counts.{Counts}
 
--- what is told of a file that was packed
+-- the counts of a file that was packed
 abbrev pub avi_counts : Packed → Counts
 avi_counts packed = record {
   frames = packed.frames;

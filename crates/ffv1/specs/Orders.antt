@@ -118,7 +118,7 @@ abbrev pub ChecksAll : {D E : Type 0} → Doing D → D → Checking → Option 
 ChecksAll does s how against inputs status t =
     ChecksBy does s how against (slice_get inputs 0) inputs status t
 
--- how a file is told of: by lines of its frames, by one line, or by an object of JSON on one
+-- what check prints of a file: lines of its frames, one line, or an object of JSON on a line
 abbrev pub telling_of : Bool → Bool → Telling
 telling_of quiet true = telling.Object
 telling_of true false = telling.Line

@@ -26,7 +26,7 @@ pub struct Comparing<'a> {
     pub input: &'a str,
     /// The path of the list.
     pub list: &'a str,
-    /// How the file is told of.
+    /// What it prints of the file.
     pub told: Telling,
     /// Whether it says how much of the file is read.
     pub progress: bool,

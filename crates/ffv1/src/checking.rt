@@ -30,7 +30,7 @@ pub struct Checking {
     pub all: bool,
     /// Whether it says where a fault is.
     pub place: bool,
-    /// How the file is told of.
+    /// What it prints of the file.
     pub told: Telling,
     /// Whether it says how much of the file is read.
     pub progress: bool,

@@ -15,7 +15,7 @@ use ffv1_wire::ToWrite;
 use std::alloc::Global;
 use std::io;
 
-/// How a file is told of.
+/// What is asked of the facts of a file.
 #[derive(Clone, Copy)]
 pub struct Informing {
     /// Whether its frames are counted.

@@ -29,7 +29,7 @@ pub enum Looking {
     Check(Checking),
     /// It is shown, with what its frames cost or without.
     Show { cost: bool },
-    /// Its facts are told so.
+    /// Its facts are printed so.
     Info(Informing),
     /// The MD5s of its pictures are printed.
     FrameMd5(FrameRange),

@@ -161,7 +161,7 @@ pub fn unpack_stream<R: ByteIn, W: ByteOut>(
     }
 }
 
-/// What is told of a file that was packed.
+/// The counts of a file that was packed.
 #[derive(Clone, Copy)]
 pub struct Counts {
     /// How many frames there are.

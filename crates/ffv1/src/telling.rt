@@ -1,16 +1,16 @@
-//! How a file that is checked is told of.
+//! What `check` prints of a file.
 
 ghost use Rattle.std.specs.Prelude.{◌≡◌};
 ghost use Rattle.ffv1.specs.Orders.{is_of_frames, telling_of};
 
-/// How a file that is checked is told of.
+/// What `check` prints of a file.
 #[derive(Clone, Copy, Debug, PartialEq, Eq)]
 pub enum Telling {
-    /// By lines of its frames.
+    /// Lines of its frames.
     Frames,
-    /// By one line.
+    /// One line.
     Line,
-    /// By an object of JSON, on one line.
+    /// An object of JSON, on one line.
     Object,
 }
 
