@@ -1,7 +1,7 @@
 //! Encodes pictures.
 
 ghost use Rattle.std.specs.Prelude.{◌≡◌, ◌⊎◌, ◌+◌, ◌*◌, ◌<◌, ◌≤◌, ◌++◌, ℕ, IfOk, IfErr, OnOk};
-ghost use Rattle.std.specs.Prelude.{OnErr, Err, [], length, vec_capacity, ◌≢◌};
+ghost use Rattle.std.specs.Prelude.{OnErr, Ok, Err, [], length, vec_capacity, ◌≢◌};
 ghost use Rattle.ffv1_slice.specs.Footer.{footer_of, foot_length};
 ghost use Rattle.ffv1_frame.specs.declared.fault.CodecFault.TheVariants as fault;
 ghost use Rattle.ffv1_frame.specs.Picture.{Fits};
@@ -121,6 +121,23 @@ fn put_slices<R: Allocator + Copy, A: Allocator, B: Allocator>(
     })
 }
 
+/// A frame whose memory is for at most twice its bytes: the same one, or a copy if it has more.
+fn bounded<A: Allocator>(alloc: A, frame: Vec<u8, A>) -> Result<Vec<u8, A>, CodecFault>
+    ensures same { vec_capacity frame ≤ 2 * length frame.items → result ≡ Ok frame }
+    ensures items { IfOk result (λ v. v.items ≡ frame.items) }
+    ensures room { IfOk result (λ v. vec_capacity v ≤ 2 * length v.items) }
+    ensures err { IfErr result (λ f. f ≡ fault.OutOfMemory) }
+{
+    if frame.capacity() - frame.len() <= frame.len() {
+        return Ok(frame);
+    }
+    let mut exact = Vec::with_capacity(alloc, frame.len())?;
+    for byte in &frame {
+        exact.push_reserved(*byte);
+    }
+    Ok(exact)
+}
+
 /// An encoder of the pictures of a configuration. What one frame took of memory is kept for the
 /// next; nothing else is.
 ///
@@ -189,7 +206,7 @@ impl<A: Allocator + Copy> FrameEncoder<A> {
     /// It has at most `2 n + 1` bytes for each residual of n binary digits, and 109 for each slice,
     /// with 6 more if there is a plane of transparency, 2 if there are more than 16 columns and 2
     /// if there are more than 16 rows. Each slice has one coded byte more than renormalisations,
-    /// that of the sentinel among them.
+    /// that of the sentinel among them. Its memory is for at most twice its bytes.
     ///
     /// Answers `SliceTooLong` only if a slice has more than 16777215 coded bytes, and then never
     /// `Ok`; else `OutOfMemory`, if memory was refused: each frame takes some. Either leaves the
@@ -228,6 +245,7 @@ impl<A: Allocator + Copy> FrameEncoder<A> {
             * (1 + foot_length self.old.accepted.configuration.ec)) }
         ensures most { IfOk result (λ bytes. length bytes.items ≤
             frame_most self.old.accepted.configuration picture.now info) }
+        ensures room { IfOk result (λ bytes. vec_capacity bytes ≤ 2 * length bytes.items) }
     {
         laws::encoded_frame_codes_its_picture();
         laws::slice_length_follows_from_residuals();
@@ -244,7 +262,8 @@ impl<A: Allocator + Copy> FrameEncoder<A> {
             picture,
             info,
         )?;
+        let bytes = bounded(self.alloc, frame)?;
         self.counts = counts;
-        Ok(frame)
+        Ok(bytes)
     }
 }

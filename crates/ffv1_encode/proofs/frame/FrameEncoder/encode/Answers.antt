@@ -1,5 +1,5 @@
 -- The frame of a picture that fits the configuration (RFC 9043, 4.4 to 4.9).
-use Rattle.std.proofs.Common.{ℕ, ◌≤◌, List, length, ap, sym, subst, arith}
+use Rattle.std.proofs.Common.{ℕ, ◌≤◌, List, length, ap, sym, ◌∙◌, subst, arith}
 use Rattle.std.proofs.lemmas.Grind.{common_steps, elements}
 use Rattle.ffv1_record.specs.Accepted.{Accepted}
 use Rattle.ffv1_frame.specs.Length.{Encoding, frame_most}
@@ -15,10 +15,10 @@ returns-clause-most g c =
     let info = c.args.info in
     let most = c.frame_length_follows_from_residuals.ensures.most a picture info
     c.table-table.ensures.accepted c.structure-structure.ensures.said in
-    subst (λ (x : Accepted). length c.put_slices.new.frame.items
+    subst (λ (x : Accepted). length c.in_ok-bytes.bytes.items
     ≤ frame_most x.configuration picture info) (ap (λ (x : Encoding). x.accepted) c.self.view_is)
     (subst (λ (xs : List ℕ). length xs ≤ frame_most a.configuration picture info)
-    (sym c.in_ok-counts.ensures.ok) most)
+    (sym (c.in_ok-bytes.ensures.items ∙ c.in_ok-counts.ensures.ok)) most)
 
 pub returns-clause-codes : goal.returns-clause-codes
 returns-clause-codes g c = grind (arith, elements)
