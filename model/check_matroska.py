@@ -272,7 +272,7 @@ def listed(file, number):
     """The frames of this track in a whole file, and the elements whose CRC-32 is wrong: by lists of
     elements in elements, apart from the reader's walk."""
     frames, wrong = [], []
-    _, (_, content, _) = parts(file)
+    content = inside(file, "18538067")
     for ident, data, _ in parts(content):
         if ident in SUMMED and data[:2] == b"\xbf\x84" \
                 and zlib.crc32(data[6:]) != int.from_bytes(data[2:6], "little"):

@@ -113,6 +113,14 @@ def get_header(source, left, first=b"", outside=()):
     return int.from_bytes(ident, "big"), size, left
 
 
+def known_size(source):
+    """A size after an ID of its own, which is to be known."""
+    size, _ = get_size(source, 8)
+    if size is None:
+        raise Fault(81)
+    return size
+
+
 def known(header):
     """A header whose size is to be known."""
     if header[1] is None:

@@ -292,14 +292,23 @@ class Segment:
                 yield frame
 
 
+def segment_size(source):
+    """The size of the Segment, none where it is unknown. Own: Voids before it are passed (8794, 11.3),
+    and any other element there is refused."""
+    source.mark()
+    while (first := source.exactly(1, 52)) == bytes([VOID]):
+        source.skip(ebml.known_size(source), 52)
+        source.mark()
+    if first + source.exactly(3, 52) != SEGMENT.to_bytes(4, "big"):
+        raise Fault(80)
+    return ebml.get_size(source, 8)[0]
+
+
 def open_matroska(source, read=Segment.frames):
     """What the first Tracks of a file say; the size of its Segment, none where it is open; and its
     frames in turn, which are read so. Own: Tracks stand before the first Cluster."""
     ebml.open_ebml(source)
-    source.mark()
-    if source.exactly(4, 52) != SEGMENT.to_bytes(4, "big"):
-        raise Fault(80)
-    size, _ = ebml.get_size(source, 8)
+    size = segment_size(source)
     segment, head = Segment(source, size), None
     while (header := segment.header()) and header[0] != CLUSTER:
         if header[0] == TRACKS and head is None:

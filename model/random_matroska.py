@@ -11,10 +11,12 @@ RATES = [(0, 0), (25, 1), (24, 1), (30000, 1001), (24000, 1001), (60, 1), (15, 2
 
 class Small:
     """A file of these parts of a Segment, each an element and the frames that it has, or the header
-    of a Cluster of unknown size; and what its Tracks say, which are one of the parts."""
+    of a Cluster of unknown size; what its Tracks say, which are one of the parts; and the Voids before
+    the Segment."""
 
-    def __init__(self, name, said, parts, is_open):
+    def __init__(self, name, said, parts, is_open, voids=b""):
         self.name, self.said, self.parts, self.is_open = name, said, parts, is_open
+        self.voids = voids
         self.frames = [frame for _, frames in parts for frame in frames]
 
     def size(self):
@@ -23,11 +25,15 @@ class Small:
 
     def file(self):
         begin = spell("18538067", "01FFFFFFFFFFFFFF" if self.is_open else size(self.size()))
-        return H + begin + b"".join(part for part, _ in self.parts)
+        return H + self.voids + begin + b"".join(part for part, _ in self.parts)
+
+    def begin(self):
+        """Where the first part begins."""
+        return len(H) + len(self.voids) + 12
 
     def ends(self):
         """Where parts end, and how many frames are before that."""
-        ends, at, count = {len(H) + 12: 0}, len(H) + 12, 0
+        ends, at, count = {self.begin(): 0}, self.begin(), 0
         for part, frames in self.parts:
             at, count = at + len(part), count + len(frames)
             ends[at] = count
@@ -35,7 +41,7 @@ class Small:
 
     def tracks_end(self):
         """Where Tracks end."""
-        at = len(H) + 12
+        at = self.begin()
         for part, _ in self.parts:
             at += len(part)
             if part.startswith(bytes.fromhex("1654AE6B")):
@@ -182,4 +188,5 @@ def made_by(maker, name):
     parts = maker.between() + [(tracks, [])] + maker.between()
     for _ in range(numbers.randrange(4)):
         parts += maker.cluster() + maker.between()
-    return Small(name, said, parts, numbers.random() < 0.5)
+    voids = b"".join(maker.void() for _ in range(maker.one_of(0, 0, 0, 1, 3)))
+    return Small(name, said, parts, numbers.random() < 0.5, voids)

@@ -93,7 +93,7 @@ EXAMPLES = [
     ("a whole file", whole(C), 1, 0, 0),
     ("an open one without its last byte", opened(C)[:-1], 0, 52, 0),
     ("another DocType", spell("1A45DFA3 87 4282 84", b"webm") + segment(T, C), 0, 80, 117),
-    ("Void before the Segment", H + spell("EC 83 000000") + segment(T, C), 0, 80, 118),
+    ("Void before the Segment", H + spell("EC 83 000000") + segment(T, C), 1, 0, 0),
     ("Tracks after a Cluster", H + segment(C, T), 0, 82, 93),
     ("an ID of a bit more", whole("1F43B674", C[4:]), 0, 81, 14),
     ("an ID of five bytes", whole(C, "08 81 00"), 1, 81, 2),

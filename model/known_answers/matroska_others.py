@@ -1,9 +1,9 @@
 # SPDX-License-Identifier: MIT OR Apache-2.0
 """More files of Matroska whose frames and faults are known, worked out by hand from the formats:
-blocks and Tracks with sizes of their own, files that are written, and one as other programs write
-them. A row is as in `matroska.py`."""
+blocks and Tracks with sizes of their own, files that are written, one as other programs write them,
+and what stands before the Segment. A row is as in `matroska.py`."""
 from known_answers.matroska import (
-    C, T, B, H, element, open_segment, opened, segment, spell, whole)
+    C, T, B, H, UNKNOWN, element, open_segment, opened, segment, size, spell, whole)
 from known_answers.matroska_written import BEGUN, EXAMPLE, over
 
 LOOSE = "1F43B675 FF"                   # the header of a Cluster of unknown size
@@ -47,7 +47,7 @@ ROWS = [
     ("three other bytes", b"RIF", 0, 52, 0),
     ("another DocType and a byte", spell("1A45DFA3 87 428284", b"webm", "18"), 0, 80, 1),
     ("another element after the header", element("1A45DFA3", "428288", b"matroska")
-     + spell("EC80000001"), 0, 80, 1),
+     + spell("BF80000001"), 0, 80, 1),
     ("a file that is written", EXAMPLE, 1, 0, 0),
     ("its open form", OPEN, 1, 0, 0),
     ("its open form before Cues are there", OPEN[:BEGUN], 1, 0, 0),
@@ -55,7 +55,39 @@ ROWS = [
     ("a file of another program", FOREIGN, 3, 0, 0),
 ]
 
+# What stands between the EBML header and the Segment: Voids alone.
+
+WHOLE = segment(T, C)
+LEFT = len(WHOLE)
+VOIDS = [
+    ("a Void of no bytes", H + spell("EC80", WHOLE), 1, 0, 0),
+    ("five Voids", H + spell("EC80 EC81FF EC4001AA EC82EC80 EC85", WHOLE[:5], WHOLE), 1, 0, 0),
+    *((f"a Void whose size has {k} bytes", H + spell("EC", size(3, k), "185380", WHOLE), 1, 0, 0)
+      for k in range(1, 9)),
+    ("a Void before an open Segment", H + spell("EC80", open_segment(T, C)), 1, 0, 0),
+    ("a Void of unknown size", H + spell("ECFF", WHOLE), 0, 81, LEFT),
+    ("a Void of unknown size in eight bytes", H + spell("EC", UNKNOWN, WHOLE), 0, 81, LEFT),
+    ("a Void, and one of unknown size", H + spell("EC80 ECFF", WHOLE), 0, 81, LEFT),
+    ("a Void whose size begins with 0", H + spell("EC00", WHOLE), 0, 81, LEFT),
+    ("the ID of Void alone", H + spell("EC"), 0, 52, 0),
+    ("a Void with half a size", H + spell("EC0100"), 0, 52, 0),
+    ("a cut Void", H + spell("EC85 01020304"), 0, 52, 0),
+    ("a Void that takes in the file", H + spell("EC", size(LEFT + 1), WHOLE), 0, 52, 0),
+    ("a Void of all that is left", H + spell("EC", size(LEFT), WHOLE), 0, 52, 0),
+    ("a Void that takes in the Segment's ID", H + spell("EC84", WHOLE), 0, 80, LEFT - 8),
+    ("a Void and no more", H + spell("EC80"), 0, 52, 0),
+    ("a Void and three bytes of the Segment's ID", H + spell("EC80 185380"), 0, 52, 0),
+    ("a Void and an ID of a bit more", H + spell("EC80 18538066", WHOLE[4:]), 0, 80, LEFT - 4),
+    ("CRC-32 before the Segment", H + spell("BF84 01020304", WHOLE), 0, 80, LEFT + 2),
+    ("CRC-32 after a Void", H + spell("EC80 BF84 01020304", WHOLE), 0, 80, LEFT + 2),
+    ("the ID of Void in two bytes", H + spell("40EC80", WHOLE), 0, 80, LEFT - 1),
+    ("Tags before the Segment", H + element("1254C367") + WHOLE, 0, 80, LEFT + 1),
+    ("a second header after a Void", H + spell("EC80", H, WHOLE), 0, 80, LEFT + 36),
+    ("a Void before the header", spell("EC80", H, WHOLE), 0, 80, LEFT + 38),
+]
+
 
 def files():
     """All rows."""
     yield from ROWS
+    yield from VOIDS

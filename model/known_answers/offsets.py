@@ -9,7 +9,8 @@ Segment's in 12, and Tracks in 79; a Cluster's header takes 12, its timestamp 3,
 from known_answers.case import FRAME, Case, Step, avi, one
 from known_answers.containers import GOOD, INDEX, JUNK, MOVI, SOUND, chunk, chunk_list, header
 from known_answers.containers import numbers, riff, spelled
-from known_answers.matroska import C, H, T, block, cluster, element, opened, segment, summed, whole
+from known_answers.matroska import (
+    C, H, T, block, cluster, element, opened, segment, spell, summed, whole)
 from known_answers.riffs import further, lines, streams
 
 TWO = avi(one(), [FRAME, FRAME])
@@ -47,6 +48,12 @@ OF_MATROSKA = [
     ("no Tracks", H + segment(element("EC", "0000")), 0, 56, "82 NoTracks"),
     ("a Cluster before Tracks", H + segment(C, T), 0, 52, "82 NoTracks"),
     ("cut in a Cluster's header", whole(C)[:140], 0, 131, "52 Truncated"),
+    ("a second Void of unknown size", H + spell("EC82 0102 ECFF", segment(T, C)), 0, 44,
+     "81 BadElement"),
+    ("another element after two Voids", H + spell("EC80 EC80 BF84 01020304", segment(T, C)), 0, 44,
+     "80 NotMatroska"),
+    ("cut in a Void", H + spell("EC81 00 EC83 0000"), 0, 43, "52 Truncated"),
+    ("cut in Tracks after a Void", H + spell("EC80", segment(T, C)[:90]), 0, 54, "52 Truncated"),
 ]
 AMONG_FRAMES = [
     ("cut in its timestamp", whole(C)[:145], 0, 143, "52 Truncated"),
@@ -68,6 +75,8 @@ AMONG_FRAMES = [
     ("an element that passes its Cluster", whole(C, cluster("E78100", "A3 8C 810000"), C), 1, 172,
      "52 Truncated"),
     ("an ID of no bytes", whole(C, "00"), 1, 157, "81 BadElement"),
+    ("an ID of no bytes, after a Void", H + spell("EC83 000000", segment(T, C, "00")), 1, 162,
+     "81 BadElement"),
 ]
 
 

@@ -80,8 +80,8 @@ impl<A: Allocator + Copy> FileReader<A> {
 
     /// The same, which says where in the file a fault is: `offset` is then the number of bytes of
     /// the file before the element or chunk at fault, those before it read whole; no greater than
-    /// 2^64 - 1. It is of Matroska the header of EBML, the header of the Segment, or an element of
-    /// that; of an AVI its first twelve bytes, or a chunk of its first RIFF.
+    /// 2^64 - 1. It is of Matroska the header of EBML, a Void after it, the header of the Segment,
+    /// or an element of that; of an AVI its first twelve bytes, or a chunk of its first RIFF.
     pub fn open_located<R: ByteIn>(
         alloc: A,
         scope: Scope,

@@ -44,19 +44,22 @@ begins_with file content other size is =
       ebml_ident = is.ebml_ident;
       ebml_size = is.ebml_size;
       header = is.header;
+      voids = is.voids;
       segment_ident = is.segment_ident;
       segment_size = is.segment_size;
-      bytes = regrouped (is.ebml_ident ++ is.ebml_size) is.header (is.segment_ident ++ is.segment_size) other;
+      bytes = regrouped (is.ebml_ident ++ is.ebml_size) is.header (tops_text is.voids) (is.segment_ident ++ is.segment_size) other;
       ebml_is = is.ebml_is;
       ebml_sized = is.ebml_sized;
       short = is.short;
       of_matroska = is.of_matroska;
+      voids_are = is.voids_are;
+      few = is.few;
       segment_is = is.segment_is;
       sized = is.sized;
     }
   where
-    regrouped : (a b c d : List ℕ) → (a ++ (b ++ c)) ++ d ≡ a ++ (b ++ (c ++ d))
-    regrouped a b c d = simp append_assoc
+    regrouped : (a b c d e : List ℕ) → (a ++ (b ++ (c ++ d))) ++ e ≡ a ++ (b ++ (c ++ (d ++ e)))
+    regrouped a b c d e = simp append_assoc
 
 opens_by : Option ℕ → Result ((Track × Place) × List ℕ) Stop → Result (Opened × List ℕ) Stop
 opens_by size z = read_on z (λ p. given (record { track = p.0; segment = size; place = p.1 }))
@@ -83,12 +86,12 @@ file_cut file head frames is a b parts some = elim (cases_lt (length a) (length 
     start : HasStart is.size
     start = segment_start is.size
 
-    regrouped : (p q r s t u v : List ℕ) → p ++ (q ++ (r ++ (s ++ (t ++ (u ++ v))))) ≡ ((p ++ (q ++ r)) ++ ((s ++ t) ++ u)) ++ v
-    regrouped p q r s t u v = simp append_assoc
+    regrouped : (p q o r s t u v : List ℕ) → p ++ (q ++ (o ++ (r ++ (s ++ (t ++ (u ++ v)))))) ≡ ((p ++ (q ++ (o ++ r))) ++ ((s ++ t) ++ u)) ++ v
+    regrouped p q o r s t u v = simp append_assoc
 
     whole : heads ++ (front ++ back) ≡ a ++ b
     whole = append_cancel_right (heads ++ (front ++ back)) (a ++ b) is.rest
-        (sym (regrouped (is.begins.ebml_ident ++ is.begins.ebml_size) is.begins.header (is.begins.segment_ident ++ is.begins.segment_size) (tops_text is.before) (top_text is.tracks) back is.rest) ∙ sym is.begins.bytes ∙ parts)
+        (sym (regrouped (is.begins.ebml_ident ++ is.begins.ebml_size) is.begins.header (tops_text is.begins.voids) (is.begins.segment_ident ++ is.begins.segment_size) (tops_text is.before) (top_text is.tracks) back is.rest) ∙ sym is.begins.bytes ∙ parts)
 
     in_heads : length a < length heads → FileCut is.size head frames a
     in_heads few =

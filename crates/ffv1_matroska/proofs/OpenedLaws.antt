@@ -18,9 +18,9 @@ use Rattle.ffv1_ebml.proofs.VintLaws.{vint_complete}
 use Rattle.ffv1_matroska.specs.Blocks.{passed_on}
 use Rattle.ffv1_matroska.specs.Elements.{AreTopLevel, IsTopLevel, TopLevel, top_text, tops_text}
 use Rattle.ffv1_matroska.specs.Files.{frames_read}
-use Rattle.ffv1_matroska.specs.MatroskaFiles.{AreBefore, FileBegins, IsTracks, SaysFour}
+use Rattle.ffv1_matroska.specs.MatroskaFiles.{AreBefore, AreVoids, FileBegins, IsTracks, IsVoid, SaysFour}
 use Rattle.ffv1_matroska.specs.Opened.{begin_up_to, begun_at, ebml, ebml_read, element_or_begun, element_passed, in_cluster, open_read, segment_opened, tracks_read, tracks}
-use Rattle.ffv1_matroska.specs.Opening.{content_kept, header_in, ident_read, segment, segment_entered, top_size}
+use Rattle.ffv1_matroska.specs.Opening.{content_kept, header_in, ident_read, most_elements, root_or_on, root_read, segment, segment_after, segment_entered, segment_up_to, top_size, void, void_read}
 use Rattle.ffv1_matroska.specs.Places.{ended, segment_at, step_to}
 use Rattle.ffv1_matroska.specs.Segments.{cluster, header_read, is_filler, is_section, other_read, segment_child, segment_read, segment_rest, step_read}
 use Rattle.ffv1_matroska.specs.Sizes.{size_with}
@@ -205,13 +205,47 @@ unfolding ebml_read content_kept
 ebml_complete ident size header rest is says short good =
     rw (append_assoc ident size (header ++ rest), ident_complete ebml ident (size ++ (header ++ rest)) is, size_complete size (header ++ rest) (Some (length header)) says, le-ltb _ _ short, wanted_complete Kept (length header) header rest refl, good) refl
 
-pub segment_complete : (ident size rest : List ℕ) (known : Option ℕ) → SaysFour ident segment → SaysSize size known → segment_entered ((ident ++ size) ++ rest) ≡ Ok (known, rest)
+-- the header of the Segment does not begin as a Void does
+no_void : (first : ℕ) (others : List ℕ) → SaysFour (first ∷ others) segment → first ≡ void → ⊥
+no_void first (a ∷ b ∷ c ∷ []) (four, is) same = omega (arith, is, same)
+no_void first [] (four, is) same = absurd (omega (arith, four))
+no_void first (a ∷ []) (four, is) same = absurd (omega (arith, four))
+no_void first (a ∷ b ∷ []) (four, is) same = absurd (omega (arith, four))
+no_void first (a ∷ b ∷ c ∷ d ∷ more) (four, is) same = absurd (omega (arith, four))
+
+root_complete : (ident size rest : List ℕ) (known : Option ℕ) → SaysFour ident segment → SaysSize size known → root_read ((ident ++ size) ++ rest) ≡ Ok (Some known, rest)
+unfolding root_read segment_after
+root_complete [] size rest known is says = absurd (omega (arith, is.0))
+root_complete (first ∷ others) size rest known is says =
+    let three : length others ≡ 3 = omega (arith, is.0) in
+    ap (λ z. root_read (first ∷ z)) (append_assoc others size rest)
+    ∙ rw (taken_complete 1 (first ∷ []) (others ++ (size ++ rest)) refl, ne_eqb first void (no_void first others is), taken_complete 3 others (size ++ rest) three, eq-eqb _ _ is.1, size_complete size rest known says) refl
+
+-- a Void is passed
+void_complete : (t : TopLevel) (rest : List ℕ) → IsVoid t → root_read (top_text t ++ rest) ≡ Ok (None, rest)
+unfolding root_read void_read
+void_complete t rest is =
+    ap (λ z. root_read (((z ++ t.size) ++ t.content) ++ rest)) is.named
+    ∙ ap (λ z. root_read (void ∷ z)) (append_assoc t.size t.content rest)
+    ∙ rw (taken_complete 1 (void ∷ []) (t.size ++ (t.content ++ rest)) refl, size_complete t.size (t.content ++ rest) (Some (length t.content)) is.sized, passed_complete (length t.content) t.content rest refl) refl
+
+segment_found : (most : ℕ) (voids : List TopLevel) (ident size rest : List ℕ) (known : Option ℕ) → AreVoids voids → length voids < most → SaysFour ident segment → SaysSize size known → segment_up_to most (tops_text voids ++ ((ident ++ size) ++ rest)) ≡ Ok (known, rest)
+unfolding segment_up_to
+segment_found zero voids ident size rest known are few is says = absurd (omega (arith, few))
+segment_found (suc most) [] ident size rest known are few is says = ap (λ z. read_on z (root_or_on (segment_up_to most))) (root_complete ident size rest known is says)
+segment_found (suc most) (t ∷ ts) ident size rest known are few is says =
+    let back = (ident ++ size) ++ rest in
+    ap (λ z. read_on (root_read z) (root_or_on (segment_up_to most))) (append_assoc (top_text t) (tops_text ts) back)
+    ∙ ap (λ z. read_on z (root_or_on (segment_up_to most))) (void_complete t (tops_text ts ++ back) are.0)
+    ∙ segment_found most ts ident size rest known are.1 (omega (arith, few)) is says
+
+pub segment_complete : (voids : List TopLevel) (ident size rest : List ℕ) (known : Option ℕ) → AreVoids voids → length voids < most_elements → SaysFour ident segment → SaysSize size known → segment_entered (tops_text voids ++ ((ident ++ size) ++ rest)) ≡ Ok (known, rest)
 unfolding segment_entered
-segment_complete ident size rest known is says = rw (append_assoc ident size rest, ident_complete segment ident (size ++ rest) is, size_complete size rest known says) refl
+segment_complete voids ident size rest known are few is says = segment_found most_elements voids ident size rest known are few is says
 
 -- a file up to the content of its Segment
 pub begins_complete : (file content : List ℕ) (known : Option ℕ) → FileBegins file known content → open_read file ≡ segment_opened known content
 unfolding open_read
 begins_complete file content known is =
     ap open_read is.bytes
-    ∙ rw (ebml_complete is.ebml_ident is.ebml_size is.header ((is.segment_ident ++ is.segment_size) ++ content) is.ebml_is is.ebml_sized is.short is.of_matroska, segment_complete is.segment_ident is.segment_size content known is.segment_is is.sized) refl
+    ∙ rw (ebml_complete is.ebml_ident is.ebml_size is.header (tops_text is.voids ++ ((is.segment_ident ++ is.segment_size) ++ content)) is.ebml_is is.ebml_sized is.short is.of_matroska, segment_complete is.voids is.segment_ident is.segment_size content known is.voids_are is.few is.segment_is is.sized) refl

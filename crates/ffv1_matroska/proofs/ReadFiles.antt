@@ -1,35 +1,31 @@
 -- What is read is a file by its elements.
-use Rattle.std.proofs.Common.{◌≡◌, ◌≤◌, ◌<◌, ◌+◌, ◌-◌, ◌==◌, ◌||◌, ◌∙◌, ◌++◌, ◌∷◌, [], ℕ, suc, zero, List, Bool, true, false, if◌then◌else◌, nat_lt, Option, Some, None, Result, Ok, Err, inl, inr, length, refl, sym, ap, subst, arith, append_assoc, length-append}
+use Rattle.std.proofs.Common.{◌≡◌, ◌≤◌, ◌<◌, ◌+◌, ◌==◌, ◌||◌, ◌∙◌, ◌++◌, ◌∷◌, [], ℕ, suc, zero, List, Bool, true, false, nat_lt, Option, Some, None, Result, Ok, Err, inl, inr, length, refl, sym, ap, subst, arith, append_assoc, length-append}
 use Rattle.std.proofs.lemmas.Bool.{eqb-false, eqb-true, ltb-false}
 use Rattle.ffv1_reads.specs.Head.{Head, limit}
 use Rattle.ffv1_reads.specs.declared.fault.FileFault.{FileFault}
 use Rattle.ffv1_reads.specs.declared.fault.FileFault.TheVariants as fault
-use Rattle.ffv1_reads.specs.Reads.{Kept, Met, Reading, Stop, given, passed, read_on, refused, taken, wanted, ◌>>=◌}
+use Rattle.ffv1_reads.specs.Reads.{Kept, Met, Reading, Stop, given, passed, read_on, wanted, ◌>>=◌}
 use Rattle.ffv1_reads.proofs.Results.{ok_is, read_on_ok}
-use Rattle.ffv1_reads.proofs.WantedBytes.{passed_sound, taken_sound, wanted_sound}
+use Rattle.ffv1_reads.proofs.WantedBytes.{passed_sound, wanted_sound}
 use Rattle.ffv1_ebml.specs.Contents.{content_told}
-use Rattle.ffv1_ebml.specs.Elements.{content_passed, data_read}
+use Rattle.ffv1_ebml.specs.Elements.{content_passed}
 use Rattle.ffv1_ebml.specs.Spelled.{SaysSize}
-use Rattle.ffv1_ebml.specs.Sums.{summed}
-use Rattle.ffv1_ebml.specs.Vints.{data_of, number_of, size_of, vint_read}
-use Rattle.ffv1_ebml.specs.declared.element.Data.{Data}
 use Rattle.ffv1_ebml.specs.declared.element.Element.{Element}
 use Rattle.ffv1_ebml.specs.declared.sum.Sum.{Sum}
 use Rattle.ffv1_ebml.specs.declared.sum.Sum.TheVariants.{Absent}
-use Rattle.ffv1_ebml.proofs.VintLaws.{vint_sound}
 use Rattle.ffv1_matroska.specs.Elements.{AreTopLevel, IsTopLevel, TopLevel, parts_text, top_text, tops_text}
 use Rattle.ffv1_matroska.specs.Files.{frames_read}
-use Rattle.ffv1_matroska.specs.MatroskaFiles.{AreBefore, FileBegins, IsTracks, MatroskaFile, SaysFour, SegmentEnds, endless}
-use Rattle.ffv1_matroska.specs.Opened.{Opened, begin_read, begin_up_to, begun_at, ebml, ebml_read, element_or_begun, element_passed, file_read, open_read, segment_opened, told, tracks, tracks_read}
-use Rattle.ffv1_matroska.specs.Opening.{content_kept, header_in, ident_read, segment, segment_begun, segment_entered, top_size}
+use Rattle.ffv1_matroska.specs.MatroskaFiles.{AreBefore, FileBegins, IsTracks, MatroskaFile, SegmentEnds, endless}
+use Rattle.ffv1_matroska.specs.Opened.{Opened, begin_read, begin_up_to, begun_at, ebml_read, element_or_begun, element_passed, file_read, open_read, segment_opened, told, tracks, tracks_read}
+use Rattle.ffv1_matroska.specs.Opening.{content_kept, most_elements, segment_begun, segment_entered}
 use Rattle.ffv1_matroska.specs.Places.{segment_at}
 use Rattle.ffv1_matroska.specs.Segments.{cluster, header_read, is_filler, is_section}
-use Rattle.ffv1_matroska.specs.Sizes.{size_with}
 use Rattle.ffv1_matroska.specs.Tracks.{Track, track_in}
 use Rattle.ffv1_matroska.specs.declared.place.Place.{Place}
 use Rattle.ffv1_matroska.proofs.FileLaws.{HasEnded, opened_frames}
 use Rattle.ffv1_matroska.proofs.HeaderLaws.{HasHeader}
-use Rattle.ffv1_matroska.proofs.OpenedLaws.{begun_frames, begun_same, size_same}
+use Rattle.ffv1_matroska.proofs.OpenedLaws.{begun_frames, begun_same}
+use Rattle.ffv1_matroska.proofs.ReadHeads.{ebml_sound, entered_sound}
 use Rattle.ffv1_matroska.proofs.ReadParts.{HasTail, segment_sound, tail_of}
 use Rattle.ffv1_matroska.proofs.ReadSegments.{content_passed_sound, headed_sound}
 use Rattle.ffv1_matroska.proofs.StepBounds.{err_is_no_ok}
@@ -181,89 +177,6 @@ before_sound (suc most) base n text w fits read = on_header (λ m more v less r.
         let head = headed_sound base false n text (Some e) rest is in
         on_ident again e rest head.0 head.1 (e.ident == cluster) (e.ident == tracks) refl refl r
 
--- a size at the top of a file
-record HasSize (text : List ℕ) (size : Option ℕ) (rest : List ℕ) : Type 0 where
-  bytes : List ℕ
-  text_is : text ≡ bytes ++ rest
-  says : SaysSize bytes size
-
-size_sound : (text : List ℕ) (p : Option ℕ × List ℕ) → top_size text ≡ Ok p → HasSize text p.0 p.1
-unfolding top_size
-size_sound text p h =
-    let first = read_on_ok {X = Data × Sum} (data_read 8 Absent text) (λ d. given (size_with (8 - d.0.left) d.0.value)) p h in
-    let second = read_on_ok {Y = Data × Sum} (vint_read 8 8 text) (λ bytes. given (record { value = data_of bytes; left = 8 - length bytes }, summed Absent bytes)) first.0 first.1 in
-    let v = vint_sound 8 8 text second.0 second.1 in
-    let bytes = second.0.0 in
-    let made : Data = record { value = data_of bytes; left = 8 - length bytes } in
-    let same = ok_is ((made, Absent), second.0.1) first.0 second.2 in
-    let P : (Data × Sum) × List ℕ → Type 0 = λ z. given (size_with (8 - z.0.0.left) z.0.0.value) z.1 ≡ Ok p in
-    let last = ok_is (size_with (8 - (8 - length bytes)) (data_of bytes), second.0.1) p (subst P (sym same) first.2) in
-    let count : 8 - (8 - length bytes) ≡ length bytes = omega (arith, v.few) in
-    let known : size_of bytes ≡ p.0 = sym (ap (λ n. size_with n (data_of bytes)) count ∙ size_same bytes v.few) ∙ ap (λ (z : Option ℕ × List ℕ). z.0) last in
-    record { bytes = bytes; text_is = v.text_is ∙ ap (λ z. bytes ++ z) (ap (λ (z : Option ℕ × List ℕ). z.1) last); says = (v.is, v.few, known) }
-
--- an ID at the top of a file
-record HasFour (ident : ℕ) (text rest : List ℕ) : Type 0 where
-  bytes : List ℕ
-  text_is : text ≡ bytes ++ rest
-  says : SaysFour bytes ident
-
-ident_sound : (ident : ℕ) (text : List ℕ) (p : Unit {0} × List ℕ) → ident_read ident text ≡ Ok p → HasFour ident text p.1
-unfolding ident_read
-ident_sound ident text p h =
-    let first = read_on_ok (taken 4 text) (λ bytes. if number_of bytes == ident then given tt else refused fault.NotMatroska) p h in
-    let parts = taken_sound 4 text first.0 first.1 in
-    on_test first.0 parts.0 parts.1 (number_of first.0.0 == ident) refl first.2
-  where
-    on_test : (q : List ℕ × List ℕ) → text ≡ q.0 ++ q.1 → length q.0 ≡ 4 → (b : Bool) → (number_of q.0 == ident) ≡ b → (if number_of q.0 == ident then given tt else refused fault.NotMatroska) q.1 ≡ Ok p → HasFour ident text p.1
-    on_test q whole long true t h = record { bytes = q.0; text_is = whole ∙ ap (λ z. q.0 ++ z) (ap (λ (z : Unit {0} × List ℕ). z.1) (ok_is (tt, q.1) p (rw t at h))); says = (long, eqb-true _ _ t) }
-    on_test q whole long false t h = absurd (err_is_no_ok (Met fault.NotMatroska q.1) p (rw t at h))
-
--- the header of EBML
-record HasEbml (text rest : List ℕ) : Type 0 where
-  ident : List ℕ
-  size : List ℕ
-  header : List ℕ
-  text_is : text ≡ (ident ++ size) ++ (header ++ rest)
-  is : SaysFour ident ebml
-  says : SaysSize size (Some (length header))
-  short : length header ≤ limit
-  good : header_in header ≡ Ok tt
-
-ebml_sound : (text : List ℕ) (p : Unit {0} × List ℕ) → ebml_read text ≡ Ok p → HasEbml text p.1
-unfolding ebml_read content_kept
-ebml_sound text p h =
-    let first = read_on_ok (ident_read ebml text) (λ _. top_size >>= λ size. (content_kept size >>= λ content. told (header_in content))) p h in
-    let four = ident_sound ebml text first.0 first.1 in
-    let second = read_on_ok (top_size first.0.1) (λ size. content_kept size >>= λ content. told (header_in content)) p first.2 in
-    let size = size_sound first.0.1 second.0 second.1 in
-    on_size four second.0.0 second.0.1 size second.2
-  where
-    on_told : (r : Result (Unit {0}) FileFault) (rest : List ℕ) → told r rest ≡ Ok p → (r ≡ Ok tt) × (rest ≡ p.1)
-    on_told (Ok u) rest h = (refl, ap (λ (z : Unit {0} × List ℕ). z.1) (ok_is (tt, rest) p h))
-    on_told (Err f) rest h = absurd (err_is_no_ok (Met f rest) p h)
-
-    on_size : {more : List ℕ} → HasFour ebml text more → (size : Option ℕ) (rest : List ℕ) → HasSize more size rest → (content_kept size >>= λ content. told (header_in content)) rest ≡ Ok p → HasEbml text p.1
-    on_size four None rest size h = absurd (err_is_no_ok (Met fault.BadElement rest) p h)
-    on_size {more = more} four (Some n) rest size h = on_limit (nat_lt limit n) refl h
-      where
-        on_limit : (b : Bool) → nat_lt limit n ≡ b → (content_kept (Some n) >>= λ content. told (header_in content)) rest ≡ Ok p → HasEbml text p.1
-        on_limit true t h = absurd (err_is_no_ok (Met fault.ChunkTooLong rest) p (rw t at h))
-        on_limit false t h =
-            let third = read_on_ok (wanted Kept n rest) (λ content. told (header_in content)) p (rw t at h) in
-            let parts = wanted_sound Kept n rest third.0 third.1 in
-            let good = on_told (header_in third.0.0) third.0.1 third.2 in
-            record {
-              ident = four.bytes;
-              size = size.bytes;
-              header = third.0.0;
-              text_is = four.text_is ∙ ap (λ z. four.bytes ++ z) (size.text_is ∙ ap (λ z. size.bytes ++ z) (parts.0 ∙ ap (λ z. third.0.0 ++ z) good.1)) ∙ sym (append_assoc four.bytes size.bytes (third.0.0 ++ p.1));
-              is = four.says;
-              says = rw parts.1 size.says;
-              short = rw parts.1 (ltb-false _ _ t);
-              good = good.0;
-            }
-
 -- a file up to the content of its Segment
 record HasBegun (file : List ℕ) (w : F) : Type 0 where
   size : Option ℕ
@@ -278,12 +191,9 @@ begins_sound file w h =
     let second = read_on_ok (ebml_read file) (λ _. segment_entered >>= segment_opened) first.0 first.1 in
     let top = ebml_sound file second.0 second.1 in
     let third = read_on_ok (segment_entered second.0.1) segment_opened first.0 second.2 in
-    let fourth = read_on_ok (ident_read segment second.0.1) (λ _. top_size) third.0 third.1 in
-    let four = ident_sound segment second.0.1 fourth.0 fourth.1 in
-    let size = size_sound fourth.0.1 third.0 fourth.2 in
+    let entered = entered_sound most_elements second.0.1 third.0 third.1 in
     let content = third.0.1 in
     let known = third.0.0 in
-    let split : second.0.1 ≡ (four.bytes ++ size.bytes) ++ content = four.text_is ∙ ap (λ z. four.bytes ++ z) size.text_is ∙ sym (append_assoc four.bytes size.bytes content) in
     record {
       size = known;
       content = content;
@@ -291,15 +201,18 @@ begins_sound file w h =
         ebml_ident = top.ident;
         ebml_size = top.size;
         header = top.header;
-        segment_ident = four.bytes;
-        segment_size = size.bytes;
-        bytes = top.text_is ∙ ap (λ z. (top.ident ++ top.size) ++ (top.header ++ z)) split;
+        voids = entered.voids;
+        segment_ident = entered.ident;
+        segment_size = entered.size;
+        bytes = top.text_is ∙ ap (λ z. (top.ident ++ top.size) ++ (top.header ++ z)) entered.text_is;
         ebml_is = top.is;
         ebml_sized = top.says;
         short = top.short;
         of_matroska = top.good;
-        segment_is = four.says;
-        sized = size.says;
+        voids_are = entered.are;
+        few = entered.few;
+        segment_is = entered.is;
+        sized = entered.says;
       };
       read = sym (opened_frames known (begin_read (segment_begun known) content)) ∙ ap (λ z. read_on z (λ (o : Opened). (frames_read o.track.numbers o.place >>= λ frames. given (o.track.head, frames)))) third.2 ∙ first.2;
     }

@@ -1,5 +1,7 @@
 -- Elements before the frames, by the calls of which the reading of each is made.
-use Rattle.std.proofs.Common.{◌≡◌, ◌+◌, ◌-◌, ◌==◌, ◌^◌, min, ℕ, List, Option, Some, None, Result, Ok, Err, IfOk, true, false, nat_lt, length, [], subst, inl, inr, refl, ◌∙◌, arith}
+use Rattle.std.proofs.Common.{◌≡◌, ◌≤◌, ◌+◌, ◌-◌, ◌==◌, ◌^◌, if◌then◌else◌, min, ℕ, suc, zero, List, Option, Some, None, Result, Ok, Err, IfOk, true, false, nat_lt, length, slice_index, [], ◌∷◌, subst, inl, inr, refl, ◌∙◌, arith}
+use Rattle.std.proofs.lemmas.Bool.{eq-eqb, ne_eqb}
+use Rattle.ffv1_wire.specs.Passage.{Passage}
 use Rattle.ffv1_reads.specs.declared.fault.FileFault.{FileFault}
 use Rattle.ffv1_reads.specs.declared.fault.FileFault.TheVariants as fault
 use Rattle.ffv1_reads.specs.Ends.{ReadOrNone, RefusedOrFaults, RefusedOrNone}
@@ -14,13 +16,14 @@ use Rattle.ffv1_ebml.specs.Vints.{number_of}
 use Rattle.ffv1_ebml.specs.declared.element.Element.{Element}
 use Rattle.ffv1_reads.specs.Head.{limit}
 use Rattle.ffv1_matroska.specs.Internal.{bytes_of}
-use Rattle.ffv1_matroska.specs.Offsets.{BeforeFrames, BeforeSegment, FramesBegin, InSegment, OpeningStops, Spot, Start, beginning_taken, spot_taken}
+use Rattle.ffv1_matroska.specs.Offsets.{BeforeFrames, BeforeSegment, BeginsFrom, FramesBegin, InSegment, OpeningStops, Spot, Start, beginning_taken, spot_behind, spot_taken}
 use Rattle.ffv1_matroska.specs.Opened.{begun_at, ebml_read, element_passed, in_cluster, told, tracks, tracks_or_passed, tracks_read}
-use Rattle.ffv1_matroska.specs.Opening.{content_kept, ident_read, segment, segment_begun, segment_entered, top_size}
+use Rattle.ffv1_matroska.specs.Opening.{content_kept, ident_read, most_elements, root_read, segment, segment_after, segment_begun, top_size, void, void_or_segment, void_read, void_sized}
 use Rattle.ffv1_matroska.specs.Places.{amount, ended, segment_at}
 use Rattle.ffv1_matroska.specs.Segments.{cluster, header_read, is_filler, is_section}
 use Rattle.ffv1_matroska.specs.Tracks.{Track, track_in}
 use Rattle.ffv1_matroska.specs.declared.place.Place.{Place}
+use Rattle.ffv1_matroska.specs.declared.track.Numbers.{Numbers}
 use Rattle.ffv1_matroska.proofs.Beginnings.{no_tracks}
 use Rattle.ffv1_matroska.proofs.ElementTaken.{content_takes, header_takes}
 
@@ -32,11 +35,39 @@ ident_takes ident = takes_then (taken 4) _ (takes_same _ _ (taken 4) (omega arit
 pub ident_counted : (ident : ℕ) {a b : Option (List ℕ)} → Read (ident_read ident) a b tt → ReadsCounted (ident_read ident) a b tt 4
 ident_counted ident read = reads_counted 4 (ident_takes ident) refl read
 
-pub segment_counted : (r : Result (Option ℕ) FileFault) (a b c : Option (List ℕ)) (first mid last : ℕ) → Read (ident_read segment) a b tt → mid ≡ offset_after first 4 → IfOk r (λ s. ReadsOn top_size b c s mid last) → IfOk r (λ s. ReadsOn segment_entered a c s first last)
-unfolding segment_entered
-segment_counted (Ok s) a b c first mid last read four h =
-    (4 + h.0, counted_then (ident_read segment) (λ _. top_size) (ident_counted segment read) h.1, h.2 ∙ rw four (offset_then first 4 h.0 (2 ^ 64 - 1)))
-segment_counted (Err f) a b c first mid last read four h = tt
+-- a Void after its ID
+pub void_counted : (size : ℕ) (a b c : Option (List ℕ)) (first mid last : ℕ) → ReadsOn top_size a b (Some size) first mid → Read (passed size) b c tt → last ≡ offset_after mid size → ReadsOn void_read a c tt first last
+unfolding void_read
+void_counted size a b c first mid last sized read more =
+    (sized.0 + size, counted_then top_size void_sized sized.1 (reads_counted size (takes_passed size 0) refl read), more ∙ rw sized.2 (offset_then first sized.0 size (2 ^ 64 - 1)))
+
+-- the header of the Segment after the first byte of its ID
+pub segment_counted : (byte : ℕ) (others : List ℕ) (r : Result (Option ℕ) FileFault) (a b c : Option (List ℕ)) (first mid last : ℕ) → Read (taken 3) a b others → number_of (byte ∷ others) ≡ segment → mid ≡ offset_after first 3 → IfOk r (λ s. ReadsOn top_size b c s mid last) →
+    IfOk r (λ s. ReadsOn (segment_after byte) a c s first last)
+unfolding segment_after
+segment_counted byte others (Ok s) a b c first mid last read is three h =
+    let sized = counted_same top_size (if number_of (byte ∷ others) == segment then top_size else refused fault.NotMatroska) (λ text. rw (eq-eqb _ _ is) refl) h.1 in
+    (3 + h.0, counted_then (taken 3) _ (reads_counted 3 (takes_wanted Looked 3 0) refl read) sized, h.2 ∙ rw three (offset_then first 3 h.0 (2 ^ 64 - 1)))
+segment_counted byte others (Err f) a b c first mid last read is three h = tt
+
+-- either of them
+offset_next : (first n most : ℕ) → min (min (first + 1) most + n) most ≡ min (first + (1 + (n + 0))) most
+offset_next first n most = grind arith
+
+module _ (bytes : List ℕ) (a b c : Option (List ℕ)) (first mid last : ℕ) (read : Read (taken 1) a b bytes) (one : mid ≡ offset_after first 1) where
+  by_byte : (z : Option (Option ℕ)) (n : ℕ) → ReadsCounted (void_or_segment (slice_index bytes 0)) b c z (n + 0) → last ≡ offset_after mid n → ReadsOn root_read a c z first last
+  unfolding root_read
+  by_byte z n h more = (1 + (n + 0), counted_then (taken 1) (λ bytes. void_or_segment (slice_index bytes 0)) (reads_counted 1 (takes_wanted Looked 1 0) refl read) h, more ∙ rw one (offset_next first n (2 ^ 64 - 1)))
+
+  pub root_void : slice_index bytes 0 ≡ void → ReadsOn void_read b c tt mid last → ReadsOn root_read a c None first last
+  root_void is h =
+      by_byte None h.0 (counted_same (void_read >>= λ _. given None) _ (λ text. rw (eq-eqb _ _ is) refl)
+      (counted_then void_read (λ _. given None) h.1 (counted_given None c))) h.2
+
+  pub root_segment : (size : Option ℕ) → (slice_index bytes 0 ≡ void → ⊥) → ReadsOn (segment_after (slice_index bytes 0)) b c size mid last → ReadsOn root_read a c (Some size) first last
+  root_segment size other h =
+      by_byte (Some size) h.0 (counted_same (segment_after (slice_index bytes 0) >>= λ size. given (Some size)) _ (λ text. rw (ne_eqb _ _ other) refl)
+      (counted_then (segment_after (slice_index bytes 0)) (λ size. given (Some size)) h.1 (counted_given (Some size) c))) h.2
 
 -- content that is kept
 kept_takes : (size : Option ℕ) → Takes (λ (bytes : List ℕ). length bytes ≡ bytes_of size) (bytes_of size) (λ _. 0) (content_kept size)
@@ -134,6 +165,9 @@ pub opening_stops : {from to : Spot} {old between new : Option (List ℕ)} {coun
     OpeningStops from (record { old = old; new = new; before = before; after = last }) f to count
 opening_stops {to = to} {between = between} {new = new} last f same h why = record { between = between; before = h; refused = subst (λ n. Lacks to between new n last f) same why }
 
+pub counts_on : (k n more most : ℕ) → min (min (0 + (k + n)) most + more) most ≡ min (0 + (k + (n + (more + 0)))) most
+counts_on k n more most = grind arith
+
 -- what is left at the first Cluster
 pub entered_amount : (here : Place) (left : ℕ) (size : Option ℕ) → amount (in_cluster (segment_at here false left) size) ≡ bytes_of size + left
 entered_amount here left None = omega arith
@@ -142,19 +176,23 @@ entered_amount here left (Some n) = omega arith
 -- the header of EBML, and that of the Segment
 pub ebml_refused : (old new : Option (List ℕ)) (before after : ℕ) (f : FileFault) → Refused ebml_read old new before after f → Lacks Start old new before after f
 unfolding spot_taken
-ebml_refused old new before after f why = faults_refused fault.NoTracks Ended ebml_read (λ _. given BeforeSegment) new after f (goes_none (spot_taken Start) old before) why
+ebml_refused old new before after f why = faults_refused fault.NoTracks Ended ebml_read (λ _. given (BeforeSegment most_elements)) new after f (goes_none (spot_taken Start) old before) why
 
-pub segment_refused : (old new : Option (List ℕ)) (before after : ℕ) (f : FileFault) → Refused segment_entered old new before after f → Lacks BeforeSegment old new before after f
+pub ebml_whole : {a b : Option (List ℕ)} {n : ℕ} → ReadsCounted ebml_read a b tt n → ReadsWhole spot_taken Start a b (BeforeSegment most_elements) (0 + (n + 0))
 unfolding spot_taken
-segment_refused old new before after f why = faults_refused fault.NoTracks Ended segment_entered (λ size. given (InSegment None (segment_begun size))) new after f (goes_none (spot_taken BeforeSegment) old before) why
+ebml_whole {a = a} {b = b} read = counts_more (reads_none spot_taken Start a) (counted_then ebml_read (λ _. given (BeforeSegment most_elements)) read (counted_given (BeforeSegment most_elements) b))
 
-pub ebml_whole : {a b : Option (List ℕ)} {n : ℕ} → ReadsCounted ebml_read a b tt n → ReadsWhole spot_taken Start a b BeforeSegment (0 + (n + 0))
+pub root_refused : (most : ℕ) (old new : Option (List ℕ)) (before after : ℕ) (f : FileFault) → Refused root_read old new before after f → Lacks (BeforeSegment (suc most)) old new before after f
 unfolding spot_taken
-ebml_whole {a = a} {b = b} read = counts_more (reads_none spot_taken Start a) (counted_then ebml_read (λ _. given BeforeSegment) read (counted_given BeforeSegment b))
+root_refused most old new before after f why = faults_refused fault.NoTracks Ended root_read (λ root. given (spot_behind most root)) new after f (goes_none (spot_taken (BeforeSegment (suc most))) old before) why
 
-pub segment_whole : {a b c : Option (List ℕ)} {m n : ℕ} (size : Option ℕ) → ReadsCounted ebml_read a b tt m → ReadsCounted segment_entered b c size n → ReadsWhole spot_taken Start a c (InSegment None (segment_begun size)) (0 + (m + 0) + (n + 0))
+pub none_left : (old : Option (List ℕ)) (before : ℕ) → Lacks (BeforeSegment zero) old old before before fault.NotMatroska
 unfolding spot_taken
-segment_whole {c = c} size first read = counts_more (ebml_whole first) (counted_then segment_entered (λ size. given (InSegment None (segment_begun size))) read (counted_given (InSegment None (segment_begun size)) c))
+none_left old before = inl (refl, faults_here Spot fault.NotMatroska old)
+
+pub root_whole : (most : ℕ) (root : Option (Option ℕ)) {from : Spot} {a b c : Option (List ℕ)} {m n : ℕ} → ReadsWhole spot_taken from a b (BeforeSegment (suc most)) m → ReadsCounted root_read b c root n → ReadsWhole spot_taken from a c (spot_behind most root) (m + (n + 0))
+unfolding spot_taken
+root_whole most root {c = c} before read = counts_more before (counted_then root_read (λ root. given (spot_behind most root)) read (counted_given (spot_behind most root) c))
 
 pub begun_flat : (size : Option ℕ) → (segment_begun size).cluster + (segment_begun size).group ≡ 0
 begun_flat None = refl
@@ -163,7 +201,14 @@ begun_flat (Some n) = refl
 pub first_offset : (n most : ℕ) → min (0 + n) most ≡ min (0 + (0 + (n + 0))) most
 first_offset n most = grind arith
 
-pub last_offset : (m n count before after most : ℕ) → count + after ≡ before → min (min (min (0 + m) most + n) most + min (before - after) most) most ≡ min (0 + (0 + (m + 0) + (n + 0) + count)) most
+pub begins_within : (place : Place) (p : Passage) (bytes : List ℕ) (r : Result (Numbers × Place) FileFault) (here : Place) → place.cluster + place.group ≡ 0 → BeginsFrom place p bytes r here → amount here ≤ amount place
+begins_within place p bytes (Ok n) here flat from = let all = from.2 flat in omega (arith, all)
+begins_within place p bytes (Err f) here flat from = let all = from.3 flat in omega (arith, all)
+
+pub entered_offset : (m n most : ℕ) → min (0 + (m + n)) most ≡ min (0 + (0 + (m + 0) + n)) most
+entered_offset m n most = grind arith
+
+pub last_offset : (m n count before after most : ℕ) → count + after ≡ before → min (min (0 + (m + n)) most + min (before - after) most) most ≡ min (0 + (0 + (m + 0) + n + count)) most
 last_offset m n count before after most is = grind (arith, is)
 
 -- what stops there, of the whole

@@ -173,6 +173,7 @@ file_begins head finish size x says =
       ebml_ident = ident_bytes ebml;
       ebml_size = short (length header_bytes);
       header = header_bytes;
+      voids = [];
       segment_ident = ident_bytes segment;
       segment_size = segment_size finish;
       bytes = opened head finish x;
@@ -180,6 +181,8 @@ file_begins head finish size x says =
       ebml_sized = short_spelled (length header_bytes) (omega (arith, header_few));
       short = omega (arith, header_few);
       of_matroska = header_judged;
+      voids_are = tt;
+      few = omega arith;
       segment_is = four_bytes segment segment_is segment_four;
       sized = says;
     }

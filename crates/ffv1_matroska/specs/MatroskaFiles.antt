@@ -7,27 +7,39 @@ use Rattle.ffv1_ebml.specs.Vints.{IsVint, number_of}
 use Rattle.ffv1_matroska.specs.Elements.{AreParts, AreTopLevel, Part, TopLevel, parts_frames}
 use Rattle.ffv1_matroska.specs.Elements.{parts_text, top_text, tops_text}
 use Rattle.ffv1_matroska.specs.Opened.{ebml, tracks as tracks_ident}
-use Rattle.ffv1_matroska.specs.Opening.{header_in, segment}
+use Rattle.ffv1_matroska.specs.Opening.{header_in, most_elements, segment, void}
 use Rattle.ffv1_matroska.specs.Tracks.{Track, track_in}
 
 -- four bytes that are this ID
 abbrev pub SaysFour : List ℕ → ℕ → Type 0
 SaysFour bytes ident = (length bytes ≡ 4) × (number_of bytes ≡ ident)
 
--- a file up to the content of its Segment: the header of EBML, which is of Matroska, and the
--- header of the Segment, of this size
+-- a Void, of any size that is known (RFC 8794, 11.3)
+pub record IsVoid (t : TopLevel) : Type 0 where
+  pub named : t.ident ≡ void ∷ []
+  pub sized : SaysSize t.size (Some (length t.content))
+
+abbrev pub AreVoids : List TopLevel → Type 0
+AreVoids [] = Unit {0}
+AreVoids (t ∷ ts) = IsVoid t × AreVoids ts
+
+-- a file up to the content of its Segment: the header of EBML, which is of Matroska, any number of
+-- Voids, and the header of the Segment, of this size
 pub record FileBegins (file : List ℕ) (size : Option ℕ) (content : List ℕ) : Type 0 where
   pub ebml_ident : List ℕ
   pub ebml_size : List ℕ
   pub header : List ℕ
+  pub voids : List TopLevel
   pub segment_ident : List ℕ
   pub segment_size : List ℕ
   pub bytes : file ≡ (ebml_ident ++ ebml_size)
-      ++ (header ++ ((segment_ident ++ segment_size) ++ content))
+      ++ (header ++ (tops_text voids ++ ((segment_ident ++ segment_size) ++ content)))
   pub ebml_is : SaysFour ebml_ident ebml
   pub ebml_sized : SaysSize ebml_size (Some (length header))
   pub short : length header ≤ limit
   pub of_matroska : header_in header ≡ Ok tt
+  pub voids_are : AreVoids voids
+  pub few : length voids < most_elements
   pub segment_is : SaysFour segment_ident segment
   pub sized : SaysSize segment_size size
 

@@ -1,6 +1,7 @@
 -- Where in a file a fault is: in the element, of those one after the other, that could not be read.
 -- The CRC-32 of a Cluster is known with its last element, and is a fault of that.
-use Rattle.std.specs.Prelude.{◌≡◌, ◌⊎◌, ◌+◌, ◌==◌, if◌then◌else◌, ℕ, Bool, true, false, List}
+use Rattle.std.specs.Prelude.{◌≡◌, ◌⊎◌, ◌+◌, ◌==◌, if◌then◌else◌, ℕ, suc, zero, Bool, true, false}
+use Rattle.std.specs.Prelude.{List}
 use Rattle.std.specs.Prelude.{Option, Some, None, Result, Ok, Err, ⊤}
 use Rattle.ffv1_wire.specs.Passage.{Passage}
 use Rattle.ffv1_reads.specs.Ends.{ReadOrNone, RefusedOrFaults}
@@ -8,12 +9,12 @@ use Rattle.ffv1_reads.specs.declared.fault.FileFault.TheVariants as fault
 use Rattle.ffv1_matroska.specs.Internal.{track_kept}
 use Rattle.ffv1_matroska.specs.declared.track.Numbers.{Numbers}
 use Rattle.ffv1_reads.specs.Offsets.{ReadsWhole, StopsAfter, offset_after}
-use Rattle.ffv1_reads.specs.Reads.{Read, Reading, given, ◌>>=◌}
+use Rattle.ffv1_reads.specs.Reads.{Read, Reading, given, refused, ◌>>=◌}
 use Rattle.ffv1_reads.specs.declared.fault.FileFault.{FileFault}
 use Rattle.ffv1_ebml.specs.Sums.{kept_summed}
 use Rattle.ffv1_ebml.specs.declared.element.Element.{Element}
 use Rattle.ffv1_matroska.specs.Opened.{begun_at, ebml_read, in_cluster, tracks_or_passed}
-use Rattle.ffv1_matroska.specs.Opening.{segment_begun, segment_entered}
+use Rattle.ffv1_matroska.specs.Opening.{most_elements, root_read, segment_begun}
 use Rattle.ffv1_matroska.specs.Places.{amount, closed, ended, frame_at, segment_at, summed_at}
 use Rattle.ffv1_matroska.specs.Readers.{Standing}
 use Rattle.ffv1_matroska.specs.Segments.{cluster, header_read, step_read}
@@ -38,11 +39,11 @@ step_taken place (Some s) = frame_taken s.place s.frame
 unfoldable pub element_taken : TrackNumbers → Place → Reading Place
 element_taken track place = step_read track place >>= step_taken place
 
--- where a reader stands before the frames: before the file, before its Segment, before an element
--- of that, if these Tracks were before; or before the frames
+-- where a reader stands before the frames: before the file; before its Segment, which is one of so
+-- many elements; before an element of that, if these Tracks were before; or before the frames
 pub data Spot : Type 0 where
   Start : Spot
-  BeforeSegment : Spot
+  BeforeSegment : ℕ → Spot
   InSegment : Option Track → Place → Spot
   BeforeFrames : Track → Place → Spot
 
@@ -59,11 +60,17 @@ beginning_taken found place (Some e) =
     else (tracks_or_passed found e.ident e.size >>= λ now.
     given (InSegment now (segment_at place false e.left)))
 
--- an element from its first byte on, before the frames: the header of EBML; of the Segment the
--- header alone; and its elements. Before the frames nothing is read
+-- after a Void, and after the header of the Segment
+abbrev pub spot_behind : ℕ → Option (Option ℕ) → Spot
+spot_behind most None = BeforeSegment most
+spot_behind most (Some size) = InSegment None (segment_begun size)
+
+-- an element from its first byte on, before the frames: the header of EBML; a Void, or of the
+-- Segment the header alone; and its elements. Before the frames nothing is read
 unfoldable pub spot_taken : Spot → Reading Spot
-spot_taken Start = ebml_read >>= λ _. given BeforeSegment
-spot_taken BeforeSegment = segment_entered >>= λ size. given (InSegment None (segment_begun size))
+spot_taken Start = ebml_read >>= λ _. given (BeforeSegment most_elements)
+spot_taken (BeforeSegment zero) = refused fault.NotMatroska
+spot_taken (BeforeSegment (suc most)) = root_read >>= λ root. given (spot_behind most root)
 spot_taken (InSegment found place) = header_read place >>= beginning_taken found place
 spot_taken (BeforeFrames track place) = given (BeforeFrames track place)
 
@@ -90,6 +97,21 @@ abbrev pub FramesBegin : Spot → Passage → Track → Place → ℕ → Type 0
 FramesBegin from p track place count =
     ReadsWhole spot_taken from p.old p.new (BeforeFrames track place) count
     ⊎ ((place ≡ ended) × EndsBeforeFrames from p.old p.new track count)
+
+-- an offset that has counted all bytes before counts so many more
+abbrev pub CountsOn : ℕ → ℕ → ℕ → Type 0
+CountsOn before after count =
+    (n : ℕ) → before ≡ offset_after 0 n → after ≡ offset_after 0 (n + count)
+
+-- elements before the Segment were read whole and are counted: with the header of the Segment, of
+-- this size; or up to the element that was refused
+abbrev pub EntersFrom : Passage → Result (Option ℕ) FileFault → ℕ → ℕ → Type 0
+EntersFrom p (Ok size) before after =
+    (count : ℕ) × ReadsWhole spot_taken (BeforeSegment most_elements) p.old p.new
+    (InSegment None (segment_begun size)) count × CountsOn before after count
+EntersFrom p (Err f) before after =
+    (most count : ℕ) × OpeningStops (BeforeSegment most_elements) p f (BeforeSegment most) count
+    × CountsOn before after count
 
 -- the elements of a Segment before the frames: if these begin, `here` is the place where they do;
 -- if an element was refused, it is the place before that

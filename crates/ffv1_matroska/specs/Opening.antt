@@ -1,9 +1,9 @@
--- The beginning of a file: the header of EBML (RFC 8794, 11.2), and that of the Segment (RFC 9559,
--- 5.1).
-use Rattle.std.specs.Prelude.{ℕ, ◌-◌, ◌==◌, true, false, if◌then◌else◌, nat_lt, List, Option, Some}
-use Rattle.std.specs.Prelude.{None}
+-- The beginning of a file: the header of EBML (RFC 8794, 11.2), Voids after it, and the header of
+-- the Segment (RFC 9559, 5.1).
+use Rattle.std.specs.Prelude.{ℕ, suc, zero, ◌-◌, ◌==◌, true, false, if◌then◌else◌, nat_lt}
+use Rattle.std.specs.Prelude.{List, ◌∷◌, slice_index, Option, Some, None}
 use Rattle.std.specs.Prelude.{codes, Result, Ok, Err}
-use Rattle.ffv1_reads.specs.Reads.{Kept, Reading, given, refused, taken, wanted, ◌>>=◌}
+use Rattle.ffv1_reads.specs.Reads.{Kept, Reading, given, passed, refused, taken, wanted, ◌>>=◌}
 use Rattle.ffv1_reads.specs.declared.fault.FileFault.{FileFault}
 use Rattle.ffv1_reads.specs.declared.fault.FileFault.TheVariants as fault
 use Rattle.ffv1_ebml.specs.Contents.{content_told, number_in, text_in}
@@ -18,6 +18,10 @@ use Rattle.ffv1_matroska.specs.declared.place.Place.{Place}
 -- the ID of Segment
 abbrev pub segment : ℕ
 segment = 408125543
+
+-- the ID of Void, which has one byte
+abbrev pub void : ℕ
+void = 236
 
 -- the IDs of DocType, EBMLReadVersion and DocTypeReadVersion
 abbrev pub doc_type : ℕ
@@ -81,6 +85,44 @@ segment_begun (Some size) =
       sum = Absent;
     }
 
--- the size of the Segment, which comes next
+-- a Void after its ID (RFC 8794, 11.3): its size must be known, and so many bytes are passed
+abbrev pub void_sized : Option ℕ → Reading (Unit {0})
+void_sized None = refused fault.BadElement
+void_sized (Some size) = passed size
+
+unfoldable pub void_read : Reading (Unit {0})
+void_read = top_size >>= void_sized
+
+-- the header of the Segment after the first byte of its ID: its size
+unfoldable pub segment_after : ℕ → Reading (Option ℕ)
+segment_after first = taken 3 >>= λ others.
+    if number_of (first ∷ others) == segment then top_size else refused fault.NotMatroska
+
+-- the first byte of an ID says which it is
+abbrev pub void_or_segment : ℕ → Reading (Option (Option ℕ))
+void_or_segment first =
+    if first == void then (void_read >>= λ _. given None)
+    else (segment_after first >>= λ size. given (Some size))
+
+-- after the header of EBML a Void is passed; no other element may come before the Segment, which
+-- says its size
+unfoldable pub root_read : Reading (Option (Option ℕ))
+root_read = taken 1 >>= λ bytes. void_or_segment (slice_index bytes 0)
+
+-- after a Void it goes on
+abbrev pub root_or_on : Reading (Option ℕ) → Option (Option ℕ) → Reading (Option ℕ)
+root_or_on on None = on
+root_or_on on (Some size) = given size
+
+-- the size of the Segment, which is one of so many elements
+unfoldable pub segment_up_to : ℕ → Reading (Option ℕ)
+segment_up_to zero = refused fault.NotMatroska
+segment_up_to (suc most) = root_read >>= root_or_on (segment_up_to most)
+
+-- more elements than a file has: 2^64 - 1
+abbrev pub most_elements : ℕ
+most_elements = 18446744073709551615
+
+-- the size of the Segment, which comes next or after Voids
 unfoldable pub segment_entered : Reading (Option ℕ)
-segment_entered = ident_read segment >>= λ _. top_size
+segment_entered = segment_up_to most_elements

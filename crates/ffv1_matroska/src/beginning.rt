@@ -261,11 +261,11 @@ pub(crate) fn read_opening<R: ByteIn, A: Allocator>(
     *offset = 0;
     read_ebml(first, input, content, &mut after)?;
     *offset = after;
-    let size = enter_segment(input, &mut after)?;
+    let size = enter_segment(input, offset)?;
     let begin = begin_segment(size);
     let mut here = begin;
     let read = read_beginning(input, begin, &mut here, content, config);
-    *offset = after.saturating_add(passed(begin, here));
+    *offset = offset.saturating_add(passed(begin, here));
     let (numbers, place) = read?;
     Ok((size, numbers, place))
 }

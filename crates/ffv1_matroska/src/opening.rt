@@ -1,6 +1,8 @@
-//! The beginning of a file: the header of EBML, and that of the Segment.
+//! The beginning of a file: the header of EBML, and that of the Segment, before which Voids may
+//! stand.
 
-ghost use Rattle.std.specs.Prelude.{◌≡◌, ◌≤◌, ◌<◌, ◌^◌, ℕ, List, Option, IfOk, OnOk, length};
+ghost use Rattle.std.specs.Prelude.{◌≡◌, ◌≤◌, ◌<◌, ◌^◌, ℕ, List, Option, IfOk, OnErr, OnOk};
+ghost use Rattle.std.specs.Prelude.{length};
 ghost use Rattle.std.specs.Vec.{vec_capacity};
 ghost use Rattle.ffv1_wire.specs.Passage.{passage};
 ghost use Rattle.ffv1_reads.specs.First.{bytes_with, passage_with};
@@ -10,13 +12,15 @@ ghost use Rattle.ffv1_reads.specs.Room.{HasRoom, RoomRead};
 ghost use Rattle.ffv1_ebml.specs.Vints.{number_of};
 ghost use Rattle.ffv1_matroska.specs.Opened.{ebml_read};
 ghost use Rattle.ffv1_matroska.specs.Opening.{content_kept, header_in, ident_read};
-ghost use Rattle.ffv1_matroska.specs.Opening.{segment_begun, segment_entered, top_size};
+ghost use Rattle.ffv1_matroska.specs.Offsets.{EntersFrom};
+ghost use Rattle.ffv1_matroska.specs.Opening.{root_read, segment_after, segment_begun};
+ghost use Rattle.ffv1_matroska.specs.Opening.{segment_entered, top_size, void_read};
 ghost use Rattle.ffv1_matroska.specs.Sizes.{size_with};
 
 use crate::place::Place;
 use crate::track::content_at;
 use ffv1_ebml::{Sum, judge, next_data, number, text};
-use ffv1_reads::{FileFault, fill, take_after};
+use ffv1_reads::{FileFault, fill, pass, take, take_after};
 use ffv1_wire::ByteIn;
 use std::alloc::Allocator;
 
@@ -26,6 +30,8 @@ pub(crate) const LIMIT: u64 = ffv1_reads::LIMIT as u64;
 const EBML: u32 = 0x1A45_DFA3;
 
 const SEGMENT: u32 = 0x1853_8067;
+
+const VOID: u8 = 0xEC;
 
 const DOC_TYPE: u32 = 0x4282;
 
@@ -167,10 +173,81 @@ pub(crate) fn read_ebml<R: ByteIn, A: Allocator>(
     Ok(())
 }
 
-/// The size of the Segment, which comes next, or None if it is unknown.
+/// Passes a Void after its ID.
 ///
-/// `NotMatroska` if another element does, then as `read_top_size`. The bytes of the header are
+/// `BadElement` if its size is unknown or has more than 8 bytes, `Truncated` if the input ends
+/// inside it, `Read` if a read failed. Its bytes are counted if there is no fault.
+#[tactic(auto, unfolding(crate::specs::Opening::void_read))]
+fn pass_void<R: ByteIn>(input: &mut R, offset: &mut u64) -> Result<(), FileFault>
+    ensures answer { Answers (λ (_ : Unit {0}). tt) void_read
+        (passage R.remaining R.failures input.old input.new) result }
+    ensures counted { IfOk result (λ u. ReadsOn void_read (R.remaining input.old)
+        (R.remaining input.new) u offset.old offset.new) }
+{
+    let Some(size) = read_top_size(input, offset)? else {
+        return Err(FileFault::BadElement);
+    };
+    pass(input, size)?;
+    *offset = offset.saturating_add(size);
+    Ok(())
+}
+
+/// Reads the header of the Segment after the first byte of its ID: its size, or None if that is
+/// unknown.
+///
+/// `NotMatroska` if that byte and the next three are another ID, then as `read_top_size`. The bytes
+/// after the first are counted if there is no fault.
+#[tactic(auto, unfolding(crate::specs::Opening::segment_after))]
+fn read_segment<R: ByteIn>(
+    first: u8,
+    input: &mut R,
+    offset: &mut u64,
+) -> Result<Option<u64>, FileFault>
+    ensures answer { Answers (λ (s : Option ℕ). s) (segment_after first)
+        (passage R.remaining R.failures input.old input.new) result }
+    ensures counted { IfOk result (λ s. ReadsOn (segment_after first) (R.remaining input.old)
+        (R.remaining input.new) s offset.old offset.new) }
+{
+    let mut ident = [first, 0, 0, 0];
+    take(input, &mut ident[1..])?;
+    if number_of(&ident) != u64::from(SEGMENT) {
+        return Err(FileFault::NotMatroska);
+    }
+    *offset = offset.saturating_add(3);
+    read_top_size(input, offset)
+}
+
+/// Reads an element after the header of EBML: passes a Void, or reads the header of the Segment,
+/// and answers its size. None after a Void.
+///
+/// `NotMatroska` if it is another element, then as `pass_void` and `read_segment`. Its bytes are
 /// counted if there is no fault.
+#[tactic(auto, unfolding(crate::specs::Opening::root_read))]
+fn read_root<R: ByteIn>(input: &mut R, offset: &mut u64) -> Result<Option<Option<u64>>, FileFault>
+    ensures answer { Answers (λ (s : Option (Option ℕ)). s) root_read
+        (passage R.remaining R.failures input.old input.new) result }
+    ensures counted { IfOk result (λ s. ReadsOn root_read (R.remaining input.old)
+        (R.remaining input.new) s offset.old offset.new) }
+    ensures kept { OnErr result (offset.new ≡ offset.old) }
+{
+    let mut first = [0u8; 1];
+    take(input, &mut first)?;
+    let mut after = offset.saturating_add(1);
+    if first[0] == VOID {
+        pass_void(input, &mut after)?;
+        *offset = after;
+        return Ok(None);
+    }
+    let size = read_segment(first[0], input, &mut after)?;
+    *offset = after;
+    Ok(Some(size))
+}
+
+/// The size of the Segment, or None if it is unknown. Its header comes next, or after Voids, which
+/// are passed.
+///
+/// `NotMatroska` if another element comes before it, then as `read_root`. The bytes of the Voids
+/// and of the header that were read whole are counted.
 #[tactic(auto, unfolding(crate::specs::Opening::segment_entered))]
 pub(crate) fn enter_segment<R: ByteIn>(
     input: &mut R,
@@ -178,12 +255,15 @@ pub(crate) fn enter_segment<R: ByteIn>(
 ) -> Result<Option<u64>, FileFault>
     ensures answer { Answers (λ (s : Option ℕ). s) segment_entered
         (passage R.remaining R.failures input.old input.new) result }
-    ensures counted { IfOk result (λ s. ReadsOn segment_entered (R.remaining input.old)
-        (R.remaining input.new) s offset.old offset.new) }
+    ensures from { EntersFrom (passage R.remaining R.failures input.old input.new) result
+        offset.old offset.new }
 {
-    read_ident(None, input, SEGMENT)?;
-    *offset = offset.saturating_add(4);
-    read_top_size(input, offset)
+    for _element in 0..u64::MAX {
+        if let Some(size) = read_root(input, offset)? {
+            return Ok(size);
+        }
+    }
+    Err(FileFault::NotMatroska)
 }
 
 /// The place at the beginning of a Segment.

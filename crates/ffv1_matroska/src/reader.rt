@@ -59,23 +59,23 @@ impl<A: Allocator> Model for MatroskaReader<A> {
 }
 
 impl<A: Allocator + Copy> MatroskaReader<A> {
-    /// Reads a file up to where its frames begin: the header of EBML, and the elements of the
-    /// Segment up to its first Cluster, or its end. The first Tracks say which frames are read:
-    /// those of their first track that is FFV1 video. Memory is taken for the header of EBML and
-    /// for Tracks, which is given back, and room as large as Tracks for the configuration record,
-    /// so for at most as many bytes as were read.
+    /// Reads a file up to where its frames begin: the header of EBML, Voids after it, and the
+    /// elements of the Segment up to its first Cluster, or its end. The first Tracks say which
+    /// frames are read: those of their first track that is FFV1 video. Memory is taken for the
+    /// header of EBML and for Tracks, which is given back, and room as large as Tracks for the
+    /// configuration record, so for at most as many bytes as were read.
     ///
     /// `NotMatroska` if the file does not begin with a header of EBML that says Matroska of a
-    /// version that is read, and a Segment. `Truncated` if an element does not fit in what it
-    /// stands in, or the input ends inside it. `BadElement` if an ID has more than 4 bytes, a size
-    /// or a field more than 8, a size is unknown other than that of the Segment or a Cluster, or an
-    /// element may not stand in a Segment. `ChunkTooLong` if the header of EBML or Tracks are above
-    /// 67108864 bytes. `NoTracks` if a Cluster comes before any Tracks, or the end of the Segment
-    /// does. `NoFfv1` if no track is FFV1 video, `Encoded` if the one that counts is compressed or
-    /// encrypted. `Checksum` if a CRC-32 is not the sum, which is known at the end of the element.
-    /// `Read` if a read failed, `OutOfMemory`. A fault of the header of EBML or of Tracks comes
-    /// after all of their bytes. What Video says of colours has no fault: what of it can't be read
-    /// says nothing.
+    /// version that is read, or if what comes after that and after any Voids is no Segment.
+    /// `Truncated` if an element does not fit in what it stands in, or the input ends inside it.
+    /// `BadElement` if an ID has more than 4 bytes, a size or a field more than 8, a size is
+    /// unknown other than that of the Segment or a Cluster, or an element may not stand in a
+    /// Segment. `ChunkTooLong` if the header of EBML or Tracks are above 67108864 bytes. `NoTracks`
+    /// if a Cluster comes before any Tracks, or the end of the Segment does. `NoFfv1` if no track
+    /// is FFV1 video, `Encoded` if the one that counts is compressed or encrypted. `Checksum` if a
+    /// CRC-32 is not the sum, which is known at the end of the element. `Read` if a read failed,
+    /// `OutOfMemory`. A fault of the header of EBML or of Tracks comes after all of their bytes.
+    /// What Video says of colours has no fault: what of it can't be read says nothing.
     pub fn open<R: ByteIn>(alloc: A, input: &mut R) -> Result<MatroskaReader<A>, FileFault>
         ensures answer { AnswersOrFaults fault.NoTracks HasEnded opened_at open_read
             (passage R.remaining R.failures input.old input.new) result }
@@ -106,8 +106,9 @@ impl<A: Allocator + Copy> MatroskaReader<A> {
 
     /// The same, which says where in the file a fault is: `offset` is then the number of bytes
     /// before the element at fault, counting the byte that was read before; no greater than 2^64 -
-    /// 1. That element is the header of EBML, the header of the Segment, or an element of that;
-    /// if the Segment ends before any Tracks, it is where the next element would begin.
+    /// 1. That element is the header of EBML, a Void after it, the header of the Segment, or an
+    /// element of that; if the Segment ends before any Tracks, it is where the next element would
+    /// begin.
     pub fn open_located<R: ByteIn>(
         alloc: A,
         first: Option<u8>,

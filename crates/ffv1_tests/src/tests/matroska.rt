@@ -9,5 +9,6 @@ mod rates;
 mod reading;
 mod reading_bytes;
 mod reading_refused;
+mod voids;
 mod written;
 mod written_example;

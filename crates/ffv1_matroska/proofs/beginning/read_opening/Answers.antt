@@ -16,12 +16,12 @@ use Rattle.ffv1_matroska.specs.declared.place.Place.{Place}
 use Rattle.ffv1_matroska.proofs.Beginnings.{Over}
 use Rattle.ffv1_reads.proofs.Rooms.{room_kept, room_then}
 use Rattle.std.proofs.Common.{◌≡◌, ◌^◌, ◌-◌, ◌∙◌, min, refl}
-use Rattle.ffv1_reads.proofs.OffsetLaws.{reads_none}
+use Rattle.ffv1_reads.proofs.OffsetLaws.{reads_none, reads_then}
 use Rattle.ffv1_matroska.specs.Offsets.{BeforeSegment, InSegment, Start, spot_taken}
 use Rattle.ffv1_matroska.specs.Places.{amount}
-use Rattle.ffv1_matroska.proofs.SpotReadings.{begun_flat, ebml_refused, ebml_whole, first_offset}
-use Rattle.ffv1_matroska.proofs.SpotReadings.{frames_from, last_offset, opening_from, opening_stops}
-use Rattle.ffv1_matroska.proofs.SpotReadings.{segment_refused, segment_whole}
+use Rattle.ffv1_matroska.proofs.SpotReadings.{begins_within, begun_flat, ebml_refused, ebml_whole}
+use Rattle.ffv1_matroska.proofs.SpotReadings.{entered_offset, frames_from, last_offset}
+use Rattle.ffv1_matroska.proofs.SpotReadings.{opening_from, opening_stops}
 use Rattle.ffv1_matroska.proofs.beginning.read_opening.Goals as goal
 
 abbrev made : Option ℕ → Track × Place → Opened
@@ -58,6 +58,13 @@ returns-in_err-numbers-clause-answer g c =
     let why = rw c.begin_segment-begin.ensures at c.in_err-numbers.ensures.answer in
     rw (p.1, p.2) (made_refused fault.NoTracks Over HasEnded (begin_read (segment_begun size))
     (made size) _ _ c.in_err-numbers.field-0.0 (λ p is. is) entered why)
+
+pub passed-requires : goal.passed-requires
+passed-requires g c =
+    let size = c.in_ok-size.size in
+    let from = rw c.begin_segment-begin.ensures at c.read_beginning-read.ensures.from in
+    rw c.begin_segment-begin.ensures (begins_within (segment_begun size) _ _
+    c.read_beginning-read.result _ (begun_flat size) from)
 
 pub returns-clause-answer : goal.returns-clause-answer
 unfolding open_read
@@ -96,15 +103,13 @@ pub returns-in_err-size-clause-from : goal.returns-in_err-size-clause-from
 returns-in_err-size-clause-from g c =
     let p = err_from_is_err_and c.from_residual-in_err-size.result
     c.from_residual-in_err-size.ensures.1 in
-    let f = c.in_err-size.field-0.0 in
     let first = c.in_ok-read_ebml.ensures.counted in
+    let from = c.in_err-size.ensures.from in
     rw (p.1, p.2) (
-      BeforeSegment,
+      BeforeSegment from.0,
       _,
-      opening_stops _ f c.in_ok-read_ebml.ensures.answer.0
-          (ebml_whole first.1) (segment_refused _ _ _ _ f c.in_err-size.ensures.answer),
-      first.2 ∙
-          first_offset first.0 (2 ^ 64 - 1),
+      opening_from c.in_ok-read_ebml.ensures.answer.0 (ebml_whole first.1) from.2,
+      from.3 first.0 first.2 ∙ entered_offset first.0 from.1 (2 ^ 64 - 1),
     )
 
 pub returns-in_err-numbers-clause-from : goal.returns-in_err-numbers-clause-from
@@ -113,7 +118,7 @@ returns-in_err-numbers-clause-from g c =
     c.from_residual-in_err-numbers.ensures.1 in
     let size = c.in_ok-size.size in
     let first = c.in_ok-read_ebml.ensures.counted in
-    let second = c.in_ok-size.ensures.counted in
+    let second = c.in_ok-size.ensures.from in
     let here = c.read_beginning-read.new.here in
     let from = rw c.begin_segment-begin.ensures at c.in_err-numbers.ensures.from in
     let same = c.in_ok-size.ensures.answer.0 ∙ c.in_ok-read_ebml.ensures.answer.0 in
@@ -123,9 +128,8 @@ returns-in_err-numbers-clause-from g c =
     rw (p.1, p.2) (
       InSegment from.0 here,
       _,
-      opening_from same (segment_whole size first.1 second.1)
-          from.2,
-      c.saturating_add.ensures ∙ rw (passed, second.2, first.2)
+      opening_from same (reads_then (ebml_whole first.1) second.1) from.2,
+      c.saturating_add.ensures ∙ rw (passed, second.2 first.0 first.2)
           (last_offset first.0 second.0 from.1 _ _ (2 ^ 64 - 1) left),
     )
 
@@ -133,15 +137,15 @@ pub returns-clause-from : goal.returns-clause-from
 returns-clause-from g c =
     let size = c.in_ok-size.size in
     let first = c.in_ok-read_ebml.ensures.counted in
-    let second = c.in_ok-size.ensures.counted in
+    let second = c.in_ok-size.ensures.from in
     let here = c.read_beginning-read.new.here in
     let from = rw c.begin_segment-begin.ensures at c.in_ok-numbers.ensures.from in
     let left = from.2 (begun_flat size) in
     let passed : c.passed.result ≡ min (amount (segment_begun size) - amount here) (2 ^ 64 - 1) =
     rw c.begin_segment-begin.ensures at c.passed.ensures in (
       _,
-      frames_from 0 0 0 _ _ (segment_whole size first.1 second.1) from.1,
+      frames_from 0 0 0 _ _ (reads_then (ebml_whole first.1) second.1) from.1,
       c.saturating_add.ensures
-          ∙ rw (passed, second.2, first.2) (last_offset first.0 second.0 from.0 _ _ (2 ^ 64 - 1)
+          ∙ rw (passed, second.2 first.0 first.2) (last_offset first.0 second.0 from.0 _ _ (2 ^ 64 - 1)
           left),
     )
