@@ -4,7 +4,7 @@ use Rattle.std.proofs.lemmas.Option.{slice_get-get_or}
 use Rattle.ffv1_samples.specs.Samples.{sample_bytes}
 use Rattle.ffv1_record.specs.Configuration.{Configuration}
 use Rattle.ffv1_slice.specs.Grid.{division_of, planes_in}
-use Rattle.ffv1_codec.specs.Picture.{AreOf, Planes, plane_height, plane_width, samples_in}
+use Rattle.ffv1_frame.specs.Picture.{AreOf, Planes, plane_height, plane_width, samples_in}
 use Rattle.ffv1_y4m.specs.VideoHead.{Fits as VideoFits, colour_head, reduced}
 use Rattle.ffv1_y4m.specs.declared.head.VideoHead.{VideoHead}
 use Rattle.ffv1_video.specs.RawPicture.{AreEven}

@@ -6,8 +6,8 @@ use Rattle.std.proofs.lemmas.List.FromFn.{get_or-map-range_with_len, length-map-
 use Rattle.std.proofs.lemmas.Option.{slice_get-get_or}
 use Rattle.ffv1_record.specs.Accepted.{Accepted}
 use Rattle.ffv1_slice.specs.Grid.{Division, across, division_of, down, whole_of}
-use Rattle.ffv1_codec.specs.Kept.{Kept, zeros_of}
-use Rattle.ffv1_codec.specs.Picture.{AreOf, samples_in}
+use Rattle.ffv1_frame.specs.Kept.{Kept, zeros_of}
+use Rattle.ffv1_frame.specs.Picture.{AreOf, samples_in}
 use Rattle.ffv1_video.specs.KeptLines.{IsKeptFor}
 
 -- planes of zeros are planes

@@ -3,7 +3,7 @@ use Rattle.std.proofs.Common.{◌≡◌, refl, ℕ, suc, ◌+◌, ◌<◌, ◌==
 use Rattle.std.proofs.lemmas.Bool.Decides.{nat_tests}
 use Rattle.md5.specs.Md5.{md5}
 use Rattle.ffv1_range.specs.Counts.{saturated}
-use Rattle.ffv1_codec.specs.Picture.{Planes}
+use Rattle.ffv1_frame.specs.Picture.{Planes}
 use Rattle.ffv1_y4m.specs.declared.head.VideoHead.{VideoHead}
 use Rattle.ffv1_video.specs.Md5Text.{line_of, md5_head, md5_line, md5_lines, md5_text}
 use Rattle.ffv1_video.specs.Md5Text.{next_md5}

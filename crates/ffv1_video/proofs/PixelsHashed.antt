@@ -6,7 +6,7 @@ use Rattle.std.proofs.lemmas.List.Folds.{concat-append}
 use Rattle.std.proofs.lemmas.Grind.{flat_map-append}
 use Rattle.std.specs.declared.vec.Vec.{Vec}
 use Rattle.ffv1_video.specs.declared.picture_md5.Hashed.{Hashed}
-use Rattle.ffv1_codec.specs.Picture.{Planes, planes_of}
+use Rattle.ffv1_frame.specs.Picture.{Planes, planes_of}
 use Rattle.ffv1_video.specs.RawPicture.{pixel}
 use Rattle.ffv1_video.specs.Internal.RawPicture.{IsOf}
 

@@ -2,8 +2,8 @@
 use Rattle.std.specs.Prelude.{◌≡◌}
 use Rattle.ffv1_record.specs.Accepted.{Accepted}
 use Rattle.ffv1_slice.specs.Grid.{division_of}
-use Rattle.ffv1_codec.specs.Kept.{Kept}
-use Rattle.ffv1_codec.specs.Picture.{AreOf}
+use Rattle.ffv1_frame.specs.Kept.{Kept}
+use Rattle.ffv1_frame.specs.Picture.{AreOf}
 
 -- a sink keeps the lines of pictures of this configuration
 pub record IsKeptFor (a : Accepted) (kept : Kept) : Type 0 where

@@ -3,7 +3,7 @@ use Rattle.std.specs.Prelude.{ℕ, suc, ◌+◌, ◌/◌, ◌%◌, ◌==◌, ◌
 use Rattle.std.specs.Prelude.{List, [], ◌∷◌, ◌++◌, length, drop, codes, decimal}
 use Rattle.md5.specs.Md5.{md5}
 use Rattle.ffv1_range.specs.Counts.{saturated}
-use Rattle.ffv1_codec.specs.Picture.{Planes}
+use Rattle.ffv1_frame.specs.Picture.{Planes}
 use Rattle.ffv1_matroska.specs.Rates.{common_up_to}
 use Rattle.ffv1_y4m.specs.declared.head.VideoHead.{VideoHead}
 use Rattle.ffv1_video.specs.RawPicture.{raw_bytes}

@@ -2,7 +2,7 @@
 use Rattle.std.specs.Prelude.{ℕ, ◌==◌, Bool, true, false, if◌then◌else◌, List, []}
 use Rattle.std.specs.Prelude.{◌∷◌, ◌++◌, length, map, take, drop, flat_map, slice_index}
 use Rattle.std.specs.List.{concat, range_with_len}
-use Rattle.ffv1_codec.specs.Picture.{Planes}
+use Rattle.ffv1_frame.specs.Picture.{Planes}
 use Rattle.std.specs.Prelude.{◌≡◌, ◌⊎◌, ◌<◌}
 use Rattle.std.proofs.Common.{get_or}
 

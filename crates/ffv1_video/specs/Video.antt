@@ -9,7 +9,7 @@ use Rattle.ffv1_y4m.specs.Sequence.{Outcome, Reading}
 use Rattle.ffv1_y4m.specs.Text.{IsText}
 use Rattle.ffv1_y4m.specs.VideoHead.{colour_head}
 use Rattle.ffv1_y4m.specs.declared.head.VideoHead.{VideoHead}
-use Rattle.ffv1_codec.specs.Picture.{Planes}
+use Rattle.ffv1_frame.specs.Picture.{Planes}
 use Rattle.ffv1_reads.specs.Known.{Known}
 
 -- what the header of a text says: a head, and the bits of a sample

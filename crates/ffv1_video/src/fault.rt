@@ -298,30 +298,30 @@ impl From<ffv1_record::RecordFault> for Fault {
     }
 }
 
-impl From<ffv1_codec::CodecFault> for Fault {
+impl From<ffv1_frame::CodecFault> for Fault {
     ghost from_gives = { λ e f. f ≡ of_codec e };
 
-    fn from(e: ffv1_codec::CodecFault) -> Fault {
+    fn from(e: ffv1_frame::CodecFault) -> Fault {
         match e {
-            ffv1_codec::CodecFault::OutOfMemory => Fault::OutOfMemory,
-            ffv1_codec::CodecFault::BadStart => Fault::BadStart,
-            ffv1_codec::CodecFault::SymbolTooLong => Fault::SymbolTooLong,
-            ffv1_codec::CodecFault::Colour => Fault::Colour,
-            ffv1_codec::CodecFault::Overread => Fault::Overread,
-            ffv1_codec::CodecFault::Ending => Fault::Ending,
-            ffv1_codec::CodecFault::NotKey => Fault::NotKey,
-            ffv1_codec::CodecFault::Place => Fault::Place,
-            ffv1_codec::CodecFault::SetIndex => Fault::SetIndex,
-            ffv1_codec::CodecFault::Structure => Fault::Structure,
-            ffv1_codec::CodecFault::Aspect => Fault::Aspect,
-            ffv1_codec::CodecFault::Footer => Fault::Footer,
-            ffv1_codec::CodecFault::Leftover => Fault::Leftover,
-            ffv1_codec::CodecFault::SliceParity => Fault::SliceParity,
-            ffv1_codec::CodecFault::SliceStatus => Fault::SliceStatus,
-            ffv1_codec::CodecFault::Overlap => Fault::Overlap,
-            ffv1_codec::CodecFault::SliceTooLong => Fault::SliceTooLong,
-            ffv1_codec::CodecFault::InfoDiffers => Fault::InfoDiffers,
-            ffv1_codec::CodecFault::Sink => Fault::Sink,
+            ffv1_frame::CodecFault::OutOfMemory => Fault::OutOfMemory,
+            ffv1_frame::CodecFault::BadStart => Fault::BadStart,
+            ffv1_frame::CodecFault::SymbolTooLong => Fault::SymbolTooLong,
+            ffv1_frame::CodecFault::Colour => Fault::Colour,
+            ffv1_frame::CodecFault::Overread => Fault::Overread,
+            ffv1_frame::CodecFault::Ending => Fault::Ending,
+            ffv1_frame::CodecFault::NotKey => Fault::NotKey,
+            ffv1_frame::CodecFault::Place => Fault::Place,
+            ffv1_frame::CodecFault::SetIndex => Fault::SetIndex,
+            ffv1_frame::CodecFault::Structure => Fault::Structure,
+            ffv1_frame::CodecFault::Aspect => Fault::Aspect,
+            ffv1_frame::CodecFault::Footer => Fault::Footer,
+            ffv1_frame::CodecFault::Leftover => Fault::Leftover,
+            ffv1_frame::CodecFault::SliceParity => Fault::SliceParity,
+            ffv1_frame::CodecFault::SliceStatus => Fault::SliceStatus,
+            ffv1_frame::CodecFault::Overlap => Fault::Overlap,
+            ffv1_frame::CodecFault::SliceTooLong => Fault::SliceTooLong,
+            ffv1_frame::CodecFault::InfoDiffers => Fault::InfoDiffers,
+            ffv1_frame::CodecFault::Sink => Fault::Sink,
         }
     }
 }

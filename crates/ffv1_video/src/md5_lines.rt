@@ -2,7 +2,7 @@
 
 ghost use Rattle.std.specs.Prelude.{◌≡◌, ◌++◌, ◌<◌, true, OnOk};
 ghost use Rattle.ffv1_range.specs.Counts.{saturated};
-ghost use Rattle.ffv1_codec.specs.Picture.{planes_of};
+ghost use Rattle.ffv1_frame.specs.Picture.{planes_of};
 ghost use Rattle.ffv1_matroska.specs.Rates.{common_up_to};
 ghost use Rattle.ffv1_video.specs.Md5Text.{aspect_of, field, line_of, md5_head};
 ghost use Rattle.ffv1_video.specs.Md5Text.{md5_line, next_md5};

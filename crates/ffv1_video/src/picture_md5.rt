@@ -4,7 +4,7 @@ ghost use Rattle.std.specs.Prelude.{◌≡◌, ℕ, ◌++◌, [], ◌∷◌, Lis
 ghost use Rattle.std.specs.List.{concat};
 ghost use Rattle.md5.specs.Md5.{md5};
 ghost use Rattle.ffv1_range.specs.Counts.{saturated};
-ghost use Rattle.ffv1_codec.specs.Picture.{planes_of};
+ghost use Rattle.ffv1_frame.specs.Picture.{planes_of};
 ghost use Rattle.ffv1_video.specs.RawPicture.{pixels, raw_bytes};
 ghost use Rattle.ffv1_video.specs.RawPicture.{AreEven};
 ghost use Rattle.ffv1_video.specs.Internal.RawPicture.{IsOf};

@@ -1,7 +1,7 @@
 -- The bytes of these planes after them, plane after plane.
 use Rattle.std.proofs.Common.{ℕ, Vec, ◌++◌, take, ap, ◌∙◌}
 use Rattle.std.specs.List.{concat}
-use Rattle.ffv1_codec.specs.Picture.{planes_of}
+use Rattle.ffv1_frame.specs.Picture.{planes_of}
 use Rattle.ffv1_video.proofs.PixelsHashed.{planes_more}
 use Rattle.ffv1_video.proofs.picture_md5.add_planes.Goals as goal
 

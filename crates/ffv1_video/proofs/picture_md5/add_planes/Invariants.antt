@@ -1,6 +1,6 @@
 use Rattle.std.proofs.Common.{ℕ, ◌++◌, List, take}
 use Rattle.std.specs.List.{concat}
-use Rattle.ffv1_codec.specs.Picture.{planes_of}
+use Rattle.ffv1_frame.specs.Picture.{planes_of}
 use Rattle.ffv1_video.specs.Internal.RawPicture.{IsOf}
 use Rattle.ffv1_video.proofs.picture_md5.add_planes.Given as goal
 

@@ -1,0 +1,9 @@
+pub mod Bits
+pub mod Number
+pub mod States
+pub mod Scalar
+pub mod Kept
+pub mod Run
+pub mod Row
+pub mod Rows
+pub mod Internal

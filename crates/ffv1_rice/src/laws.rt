@@ -1,0 +1,124 @@
+//! Laws of the definitions.
+
+ghost use Rattle.std.specs.Prelude.{◌≡◌, ℕ, ◌+◌, ◌^◌, ◌<◌, ◌≤◌, ◌++◌, ◌⊎◌, List, Bool, length, ℤ};
+ghost use Rattle.std.specs.Prelude.{◌∷◌, None, slice_index};
+ghost use Rattle.ffv1_plane.specs.Residual.{IsFolded};
+ghost use Rattle.ffv1_rice.specs.declared.state.State.{State};
+ghost use Rattle.ffv1_rice.specs.Number.{number_bits, Ends, IsBad};
+ghost use Rattle.ffv1_rice.specs.States.{IsState, parameter};
+ghost use Rattle.ffv1_rice.specs.Scalar.{scalar_bits, scalar_after};
+ghost use Rattle.ffv1_rice.specs.Row.{Coder, Place, row_bits, place_bits, IsRunning};
+ghost use Rattle.ffv1_rice.specs.Row.{AreAlike, AreFolded, places_after};
+ghost use Rattle.ffv1_rice.specs.Rows.{AreSamples, CodesRow, IsRefused, Reading};
+ghost use Rattle.ffv1_rice.specs.Bits.{bits_of, IsPadding};
+ghost use Rattle.ffv1_rice.specs.Run.{run_log};
+ghost use Rattle.ffv1_rice.specs.declared.fault.Fault.{Fault};
+
+/// Bits begin with one number at most.
+pub fn bits_begin_with_one_number()
+    ensures { (bits k m n : ℕ) (rest others : List Bool) → m < 2 ^ bits → n < 2 ^ bits →
+        number_bits bits k m ++ rest ≡ number_bits bits k n ++ others →
+        (m ≡ n) × (rest ≡ others) }
+{}
+
+/// Bits that begin with a number do not end within one and are not refused; and no bits are refused
+/// for both reasons. So a number that is coded is read, and what is read is the number.
+pub fn bits_of_a_number_are_read()
+    ensures whole { (bits k n : ℕ) (text rest : List Bool) → n < 2 ^ bits →
+        text ≡ number_bits bits k n ++ rest → Ends bits k text → ⊥ }
+    ensures good { (bits k n : ℕ) (text rest : List Bool) → n < 2 ^ bits →
+        text ≡ number_bits bits k n ++ rest → IsBad bits k text → ⊥ }
+    ensures one_reason { (bits k : ℕ) (text : List Bool) → Ends bits k text →
+        IsBad bits k text → ⊥ }
+{}
+
+/// A number takes at least one bit, and at most 12 and those of a difference.
+pub fn number_takes_few_bits()
+    ensures some { (bits k n : ℕ) → 1 ≤ length (number_bits bits k n) }
+    ensures most { (bits k n : ℕ) → k ≤ bits → length (number_bits bits k n) ≤ 12 + bits }
+{}
+
+/// Bits begin with one difference at most, by the state of a context.
+pub fn bits_begin_with_one_difference()
+    ensures { (depth : ℕ) (s : State) (d e : ℤ) (rest others : List Bool) → 0 < depth →
+        IsFolded depth d → IsFolded depth e →
+        scalar_bits depth s d ++ rest ≡ scalar_bits depth s e ++ others →
+        (d ≡ e) × (rest ≡ others) }
+{}
+
+/// Bits that begin with a difference are read.
+pub fn bits_of_a_difference_are_read()
+    ensures whole { (depth : ℕ) (s : State) (d : ℤ) (text rest : List Bool) → 0 < depth →
+        text ≡ scalar_bits depth s d ++ rest → Ends depth (parameter s) text → ⊥ }
+    ensures good { (depth : ℕ) (s : State) (d : ℤ) (text rest : List Bool) → 0 < depth →
+        text ≡ scalar_bits depth s d ++ rest → IsBad depth (parameter s) text → ⊥ }
+{}
+
+/// A difference takes at least one bit, and at most 12 and those of its depth; and its state stays
+/// within its bounds.
+pub fn difference_takes_few_bits()
+    ensures some { (depth : ℕ) (s : State) (d : ℤ) → 1 ≤ length (scalar_bits depth s d) }
+    ensures most { (depth : ℕ) (s : State) (d : ℤ) → 0 < depth → IsState depth s →
+        length (scalar_bits depth s d) ≤ 12 + depth }
+    ensures state { (depth : ℕ) (s : State) (d : ℤ) → 3 ≤ depth → depth ≤ 9 → IsState depth s →
+        IsState depth (scalar_after depth s d) }
+{}
+
+/// The coding of a row is unique: bits begin with the coding of one row at most. The contexts of
+/// the two rows are one as long as their differences are.
+pub fn bits_begin_with_one_row()
+    ensures { (depth : ℕ) (c : Coder) (ps qs : List Place) (rest others : List Bool) → 0 < depth →
+        IsRunning c.index c.run → AreAlike ps qs → AreFolded depth ps → AreFolded depth qs →
+        row_bits depth c ps ++ rest ≡ row_bits depth c qs ++ others → (ps ≡ qs) × (rest ≡ others) }
+{}
+
+/// A place takes at most 27 bits and those of a difference, 35 or 36, while the index of the run is
+/// at most 30; and a row at least one.
+pub fn place_takes_few_bits()
+    ensures most { (depth : ℕ) (c : Coder) (p : Place) → 0 < depth → c.index ≤ 30 →
+        IsRunning c.index c.run → IsState depth (c.states p.context) →
+        length (place_bits depth c p) ≤ 27 + depth }
+    ensures some { (depth : ℕ) (c : Coder) (p : Place) (ps : List Place) → IsRunning c.index c.run →
+        1 ≤ length (row_bits depth c (p ∷ ps)) }
+{}
+
+/// The index of the runs stays at most as it is where rows are too short for a run by it: at most
+/// 30 if a row has up to 8192 samples.
+pub fn run_index_stays_small()
+    ensures most { (depth limit : ℕ) (c : Coder) (ps : List Place) → c.run ≡ None →
+        length ps < 2 ^ run_log limit → c.index ≤ limit →
+        (places_after depth c ps).index ≤ limit }
+    ensures thirty { (depth : ℕ) (c : Coder) (ps : List Place) → c.run ≡ None →
+        length ps ≤ 8192 → c.index ≤ 30 → (places_after depth c ps).index ≤ 30 }
+{}
+
+/// What codes something and is filled up by zeros to the end of its byte is one list of bytes.
+pub fn padded_bits_are_of_the_same_bytes()
+    ensures { (code rest others : List Bool) (xs ys : List ℕ) →
+        ((k : ℕ) → slice_index xs k < 256) → ((k : ℕ) → slice_index ys k < 256) →
+        bits_of xs ≡ code ++ rest → bits_of ys ≡ code ++ others → IsPadding rest →
+        IsPadding others → xs ≡ ys }
+{}
+
+/// The bits of two rows of samples below the same rows are one only if the rows are: what is read
+/// is the only row that the bits begin with.
+pub fn bits_begin_with_one_row_of_samples()
+    ensures { (r : Reading) (row other : List ℕ) (rest others : List Bool) →
+        (r.depth ≡ 8) ⊎ (r.depth ≡ 9) → IsRunning r.start.index r.start.run →
+        length row ≡ length other → CodesRow r row rest → CodesRow r other others →
+        (row ≡ other) × (rest ≡ others) }
+{}
+
+/// Bits that begin with a row are not refused, and others are refused at one place and for one
+/// reason. Before that place samples are those that were read.
+pub fn a_row_is_refused_in_one_way()
+    ensures coded { (r : Reading) (row other : List ℕ) (x : ℕ) (fault : Fault)
+        (rest : List Bool) → (r.depth ≡ 8) ⊎ (r.depth ≡ 9) → IsRunning r.start.index r.start.run →
+        length row ≡ length other → x < length row → AreSamples r.depth x row →
+        IsRefused r row x fault → CodesRow r other rest → ⊥ }
+    ensures once { (r : Reading) (row other : List ℕ) (x y : ℕ) (fault reason : Fault) →
+        (r.depth ≡ 8) ⊎ (r.depth ≡ 9) → IsRunning r.start.index r.start.run →
+        length row ≡ length other → x < length row → y < length other →
+        AreSamples r.depth x row → AreSamples r.depth y other → IsRefused r row x fault →
+        IsRefused r other y reason → (x ≡ y) × (fault ≡ reason) }
+{}
