@@ -23,6 +23,7 @@ MATRICES = {0: "gbr", 1: "bt709", 4: "fcc", 5: "bt470bg", 6: "smpte170m", 7: "sm
             13: "chroma-derived-c", 14: "ictcp"}
 RANGES = {1: "limited", 2: "full"}
 SITINGS = {(1, 2): "left", (2, 2): "centre", (1, 1): "topleft"}
+CONTEXTS = {666: "small", 365: "small", 7563: "large", 5063: "large", 16638: "large"}
 FIELDS = {1: "top field first", 2: "bottom field first", 3: "progressive"}
 CHROMAS = {(0, 0): "4:4:4", (1, 0): "4:2:2", (1, 1): "4:2:0", (2, 0): "4:1:1", (2, 2): "4:1:0",
            (0, 1): "4:4:0"}
@@ -62,10 +63,21 @@ def tell_head(head, facts):
     tell_code(facts, "matrix", MATRICES, colour[matroska.MATRIX], 2)
 
 
+def tell_contexts(facts, contexts):
+    """How many contexts each set has, with the name of so many."""
+    names = [CONTEXTS.get(count) for count in contexts]
+    if facts.json:
+        facts.tell("contexts", None, json.dumps(contexts, separators=(",", ":")))
+        facts.tell("context_names", None, json.dumps(names, separators=(",", ":")))
+    else:
+        told = [f"{count} ({name})" if name else str(count) for count, name in zip(contexts, names)]
+        facts.tell("contexts", ", ".join(told), None)
+
+
 def tell_record(config, facts):
     """What the configuration record says."""
     chroma = config.log2_h, config.log2_v
-    contexts = [str(ffv1.contexts_of(runs)) for runs in config.sets]
+    contexts = [ffv1.contexts_of(runs) for runs in config.sets]
     facts.number("bits", config.depth)
     facts.word("colours", "RGB" if config.rct else "YCbCr")
     if not config.chroma:
@@ -77,7 +89,7 @@ def tell_record(config, facts):
     facts.truth("transparency", config.extra)
     facts.pair("slices", config.columns, "x", config.rows)
     facts.word("coder", f"range coder, {'default' if config.coder == 1 else 'custom'} table")
-    facts.tell("contexts", ", ".join(contexts), f"[{','.join(contexts)}]")
+    tell_contexts(facts, contexts)
     facts.truth("parity", config.ec)
     facts.truth("key_frames", config.intra)
 

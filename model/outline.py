@@ -8,7 +8,8 @@ import ebml
 from ffv1 import Fault
 
 MOST = 1 << 20                  # own: how many bytes are looked at
-SEGMENT, INFO, TRACKS, TRACK_ENTRY = b"\x18\x53\x80\x67", 0x1549A966, 0x1654AE6B, 0xAE
+DOC_TYPE, SEGMENT = 0x4282, b"\x18\x53\x80\x67"
+INFO, TRACKS, TRACK_ENTRY = 0x1549A966, 0x1654AE6B, 0xAE
 WRITING_APP, DURATION, TIMESTAMP_SCALE = 0x5741, 0x4489, 0x2AD7B1
 TRACK_TYPE, CODEC_ID, LANGUAGE, LANGUAGE_BCP47 = 0x83, 0x86, 0x22B59C, 0x22B59D
 KINDS = {1: "video", 2: "audio", 17: "subtitles"}
@@ -95,15 +96,38 @@ def text(data):
     return data.split(b"\0")[0]
 
 
+def header_content(data):
+    """The content of the first element, the EBML header, if it can be read."""
+    try:
+        return next((content for _, content in ebml.elements(data)), b"")
+    except Fault:
+        return b""
+
+
+def after_voids(data):
+    """What comes after the Voids that some bytes begin with."""
+    source, end = ebml.in_memory(data), 0
+    try:
+        while end < len(data):
+            ident, size, _ = ebml.known(ebml.get_header(source, len(data) - end))
+            if ident != ebml.VOID:
+                break
+            source.exactly(size, 52)
+            end = source.position
+    except Fault:
+        pass
+    return data[end:]
+
+
 def segment_content(data):
     """What stands behind the ID and the size of the Segment, however long that says it is; the Segment
-    is what comes after the EBML header."""
+    is what comes after the EBML header and Voids."""
     source = ebml.in_memory(data)
     try:
         source.exactly(ebml.known(ebml.get_header(source, len(data)))[1], 52)
     except Fault:
         return b""
-    rest = data[source.position:]
+    rest = after_voids(data[source.position:])
     if rest[:4] != SEGMENT:
         return b""
     return rest[4 + ebml.length_of(rest[4]):] if len(rest) > 4 else b""
@@ -219,7 +243,8 @@ def of_avi(data, facts):
 def outline(data, facts):
     """What the beginning of a file says."""
     if data[:4] == b"\x1a\x45\xdf\xa3":
-        facts.word("container", "Matroska")
+        is_webm = text(child(header_content(data), DOC_TYPE)) == b"webm"
+        facts.word("container", "WebM" if is_webm else "Matroska")
         of_matroska(data, facts)
     elif data[:4] == b"RIFF" and data[8:12] == b"AVI ":
         facts.word("container", "AVI")

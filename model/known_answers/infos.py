@@ -1,7 +1,7 @@
 # SPDX-License-Identifier: MIT OR Apache-2.0
 """What `info` tells of files: sound ones, refused ones, and such as are none."""
 from known_answers.case import FRAME, Case, Step, avi, one
-from known_answers.matroska import C, whole
+from known_answers.matroska import C, H, T, segment, spell
 from known_answers.objects import fault
 
 TRACKS = 'track 1             video, "FFV1", unknown\n'
@@ -19,7 +19,7 @@ chroma              mono
 transparency        no
 slices              1x1
 coder               range coder, default table
-contexts            666
+contexts            666 (small)
 parity              no
 key_frames          yes
 """
@@ -31,8 +31,8 @@ OBJECT = ('"container":"AVI","application":null,"duration":0.120,"frames":3,'
           '"tracks":[{"kind":"video","codec":"FFV1","language":null}],"size":[1,1],"rate":[25,1],'
           '"range":null,"siting":null,"primaries":null,"transfer":null,"matrix":null')
 RECORD_OBJECT = ('"bits":8,"colours":"YCbCr","chroma":"mono","transparency":false,"slices":[1,1],'
-                 '"coder":"range coder, default table","contexts":[666],"parity":false,'
-                 '"key_frames":true')
+                 '"coder":"range coder, default table","contexts":[666],'
+                 '"context_names":["small"],"parity":false,"key_frames":true')
 PICTURE_OBJECT = '"fields":null,"sample_aspect":null,"display_aspect":null'
 
 
@@ -73,4 +73,26 @@ def facts():
         Step(["info", "g"], outline(1) + HEAD, "19 Coder")], given)
 
 
-CASES = [facts]
+MATROSKA = """container           Matroska
+application         unknown
+duration            unknown
+frames              unknown
+"""
+
+
+def voids():
+    """Of a Matroska file, Voids before its Segment are passed, and no other element."""
+    rest = HEAD.replace("25/1", "unknown") + RECORD + PICTURE
+    track = 'track 1             video, "V_FFV1", "eng"\n'
+    begin = {"a": "EC 81 00 EC 80", "b": "EC 4003 010203", "c": "EC 80 BF 80", "d": "EC FF 0000"}
+    given = {name: H + spell(bytes) + segment(T, C) for name, bytes in begin.items()}
+    given["e"] = given["a"].replace(b"matroska", b"webm\0\0\0\0")
+    yield Case("info of Voids", given, [
+        Step(["info", "a"], MATROSKA + track + rest),
+        Step(["info", "b"], MATROSKA + track + rest),
+        Step(["info", "c"], MATROSKA, "80 NotMatroska"),
+        Step(["info", "d"], MATROSKA, "81 BadElement"),
+        Step(["info", "e"], MATROSKA.replace("Matroska", "WebM") + track, "80 NotMatroska")], given)
+
+
+CASES = [facts, voids]

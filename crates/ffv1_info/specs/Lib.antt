@@ -1,4 +1,5 @@
 pub mod Names
+pub mod Contexts
 pub mod StreamFacts
 pub mod StreamInfo
 pub mod Info

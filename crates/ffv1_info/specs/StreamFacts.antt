@@ -1,9 +1,8 @@
 -- The facts of a stream: what its file's head, its record and its first picture say, and how many
 -- frames it has.
 use Rattle.std.specs.Prelude.{ℕ, ◌*◌, ◌/◌, ◌^◌, ◌==◌, ◌&&◌, Bool, true, false, if◌then◌else◌}
-use Rattle.std.specs.Prelude.{List, [], ◌∷◌, ◌++◌, codes, decimal, flat_map, length}
+use Rattle.std.specs.Prelude.{List, [], ◌++◌, codes, length}
 use Rattle.std.specs.Prelude.{Option, Some, None}
-use Rattle.ffv1_plane.specs.Quantisation.{Set, contexts_of}
 use Rattle.ffv1_reads.specs.Head.{Head}
 use Rattle.ffv1_record.specs.Configuration.{Configuration, is_rct}
 use Rattle.ffv1_record.specs.declared.config.Coder.{Coder}
@@ -15,6 +14,7 @@ use Rattle.ffv1_outline.specs.declared.facts.Form.TheVariants as form
 use Rattle.ffv1_outline.specs.Durations.{frames_last, seconds}
 use Rattle.ffv1_outline.specs.Facts.{fact, named_fact, number_fact, pair_fact, truth_fact}
 use Rattle.ffv1_outline.specs.Facts.{unknown_fact, word_fact}
+use Rattle.ffv1_info.specs.Contexts.{contexts_facts}
 use Rattle.ffv1_info.specs.Names.{fields_name, matrix_name, primaries_name, range_name, siting_name}
 use Rattle.ffv1_info.specs.Names.{transfer_name}
 
@@ -87,21 +87,6 @@ abbrev pub coder_name : Coder → List ℕ
 coder_name coder.One = codes "range coder, default table"
 coder_name (coder.Two deltas) = codes "range coder, custom table"
 
--- the contexts of each set, with a sign between them
-abbrev pub contexts_behind : List ℕ → List Set → List ℕ
-contexts_behind sign sets = flat_map (λ set. sign ++ decimal (contexts_of set)) sets
-
-abbrev pub contexts_between : List ℕ → List Set → List ℕ
-contexts_between sign [] = []
-contexts_between sign (set ∷ sets) = decimal (contexts_of set) ++ contexts_behind sign sets
-
-abbrev pub contexts_value : Form → List Set → List ℕ
-contexts_value form.Text sets = contexts_between (codes ", ") sets
-contexts_value form.Json sets = codes "[" ++ contexts_between (codes ",") sets ++ codes "]"
-
-abbrev pub contexts_fact : Form → List Set → List ℕ
-contexts_fact form sets = fact form (codes "contexts") (contexts_value form sets)
-
 unfoldable pub record_facts : Form → Configuration → List ℕ
 record_facts form c =
     number_fact form (codes "bits") c.depth
@@ -110,7 +95,7 @@ record_facts form c =
     ++ truth_fact form (codes "transparency") c.extra_plane
     ++ pair_fact form (codes "slices") c.columns (codes "x") c.rows
     ++ word_fact form (codes "coder") (coder_name c.coder)
-    ++ contexts_fact form c.sets
+    ++ contexts_facts form c.sets
     ++ truth_fact form (codes "parity") c.ec
     ++ truth_fact form (codes "key_frames") c.intra
 

@@ -274,7 +274,7 @@ fn tell_frames<R: ByteIn, W: ByteOut, A: Allocator + Copy>(
 /// transparency        {yes or no}
 /// slices              {columns}x{rows}
 /// coder               {range coder, default table; or range coder, custom table}
-/// contexts            {of each set, with commas between them}
+/// contexts            {of each set, with its name in parentheses if it has one}
 /// parity              {yes or no}
 /// key_frames          {yes or no}
 /// fields              {progressive, top field first or bottom field first}
@@ -289,7 +289,8 @@ fn tell_frames<R: ByteIn, W: ByteOut, A: Allocator + Copy>(
 /// payloads of all frames and decodes no further one. A value that the file does not say is
 /// `unknown`, in JSON `null`; so are the three of the first picture if there is no frame. A number
 /// that has no name is itself; chroma of another size is how many times it is narrower and lower.
-/// In JSON numbers and pairs are numbers and arrays, and truths `true` and `false`. Which stream of
+/// In JSON numbers and pairs are numbers and arrays, and truths `true` and `false`; `contexts` are
+/// numbers, and their names an array `context_names`, `null` if there is none. Which stream of
 /// the file counts, and where its record ends, is by the profile. A count of 64 bits stays at its
 /// greatest value; the duration is to the nearest millisecond, and unknown if the rate is, or if it
 /// has no room in 64 bits.

@@ -7,6 +7,7 @@
 //! so that what was read up to a fault is told.
 #![tactic(auto)]
 
+mod contexts;
 mod informing;
 pub mod laws;
 mod names;

@@ -6,12 +6,12 @@ ghost use Rattle.ffv1_record.specs.Configuration.{is_rct};
 ghost use Rattle.ffv1_reads.specs.Head.{head_of};
 ghost use Rattle.ffv1_matroska.specs.Rates.{common_up_to};
 ghost use Rattle.ffv1_info.specs.StreamFacts.{chroma_fact, chroma_name, code_fact, coder_name};
-ghost use Rattle.ffv1_info.specs.StreamFacts.{colours_name, contexts_behind, contexts_between};
-ghost use Rattle.ffv1_info.specs.StreamFacts.{contexts_fact, contexts_value, counted_facts};
+ghost use Rattle.ffv1_info.specs.StreamFacts.{colours_name, counted_facts};
 ghost use Rattle.ffv1_info.specs.StreamFacts.{display_fact, duration_fact, fields_fact, head_facts};
 ghost use Rattle.ffv1_info.specs.StreamFacts.{picture_facts, range_fact, rate_fact, record_facts};
 ghost use Rattle.ffv1_info.specs.StreamFacts.{sample_fact, siting_fact};
 
+use crate::contexts::push_contexts;
 use crate::names::{
     fields_name, matrix_name, primaries_name, range_name, siting_name, transfer_name,
 };
@@ -22,10 +22,8 @@ use ffv1_outline::facts::{
     closing, push_named, push_number_fact, push_opening, push_pair, push_truth, push_unknown,
     push_word,
 };
-use ffv1_plane::QuantSet;
 use ffv1_reads::FileHead;
 use ffv1_record::{Checked, Coder, Colour as Coding, laws as record_laws};
-use ffv1_video::number_lines::push_number;
 use std::alloc::{AllocError, Allocator};
 
 /// Appends how many frames a second there are.
@@ -182,70 +180,6 @@ fn coder_name(coder: &Coder) -> &'static [u8]
         Coder::One => b"range coder, default table",
         Coder::Two(_) => b"range coder, custom table",
     }
-}
-
-/// Appends how many contexts each set has, with a sign before each.
-fn push_behind<A: Allocator, B: Allocator>(
-    value: &mut Vec<u8, A>,
-    sign: &[u8],
-    sets: &[QuantSet<B>],
-) -> Result<(), AllocError>
-    ensures { OnOk result (value.new.items
-        ≡ value.old.items ++ contexts_behind sign.now sets.now) }
-{
-    for set in sets {
-        push_number(value, sign, u64::from(set.contexts()))?;
-    }
-    Ok(())
-}
-
-/// Appends how many contexts each set has, with a sign between them.
-fn push_between<A: Allocator, B: Allocator>(
-    value: &mut Vec<u8, A>,
-    sign: &[u8],
-    sets: &[QuantSet<B>],
-) -> Result<(), AllocError>
-    ensures { OnOk result (value.new.items
-        ≡ value.old.items ++ contexts_between sign.now sets.now) }
-{
-    if sets.is_empty() {
-        return Ok(());
-    }
-    push_number(value, b"", u64::from(sets[0].contexts()))?;
-    push_behind(value, sign, &sets[1..])
-}
-
-/// Appends how many contexts each set has, as a value.
-fn push_counts<A: Allocator, B: Allocator>(
-    text: &mut Vec<u8, A>,
-    form: Form,
-    sets: &[QuantSet<B>],
-) -> Result<(), AllocError>
-    ensures { OnOk result (text.new.items ≡ text.old.items ++ contexts_value form sets.now) }
-{
-    match form {
-        Form::Text => push_between(text, b", ", sets)?,
-        Form::Json => {
-            text.extend_from_slice(b"[")?;
-            push_between(text, b",", sets)?;
-            text.extend_from_slice(b"]")?;
-        }
-    }
-    Ok(())
-}
-
-/// Appends how many contexts each set has.
-fn push_contexts<A: Allocator, B: Allocator>(
-    text: &mut Vec<u8, A>,
-    form: Form,
-    sets: &[QuantSet<B>],
-) -> Result<(), AllocError>
-    ensures { OnOk result (text.new.items ≡ text.old.items ++ contexts_fact form sets.now) }
-{
-    push_opening(text, form, b"contexts")?;
-    push_counts(text, form, sets)?;
-    text.extend_from_slice(closing(form))?;
-    Ok(())
 }
 
 /// What a record says.

@@ -1,3 +1,4 @@
+pub mod VoidSearch
 pub mod KeptBytes
 pub mod TrackSteps
 pub mod ChunkSearch

@@ -1,6 +1,6 @@
 -- What the beginning of a Matroska file says of it (RFC 9559). What is not found in it, or cannot
 -- be read, is unknown.
-use Rattle.std.specs.Prelude.{ℕ, ◌+◌, ◌==◌, if◌then◌else◌, List, [], ◌∷◌, codes, decimal}
+use Rattle.std.specs.Prelude.{ℕ, zero, suc, ◌+◌, ◌==◌, if◌then◌else◌, List, [], ◌∷◌, codes, decimal}
 use Rattle.std.specs.Prelude.{drop, length, slice_index, take, Option, Some, None, Result, Ok, Err}
 use Rattle.ffv1_avi.specs.Walk.{is_name}
 use Rattle.ffv1_reads.specs.declared.fault.FileFault.{FileFault}
@@ -20,6 +20,15 @@ content_of (Err f) = []
 unfoldable pub child : ℕ → List ℕ → List ℕ
 child ident content = content_of (found ident content)
 
+-- DocType, by the first element, the EBML header (RFC 8794, 11.2.6)
+abbrev pub header_of : Result (Option Part) FileFault → List ℕ
+header_of (Ok (Some p)) = p.content
+header_of (Ok None) = []
+header_of (Err f) = []
+
+unfoldable pub doc_type : List ℕ → List ℕ
+doc_type bytes = text_in (child 0x4282 (header_of (first_part bytes)))
+
 -- the ID of Segment
 abbrev pub segment_ident : List ℕ
 segment_ident = 0x18 ∷ 0x53 ∷ 0x80 ∷ 0x67 ∷ []
@@ -31,9 +40,33 @@ segment_content bytes =
     then drop (4 + length_of (slice_index bytes 4)) bytes
     else []
 
--- the Segment is what comes after the first element, the EBML header (RFC 8794, 11.2)
+-- what comes after the Void that some bytes begin with, by their first element; none if they begin
+-- with no Void (RFC 8794, 11.3.2)
+abbrev pub void_passed : Result (Option Part) FileFault → Option (List ℕ)
+void_passed (Ok (Some p)) = if p.ident == 0xEC then Some p.rest else None
+void_passed (Ok None) = None
+void_passed (Err f) = None
+
+unfoldable pub after_void : List ℕ → Option (List ℕ)
+after_void bytes = void_passed (first_part bytes)
+
+abbrev pub on_or_stay : List ℕ → (List ℕ → List ℕ) → Option (List ℕ) → List ℕ
+on_or_stay bytes on None = bytes
+on_or_stay bytes on (Some rest) = on rest
+
+-- what comes after at most so many Voids
+unfoldable pub after_voids_up_to : ℕ → List ℕ → List ℕ
+after_voids_up_to zero bytes = bytes
+after_voids_up_to (suc most) bytes =
+    on_or_stay bytes (after_voids_up_to most) (after_void bytes)
+
+-- after all, of which each has at least 2 bytes
+abbrev pub after_voids : List ℕ → List ℕ
+after_voids bytes = after_voids_up_to (length bytes) bytes
+
+-- the Segment is what comes after the first element, the EBML header (11.2), and Voids
 abbrev pub segment_after : Result (Option Part) FileFault → List ℕ
-segment_after (Ok (Some p)) = segment_content p.rest
+segment_after (Ok (Some p)) = segment_content (after_voids p.rest)
 segment_after (Ok None) = []
 segment_after (Err f) = []
 

@@ -10,17 +10,18 @@ use Rattle.ffv1_outline.specs.declared.tracks.Layout.TheVariants as layouts
 use Rattle.ffv1_outline.specs.Facts.{fact, unknown_fact, unknown_value, word_value}
 use Rattle.ffv1_outline.specs.Tracks.{Step, entries, tracks_fact, tracks_in}
 use Rattle.ffv1_outline.specs.MatroskaOutline.{application_in, child, info_lasts, matroska_entry}
-use Rattle.ffv1_outline.specs.MatroskaOutline.{matroska_step, segment}
+use Rattle.ffv1_outline.specs.MatroskaOutline.{doc_type, matroska_step, segment}
 use Rattle.ffv1_outline.specs.AviOutline.{avi_entry, avi_step, found_chunk, frames_in, riff}
 use Rattle.ffv1_outline.specs.AviOutline.{software_in, video_header, video_lasts}
 use Rattle.ffv1_outline.specs.Durations.{seconds}
 
 -- what holds the video, by how the file begins: an EBML header (RFC 8794, 11.2), as Matroska has
--- it; RIFF whose own name is AVI; the type of a file at the fifth byte (ISO/IEC 14496-12, 4.3); or
--- the label of a partition pack (SMPTE 377-1)
+-- it, and WebM; RIFF whose own name is AVI; the type of a file at the fifth byte
+-- (ISO/IEC 14496-12, 4.3); or the label of a partition pack (SMPTE 377-1)
 unfoldable pub container_of : List ℕ → Container
 container_of bytes =
-    if is_name (take 4 bytes) (0x1A ∷ 0x45 ∷ 0xDF ∷ 0xA3 ∷ []) then containers.Matroska
+    if is_name (take 4 bytes) (0x1A ∷ 0x45 ∷ 0xDF ∷ 0xA3 ∷ [])
+    then (if is_name (doc_type bytes) (codes "webm") then containers.WebM else containers.Matroska)
     else if is_name (take 4 bytes) (codes "RIFF") && is_name (take 4 (drop 8 bytes)) (codes "AVI ")
     then containers.Avi
     else if is_name (take 4 (drop 4 bytes)) (codes "ftyp") then containers.QuickTime
@@ -33,6 +34,7 @@ container_value form containers.Matroska = word_value form (codes "Matroska")
 container_value form containers.Mxf = word_value form (codes "MXF")
 container_value form containers.QuickTime = word_value form (codes "QuickTime")
 container_value form containers.Unknown = unknown_value form
+container_value form containers.WebM = word_value form (codes "WebM")
 
 -- a step through what lists the tracks, and what a track is written as
 abbrev pub step_in : Layout → List ℕ → Option Step
@@ -72,13 +74,14 @@ avi_facts form riff =
     fact form (codes "application") (software_in form riff)
     ++ streams_facts form (found_chunk (codes "hdrl") riff)
 
--- more is said of Matroska and AVI alone
+-- more is said of Matroska, as which WebM is read, and of AVI alone
 abbrev pub facts_of : Form → Container → List ℕ → List ℕ
 facts_of form containers.Avi bytes = avi_facts form (riff bytes)
 facts_of form containers.Matroska bytes = matroska_facts form (segment bytes)
 facts_of form containers.Mxf bytes = []
 facts_of form containers.QuickTime bytes = []
 facts_of form containers.Unknown bytes = []
+facts_of form containers.WebM bytes = matroska_facts form (segment bytes)
 
 -- the container, and those
 abbrev pub outline_facts : Form → List ℕ → List ℕ

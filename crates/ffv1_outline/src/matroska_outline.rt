@@ -3,10 +3,11 @@
 ghost use Rattle.std.specs.Prelude.{◌≡◌, ◌≤◌, ◌++◌, ◌<◌, IfSome, OnOk, length};
 ghost use Rattle.ffv1_ebml.specs.Contents.{number_in, text_in};
 ghost use Rattle.ffv1_ebml.specs.Vints.{length_of};
-ghost use Rattle.ffv1_outline.specs.MatroskaOutline.{application_in, child, info_lasts, kind_of};
+ghost use Rattle.ffv1_outline.specs.MatroskaOutline.{after_void, after_voids, application_in};
+ghost use Rattle.ffv1_outline.specs.MatroskaOutline.{child, doc_type, info_lasts, kind_of};
 ghost use Rattle.ffv1_outline.specs.MatroskaOutline.{language_of, matroska_entry, matroska_step};
 ghost use Rattle.ffv1_outline.specs.MatroskaOutline.{segment, segment_content, type_value};
-ghost use Rattle.ffv1_outline.specs.Steps.{steps};
+ghost use Rattle.ffv1_outline.specs.Steps.{slices, steps};
 
 use crate::durations::duration_of;
 use crate::facts::{Form, push_known_string, push_quoted, push_word_value, unknown_value};
@@ -16,8 +17,14 @@ use ffv1_ebml::{find, first_child, laws, number, text as text_of};
 use ffv1_video::number_lines::push_number;
 use std::alloc::{AllocError, Allocator};
 
+/// The ID of DocType.
+const DOC_TYPE: u32 = 0x4282;
+
 /// The ID of Segment.
 const SEGMENT: &[u8; 4] = b"\x18\x53\x80\x67";
+
+/// The ID of Void.
+const VOID: u32 = 0xEC;
 
 /// The ID of Info.
 pub(crate) const INFO: u32 = 0x1549A966;
@@ -71,6 +78,18 @@ fn length_of(first: u8) -> usize
     first.leading_zeros() as usize + 1
 }
 
+/// The DocType of the EBML header, or no bytes if it is not found.
+#[tactic(auto, unfolding(crate::specs::MatroskaOutline::doc_type))]
+pub(crate) fn doc_type(bytes: &[u8]) -> &[u8]
+    ensures { result.now ≡ doc_type bytes.now }
+{
+    match first_child(bytes) {
+        Ok(Some(header)) => text_of(child(header.content, DOC_TYPE)),
+        Ok(None) => text_of(child(b"", DOC_TYPE)),
+        Err(_) => text_of(child(b"", DOC_TYPE)),
+    }
+}
+
 /// The content of a Segment: what comes after its ID and its size. No bytes if it is none.
 #[tactic(auto, unfolding(crate::specs::MatroskaOutline::segment_content))]
 fn segment_content(bytes: &[u8]) -> &[u8]
@@ -86,13 +105,44 @@ fn segment_content(bytes: &[u8]) -> &[u8]
     }
 }
 
-/// The content of the Segment that comes after the EBML header, as far as there are bytes.
+/// What comes after the Void element that some bytes begin with, or None if they begin with none.
+#[tactic(auto, unfolding(crate::specs::MatroskaOutline::after_void))]
+fn after_void(bytes: &[u8]) -> Option<&[u8]>
+    ensures value { slices result ≡ after_void bytes.now }
+    ensures less { IfSome result (λ rest. length rest.now < length bytes.now) }
+{
+    match first_child(bytes) {
+        Ok(Some(child)) => {
+            if child.ident == VOID {
+                Some(child.rest)
+            } else {
+                None
+            }
+        }
+        Ok(None) => None,
+        Err(_) => None,
+    }
+}
+
+/// What comes after the Void elements that some bytes begin with.
+fn after_voids(bytes: &[u8]) -> &[u8]
+    ensures { result.now ≡ after_voids bytes.now }
+{
+    let mut rest = bytes;
+    while let Some(after) = after_void(rest) {
+        rest = after;
+    }
+    rest
+}
+
+/// The content of the Segment that comes after the EBML header and Voids, as far as there are
+/// bytes.
 #[tactic(auto, unfolding(crate::specs::MatroskaOutline::segment))]
 pub(crate) fn segment(bytes: &[u8]) -> &[u8]
     ensures { result.now ≡ segment bytes.now }
 {
     match first_child(bytes) {
-        Ok(Some(header)) => segment_content(header.rest),
+        Ok(Some(header)) => segment_content(after_voids(header.rest)),
         Ok(None) => b"",
         Err(_) => b"",
     }

@@ -10,7 +10,9 @@ ghost use Rattle.ffv1_outline.specs.Outline.{streams_facts, video_facts};
 use crate::avi_outline::{found_chunk, push_frames, push_software, video_header, video_lasts};
 use crate::durations::push_seconds;
 use crate::facts::{Form, closing, push_opening, push_unknown, push_word_value, unknown_value};
-use crate::matroska_outline::{INFO, TRACKS, child, info_lasts, push_application, segment};
+use crate::matroska_outline::{
+    INFO, TRACKS, child, doc_type, info_lasts, push_application, segment,
+};
 use crate::parts::{after, before, is_name};
 use crate::tracks::{Layout, push_tracks};
 use std::alloc::{AllocError, Allocator};
@@ -23,6 +25,7 @@ pub(crate) enum Container {
     Mxf,
     QuickTime,
     Unknown,
+    WebM,
 }
 
 /// What holds the video, by how the file begins.
@@ -32,7 +35,11 @@ fn container_of(bytes: &[u8]) -> Container
 {
     let first = before(bytes, 4);
     if is_name(first, b"\x1A\x45\xDF\xA3") {
-        Container::Matroska
+        if is_name(doc_type(bytes), b"webm") {
+            Container::WebM
+        } else {
+            Container::Matroska
+        }
     } else if is_name(first, b"RIFF") && is_name(before(after(bytes, 8), 4), b"AVI ") {
         Container::Avi
     } else if is_name(before(after(bytes, 4), 4), b"ftyp") {
@@ -58,6 +65,7 @@ fn push_container<A: Allocator>(
         Container::Mxf => push_word_value(text, form, b"MXF"),
         Container::QuickTime => push_word_value(text, form, b"QuickTime"),
         Container::Unknown => text.extend_from_slice(unknown_value(form)),
+        Container::WebM => push_word_value(text, form, b"WebM"),
     }
 }
 
@@ -169,6 +177,7 @@ fn push_facts<A: Allocator + Copy>(
         Container::Mxf => Ok(()),
         Container::QuickTime => Ok(()),
         Container::Unknown => Ok(()),
+        Container::WebM => push_matroska(text, form, segment(bytes)),
     }
 }
 

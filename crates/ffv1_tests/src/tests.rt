@@ -27,6 +27,7 @@ mod ranges;
 mod rct;
 mod record;
 mod refusals;
+mod rice;
 mod shows;
 mod slice;
 mod strangers;

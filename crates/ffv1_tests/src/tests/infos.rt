@@ -28,7 +28,7 @@ static HEAD: &[u8] = b"size                1x1\nrate                25/1\n\
 
 static RECORD: &[u8] = b"bits                8\ncolours             YCbCr\n\
         chroma              mono\ntransparency        no\nslices              1x1\n\
-        coder               range coder, default table\ncontexts            666\n\
+        coder               range coder, default table\ncontexts            666 (small)\n\
         parity              no\nkey_frames          yes\n";
 
 static PICTURE: &[u8] = b"fields              unknown\nsample_aspect       unknown\n\
@@ -42,7 +42,8 @@ static OBJECT: &[u8] = b",\"container\":\"AVI\",\"application\":null,\
         \"size\":[1,1],\"rate\":[25,1],\"range\":null,\"siting\":null,\"primaries\":null,\
         \"transfer\":null,\"matrix\":null,\"bits\":8,\"colours\":\"YCbCr\",\"chroma\":\"mono\",\
         \"transparency\":false,\"slices\":[1,1],\"coder\":\"range coder, default table\",\
-        \"contexts\":[666],\"parity\":false,\"key_frames\":true,\"fields\":null,\
+        \"contexts\":[666],\"context_names\":[\"small\"],\"parity\":false,\
+        \"key_frames\":true,\"fields\":null,\
         \"sample_aspect\":null,\"display_aspect\":null";
 
 /// A frame of a mono picture of 1 by 1.
@@ -105,4 +106,21 @@ fn facts_before_a_fault(rt: HostRuntime) -> Result<(), Fail> {
     let none: &[u8] = b"container           unknown\n";
     tells(&rt, alloc, b"RIFX", text, Err(Fault::Truncated), &[none]);
     Ok(())
+}
+
+/// Of Matroska and WebM, each with a Void before its Segment.
+#[test]
+fn facts_of_other_tracks(rt: HostRuntime) {
+    let alloc = rt.alloc();
+    let text = (Form::Text, false);
+    let sound: &[u8] = b"\x1A\x45\xDF\xA3\x8B\x42\x82\x88matroska\xEC\x82\0\0\x18\x53\x80\x67\x8A\
+        \x16\x54\xAE\x6B\x85\xAE\x83\x83\x81\x02";
+    let facts: &[u8] = b"container           Matroska\napplication         unknown\n\
+        duration            unknown\nframes              unknown\n\
+        track 1             audio, unknown, \"eng\"\n";
+    tells(&rt, alloc, sound, text, Err(Fault::NoFfv1), &[facts]);
+    let webm: &[u8] = b"\x1A\x45\xDF\xA3\x87\x42\x82\x84webm\xEC\x80\x18\x53\x80\x67\x80";
+    let facts: &[u8] = b"container           WebM\napplication         unknown\n\
+        duration            unknown\nframes              unknown\n";
+    tells(&rt, alloc, webm, text, Err(Fault::NotMatroska), &[facts]);
 }
