@@ -1,5 +1,5 @@
 -- What comes of a file that is compared with a list of MD5s, by what opens files.
-use Rattle.std.specs.Prelude.{◌≡◌, ◌⊎◌, ℕ, List, Option, Err, MatchResult}
+use Rattle.std.specs.Prelude.{◌≡◌, ◌⊎◌, ℕ, List, Option, Ok, Err, MatchResult, length}
 use Rattle.ffv1_wire.specs.Passage.{Passage, passage}
 use Rattle.ffv1_unpack.specs.Compared.{Agrees, ComparingStops}
 use Rattle.ffv1_unpack.specs.Md5List.{IsListed, ListStops}
@@ -10,11 +10,13 @@ use Rattle.ffv1_unpack.specs.declared.md5_list.ListFault.TheVariants as list_fau
 use Rattle.ffv1_video.specs.declared.fault.Fault.{Fault}
 use Rattle.ffv1_video.specs.declared.fault.Fault.TheVariants as fault
 use Rattle.ffv1_video.specs.declared.profile.Profile.TheVariants as profile
-use Rattle.ffv1.specs.Looked.{Outcome}
-use Rattle.ffv1.specs.Made.{IsUntold}
+use Rattle.ffv1_orders.specs.Looked.{Outcome}
+use Rattle.ffv1_orders.specs.Telling.{IsUntold}
 use Rattle.ffv1.specs.Opened.{OfFile, unread}
-use Rattle.ffv1.specs.declared.refusal.Refusal.{Refusal}
-use Rattle.ffv1.specs.declared.refusal.Refusal.TheVariants as refusal
+use Rattle.ffv1_orders.specs.declared.comparing.Comparing.{Comparing}
+use Rattle.ffv1_orders.specs.declared.refusal.Refusal.{Refusal}
+use Rattle.ffv1_orders.specs.declared.refusal.Refusal.TheVariants as refusal
+use Rattle.ffv1_orders.specs.declared.telling.Telling.{Telling}
 
 -- the refusal of a list
 abbrev pub list_refusal : ListFault → Refusal
@@ -31,6 +33,11 @@ unlike_refusal (unlike.Differs frame) = refusal.Differs frame
 abbrev pub Compares : List ℕ → Passage → Outcome → Type 0
 Compares md5s input outcome = MatchResult outcome (λ _. Agrees profile.Wide md5s input)
     (λ r. (u : Unlike) × ComparingStops profile.Wide md5s input u × (r ≡ unlike_refusal u))
+
+-- what prints what came of comparing a file with a list: the bytes of the path, in which way, of
+-- how many MD5s the list is, what came of comparing, and of printing
+abbrev pub Comparisons : Type 1
+Comparisons = List ℕ → Telling → ℕ → Outcome → Outcome → Type 0
 
 -- by which readers are of the list that was opened, why it could not be, and what they give
 module _ {L : Type 0} (lists : L → Type 0) (lacks : Fault → Type 0)
@@ -50,15 +57,21 @@ module _ {L : Type 0} (lists : L → Type 0) (lacks : Fault → Type 0)
   -- and so is the file
   module _ {R : Type 0} (opens : R → Type 0) (misses : Type 0) (bytes : R → Option (List ℕ))
       (failures : R → ℕ) where
-    -- the file is compared with the MD5s of the list, if that is read
-    abbrev pub ComparesIn : Outcome → Type 0
-    ComparesIn outcome =
+    -- the file is compared with the MD5s of the list, if that is read: the path of the one that
+    -- this is about, and how many MD5s there are
+    abbrev pub ComparesIn : Comparing → List ℕ → ℕ → Outcome → Type 0
+    ComparesIn comparing path frames outcome =
         ((md5s : List ℕ) × ListsIn md5s
         × OfFile opens misses bytes failures (λ first last.
-        Compares md5s (passage bytes failures first last) outcome) (outcome ≡ unread))
-        ⊎ ((r : Refusal) × UnlistedIn r × (outcome ≡ Err r))
+        Compares md5s (passage bytes failures first last) outcome) (outcome ≡ unread)
+        × (path ≡ comparing.input.now) × (frames ≡ length md5s))
+        ⊎ ((r : Refusal) × UnlistedIn r × (outcome ≡ Err r)
+        × (path ≡ comparing.list.now) × (frames ≡ 0))
 
-    -- and that is what comes of it, unless it is not told
-    abbrev pub TellsIn : Outcome → Type 0
-    TellsIn outcome = (done : Outcome) × ComparesIn done
-        × ((outcome ≡ done) ⊎ ((r : Refusal) × IsUntold r × (outcome ≡ Err r)))
+    -- what comes of comparing is printed, and comes of the order; or why it is not printed does
+    abbrev pub TellsIn : Comparisons → Comparing → Outcome → Type 0
+    TellsIn tells comparing outcome =
+        (path : List ℕ) × (frames : ℕ) × (done : Outcome) × ComparesIn comparing path frames done
+        × ((tells path comparing.told frames done (Ok tt) × (outcome ≡ done))
+        ⊎ ((r : Refusal) × tells path comparing.told frames done (Err r) × IsUntold r
+        × (outcome ≡ Err r)))

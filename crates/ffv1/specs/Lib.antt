@@ -1,9 +1,5 @@
-pub mod Looked
-pub mod Statuses
-pub mod Orders
 pub mod Streams
 pub mod Opened
-pub mod Output
 pub mod Infos
 pub mod Made
 pub mod Against

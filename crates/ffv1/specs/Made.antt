@@ -1,20 +1,20 @@
 -- What comes of a file that is made of another one, by what opens and makes files.
 use Rattle.std.specs.Prelude.{◌≡◌, ◌⊎◌, ℕ, Bool, true, false, List, Option, Result, Ok, Err}
-use Rattle.std.specs.Prelude.{IfErr, MatchResult}
+use Rattle.std.specs.Prelude.{IfErr, IfOk, MatchResult}
 use Rattle.ffv1_wire.specs.Passage.{Passage, passage}
+use Rattle.ffv1_wire.specs.Seeks.{Overwriting}
 use Rattle.ffv1_words.specs.declared.order.Choice.{Choice}
 use Rattle.ffv1_words.specs.declared.order.FrameRange.{FrameRange}
 use Rattle.ffv1_pack.specs.Pack.{Packs, RefusesPack}
-use Rattle.ffv1_pack.specs.PackMatroska.{PacksMatroska, RefusesMatroska}
+use Rattle.ffv1_pack.specs.PackMatroska.{AsksMatroska, PacksMatroska, RefusesMatroska}
 use Rattle.ffv1_pack.specs.declared.matroska_packing.PackedMatroska.{PackedMatroska}
 use Rattle.ffv1_pack.specs.declared.packing.Packed.{Packed}
 use Rattle.ffv1_unpack.specs.Unpack.{UnpackRangeDone, UnpackRangeStops}
-use Rattle.ffv1_video.specs.declared.fault.Fault.TheVariants as fault
 use Rattle.ffv1_video.specs.declared.profile.Profile.TheVariants as profile
-use Rattle.ffv1.specs.Looked.{Outcome, unprinted}
-use Rattle.ffv1.specs.Statuses.{IsFault}
-use Rattle.ffv1.specs.declared.refusal.Refusal.{Refusal}
-use Rattle.ffv1.specs.declared.refusal.Refusal.TheVariants as refusal
+use Rattle.ffv1_orders.specs.Looked.{Outcome}
+use Rattle.ffv1_orders.specs.Statuses.{IsFault}
+use Rattle.ffv1_orders.specs.Telling.{IsUntold}
+use Rattle.ffv1_orders.specs.declared.refusal.Refusal.{Refusal}
 use Rattle.ffv1.specs.declared.streams.Counts.{Counts}
 
 -- the counts of a file that was packed
@@ -43,15 +43,28 @@ PacksInto false choice input output answer = MatchResult answer
     × (counts ≡ avi_counts packed))
     (IsFault (RefusesPack profile.Wide choice input output))
 
+-- by the bytes that a writer holds and its writes that failed, and what it is to write over it
+module _ {W : Type 0} (contents : W → Option (List ℕ)) (failures : W → ℕ)
+    (overwrites : Overwriting W) where
+  -- a video was packed into Matroska. Once the writer had the file whose Segment is open, it was
+  -- asked to be written over: if it answered that it was, the file is finished, else it stays open
+  abbrev pub PacksAsked : Choice → Passage → W → W → PackedMatroska → Type 0
+  PacksAsked choice input begin end packed =
+      (packs : PacksMatroska profile.Wide choice input (passage contents failures begin end) packed)
+      × AsksMatroska contents overwrites begin end choice packs.video packs.accepted packed.finished
+
+  -- so a video is packed into Matroska; AVI is not written over
+  abbrev pub AsksInto : Bool → Choice → Passage → W → W → Result Counts Refusal → Type 0
+  AsksInto true choice input begin end answer = IfOk answer (λ counts.
+      (packed : PackedMatroska) × PacksAsked choice input begin end packed
+      × (counts ≡ matroska_counts packed))
+  AsksInto false choice input begin end answer = Unit {0}
+
 -- frames of a file are unpacked into a text
 abbrev pub UnpacksInto : FrameRange → Passage → Passage → Result ℕ Refusal → Type 0
 UnpacksInto range input output answer = MatchResult answer
     (UnpackRangeDone profile.Wide range input output)
     (IsFault (UnpackRangeStops profile.Wide range input output))
-
--- a line cannot be printed, or memory of it is refused
-abbrev pub IsUntold : Refusal → Type 0
-IsUntold r = (r ≡ unprinted) ⊎ (r ≡ refusal.Fault fault.OutOfMemory)
 
 -- what was answered comes of it, unless a success is not told
 abbrev pub ToldOf : {A : Type 0} → Result A Refusal → Outcome → Type 0
@@ -63,18 +76,23 @@ ToldOf (Err r) outcome = outcome ≡ Err r
 module _ {R W : Type 0} (opens : R → Type 0) (makes : W → Type 0) (refuses : Refusal → Type 0)
     (bytes : R → Option (List ℕ)) (reads_failed : R → ℕ) (contents : W → Option (List ℕ))
     (writes_failed : W → ℕ) where
-  -- both were opened, and of what was read of the one and written of the other this is said; or
-  -- they could not be opened, and that is what comes of it
-  abbrev pub OfFiles : (Passage → Passage → Type 0) → Outcome → Type 0
+  -- both were opened, and of what was read of the one, and of the writer of the other, as it was
+  -- made and as it was left, this is said; or they could not be opened, and that is what comes of
+  -- it
+  abbrev pub OfFiles : (Passage → W → W → Type 0) → Outcome → Type 0
   OfFiles Says outcome =
       ((first : R) × (last : R) × (begin : W) × (end : W) × opens first × makes begin
-      × Says (passage bytes reads_failed first last) (passage contents writes_failed begin end))
+      × Says (passage bytes reads_failed first last) begin end)
       ⊎ ((r : Refusal) × refuses r × (outcome ≡ Err r))
 
-  abbrev pub PacksIn : Bool → Choice → Outcome → Type 0
-  PacksIn is_matroska choice outcome = OfFiles (λ input output. (answer : Result Counts Refusal)
-      × PacksInto is_matroska choice input output answer × ToldOf answer outcome) outcome
+  abbrev pub PacksIn : Overwriting W → Bool → Choice → Outcome → Type 0
+  PacksIn overwrites is_matroska choice outcome = OfFiles (λ input begin end.
+      (answer : Result Counts Refusal)
+      × PacksInto is_matroska choice input (passage contents writes_failed begin end) answer
+      × AsksInto contents writes_failed overwrites is_matroska choice input begin end answer
+      × ToldOf answer outcome) outcome
 
   abbrev pub UnpacksIn : FrameRange → Outcome → Type 0
-  UnpacksIn range outcome = OfFiles (λ input output. (answer : Result ℕ Refusal)
-      × UnpacksInto range input output answer × ToldOf answer outcome) outcome
+  UnpacksIn range outcome = OfFiles (λ input begin end. (answer : Result ℕ Refusal)
+      × UnpacksInto range input (passage contents writes_failed begin end) answer
+      × ToldOf answer outcome) outcome

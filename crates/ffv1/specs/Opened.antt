@@ -1,5 +1,6 @@
 -- What comes of a look at the file of a path, by what opens files.
-use Rattle.std.specs.Prelude.{◌≡◌, ◌⊎◌, ◌||◌, ℕ, Bool, true, not, List, Option, Some, None}
+use Rattle.std.specs.Prelude.{◌≡◌, ◌⊎◌, ◌||◌, ℕ, Bool, true, false, not, List, Option}
+use Rattle.std.specs.Prelude.{Some, None}
 use Rattle.std.specs.Prelude.{Result, Ok, Err, option_to_list}
 use Rattle.std.specs.Io.KnownBytes.{prepend_known}
 use Rattle.ffv1_wire.specs.Failures.{one_more}
@@ -9,17 +10,18 @@ use Rattle.ffv1_words.specs.declared.order.FrameRange.{FrameRange}
 use Rattle.ffv1_video.specs.declared.fault.Fault.{Fault}
 use Rattle.ffv1_video.specs.declared.fault.Fault.TheVariants as fault
 use Rattle.ffv1.specs.Infos.{form_of}
-use Rattle.ffv1.specs.Looked.{Outcome, unprinted}
-use Rattle.ffv1.specs.Orders.{is_of_frames}
+use Rattle.ffv1_orders.specs.Looked.{Outcome}
+use Rattle.ffv1_orders.specs.Orders.{is_of_frames}
+use Rattle.ffv1_orders.specs.Telling.{Untold}
 use Rattle.ffv1.specs.Streams.{Checks, Informs, PrintsMd5s, Shows, Tries}
-use Rattle.ffv1.specs.declared.checking.Checking.{Checking}
-use Rattle.ffv1.specs.declared.infos.Informing.{Informing}
-use Rattle.ffv1.specs.declared.input.Again.{Again}
-use Rattle.ffv1.specs.declared.orders.Looking.{Looking}
-use Rattle.ffv1.specs.declared.orders.Looking.TheVariants as looking
-use Rattle.ffv1.specs.declared.refusal.Refusal.TheVariants as refusal
-use Rattle.ffv1.specs.declared.telling.Telling.{Telling}
-use Rattle.ffv1.specs.declared.telling.Telling.TheVariants as telling
+use Rattle.ffv1_orders.specs.declared.checking.Checking.{Checking}
+use Rattle.ffv1_orders.specs.declared.informing.Informing.{Informing}
+use Rattle.ffv1_orders.specs.declared.input.Again.{Again}
+use Rattle.ffv1_orders.specs.declared.orders.Looking.{Looking}
+use Rattle.ffv1_orders.specs.declared.orders.Looking.TheVariants as looking
+use Rattle.ffv1_orders.specs.declared.refusal.Refusal.TheVariants as refusal
+use Rattle.ffv1_orders.specs.declared.telling.Telling.{Telling}
+use Rattle.ffv1_orders.specs.declared.telling.Telling.TheVariants as telling
 
 -- the outcome if a file cannot be opened or read
 abbrev pub unread : Outcome
@@ -32,12 +34,14 @@ judged (Ok None) = Ok tt
 judged (Ok (Some f)) = Err (refusal.Fault f)
 judged (Err f) = Err (refusal.Fault f)
 
--- one line of a file could not be printed, or memory of it was refused
-abbrev pub Untold : Telling → Outcome → Type 0
-Untold telling.Frames outcome = ⊥
-Untold telling.Line outcome = outcome ≡ Err unprinted
-Untold telling.Object outcome =
-    (outcome ≡ Err unprinted) ⊎ (outcome ≡ Err (refusal.Fault fault.OutOfMemory))
+-- that is printed of what was done, which then comes of it; or it is not, and the outcome is why
+abbrev pub IfTold : (Outcome → Type 0) → Telling → Outcome → Outcome → Type 0
+IfTold prints how done outcome =
+    (prints (Ok tt) × (outcome ≡ done)) ⊎ (prints outcome × Untold how outcome)
+
+-- what prints what a check answered, in which way, and what came of printing it
+abbrev pub Verdicts : Type 1
+Verdicts = Telling → Result (Option Fault) Fault → Outcome → Type 0
 
 -- the bytes of a reader of which the first one is given once more
 abbrev pub again : {R : Type 0} → (R → Option (List ℕ)) → Again R → Option (List ℕ)
@@ -58,14 +62,17 @@ module _ {R : Type 0} (opens : R → Type 0) (misses : Type 0) (bytes : R → Op
       OfFile (λ first last. Checks all place range (passage bytes failures first last) output
       answer) (answer ≡ Err fault.Read)
 
-  -- and that is what comes of it, unless its one line is not printed
-  pub record ChecksIn (checking : Checking) (outcome : Outcome) : Type 0 where
+  -- and what that answered is what comes of it; one line of the file says this answer, and if it is
+  -- not printed, that is what comes of it
+  pub record ChecksIn (tells : Verdicts) (checking : Checking) (outcome : Outcome) : Type 0 where
     pub answer : Result (Option Fault) Fault
     pub output : Passage
     pub place : Bool
     pub says_place : place ≡ (not (is_of_frames checking.told) || checking.place)
     pub checks : ChecksFile checking.all place checking.range output answer
-    pub told : (outcome ≡ judged answer) ⊎ Untold checking.told outcome
+    pub by_frames : is_of_frames checking.told ≡ true → outcome ≡ judged answer
+    pub by_line : is_of_frames checking.told ≡ false →
+        IfTold (tells checking.told answer) checking.told (judged answer) outcome
 
   -- it is shown
   abbrev pub ShowsIn : Bool → Outcome → Type 0
@@ -82,10 +89,19 @@ module _ {R : Type 0} (opens : R → Type 0) (misses : Type 0) (bytes : R → Op
       × Informs (form_of how.json) how.count (bytes first) output outcome)
       ⊎ (misses × (outcome ≡ unread)))
 
-  -- that is what comes of it, unless what stands around an object of JSON is not printed
-  abbrev pub InformsIn : Informing → Outcome → Type 0
-  InformsIn how outcome =
-      FactsIn how outcome ⊎ ((how.json ≡ true) × Untold telling.Object outcome)
+  -- they stand in an object of JSON, whose end says what came of them, unless it is not printed
+  abbrev pub ObjectIn : (Outcome → Type 0) → (Outcome → Outcome → Type 0) → Informing → Outcome →
+      Type 0
+  ObjectIn begins ends how outcome =
+      (begins outcome × Untold telling.Object outcome)
+      ⊎ ((done : Outcome) × begins (Ok tt) × FactsIn how done
+      × IfTold (ends done) telling.Object done outcome)
+
+  -- they are lines, or an object
+  pub record InformsIn (begins : Outcome → Type 0) (ends : Outcome → Outcome → Type 0)
+      (how : Informing) (outcome : Outcome) : Type 0 where
+    pub lines : how.json ≡ false → FactsIn how outcome
+    pub object : how.json ≡ true → ObjectIn begins ends how outcome
 
   -- its first picture is coded and decoded again
   abbrev pub TriesIn : Outcome → Type 0
@@ -113,10 +129,12 @@ module _ {R : Type 0} (opens : R → Type 0) (misses : Type 0) (bytes : R → Op
       OfFile (λ start last. PrintsFrom range start outcome
       ⊎ ((failures last ≡ one_more (failures start)) × (outcome ≡ unread))) (outcome ≡ unread)
 
-  -- it is looked at in this way
-  abbrev pub LooksIn : Looking → Outcome → Type 0
-  LooksIn (looking.Check checking) outcome = ChecksIn checking outcome
-  LooksIn (looking.Show cost) outcome = ShowsIn cost outcome
-  LooksIn (looking.Info how) outcome = InformsIn how outcome
-  LooksIn (looking.FrameMd5 range) outcome = PrintsIn range outcome
-  LooksIn looking.Trial outcome = TriesIn outcome
+  -- it is looked at in this way, and told by what prints a verdict, and an object's beginning and
+  -- end
+  abbrev pub LooksIn : Verdicts → (Outcome → Type 0) → (Outcome → Outcome → Type 0) → Looking →
+      Outcome → Type 0
+  LooksIn tells begins ends (looking.Check checking) outcome = ChecksIn tells checking outcome
+  LooksIn tells begins ends (looking.Show cost) outcome = ShowsIn cost outcome
+  LooksIn tells begins ends (looking.Info how) outcome = InformsIn begins ends how outcome
+  LooksIn tells begins ends (looking.FrameMd5 range) outcome = PrintsIn range outcome
+  LooksIn tells begins ends looking.Trial outcome = TriesIn outcome

@@ -15,8 +15,8 @@ use Rattle.ffv1_unpack.specs.Show.{ShowDone, ShowStops}
 use Rattle.ffv1_video.specs.Profiles.{greatest_depth}
 use Rattle.ffv1_video.specs.declared.fault.Fault.{Fault}
 use Rattle.ffv1_video.specs.declared.profile.Profile.TheVariants as profile
-use Rattle.ffv1.specs.Looked.{Outcome}
-use Rattle.ffv1.specs.Statuses.{IsFault}
+use Rattle.ffv1_orders.specs.Looked.{Outcome}
+use Rattle.ffv1_orders.specs.Statuses.{IsFault}
 
 -- all frames, also those after one that is refused, and the answer is the first fault; if none is
 -- left out, also what comes after a fault of the file itself

@@ -3,34 +3,14 @@
 ghost use Rattle.std.specs.Prelude.{◌≡◌, IfErr, IfOk};
 ghost use Rattle.ffv1.specs.Against.{ComparesIn, Compares, ListsIn, TellsIn, UnlistedIn};
 ghost use Rattle.ffv1.specs.Against.{list_refusal, unlike_refusal};
-ghost use Rattle.ffv1.specs.Made.{IsUntold};
 ghost use Rattle.ffv1.specs.Opened.{OfFile, unread};
-ghost use Rattle.ffv1.specs.Statuses.{IsComparingRefusal};
+ghost use Rattle.ffv1_orders.specs.Statuses.{IsComparingRefusal};
 ghost use Rattle.ffv1_wire.specs.Passage.{passage};
 
 use crate::BySystem;
-use crate::input::Opens;
-use crate::refusal::Refusal;
-use crate::telling::Telling;
-use crate::told::Paths;
-use crate::verdict::tell_compared;
 use ffv1_engine::{Fault, ListFault, Profile, Unlike, check_against, read_list};
-use ffv1_words::is_hyphen;
+use ffv1_orders::{Comparing, Opens, Paths, Refusal, Tells};
 use std::alloc::Global;
-use std::io;
-
-/// What is compared, and how that is said.
-#[derive(Clone, Copy)]
-pub struct Comparing<'a> {
-    /// The path of the file.
-    pub input: &'a str,
-    /// The path of the list.
-    pub list: &'a str,
-    /// What it prints of the file.
-    pub told: Telling,
-    /// Whether it says how much of the file is read.
-    pub progress: bool,
-}
 
 /// Why an order is not done whose list is refused.
 fn list_refusal(fault: ListFault) -> Refusal
@@ -90,51 +70,8 @@ fn compare<O: Opens>(
     }
 }
 
-/// Prints what came of it: how many frames there are, if all agree; in one line of the file also
-/// what is refused.
-fn print_answer(
-    rt: &impl Print,
-    path: &str,
-    quiet: bool,
-    frames: usize,
-    done: Result<(), Refusal>,
-) -> io::Result<()> {
-    let path = if is_hyphen(path) {
-        "standard input"
-    } else {
-        path
-    };
-    match done {
-        Ok(()) if quiet => println!(rt; "{path}: sound, {frames} frames"),
-        Ok(()) => println!(rt; "frames {frames}"),
-        Err(_) if !quiet => Ok(()),
-        Err(Refusal::Differs(frame)) => println!(rt; "{path}: 89 Differs in frame {frame}"),
-        Err(Refusal::List(line)) => println!(rt; "{path}: 66 List in line {line}"),
-        Err(refusal) => println!(rt; "{path}: {refusal}"),
-    }
-}
-
-/// Prints what came of it. `Write` if that cannot be printed, `OutOfMemory` if memory of it is
-/// refused.
-fn tell_against<R: Print, O>(
-    system: &BySystem<'_, R, O>,
-    told: Telling,
-    path: &str,
-    frames: usize,
-    done: Result<(), Refusal>,
-) -> Result<(), Refusal>
-    ensures untold { IfErr result IsUntold }
-    ensures refused { IfErr result IsComparingRefusal }
-{
-    let (rt, met) = (system.rt, system.met);
-    match told {
-        Telling::Object => tell_compared(rt, system.alloc, met, path, frames, done),
-        Telling::Line => met.printed(print_answer(rt, path, true, frames, done)),
-        Telling::Frames => met.printed(print_answer(rt, path, false, frames, done)),
-    }
-}
-
-/// Reads the list, and then compares all pictures of the file with it.
+/// Reads the list, and then compares all pictures of the file with it. Answers also the path of the
+/// one that this is about, and how many MD5s there are.
 fn read_and_compare<'a, R, O: Opens>(
     system: &BySystem<'_, R, O>,
     comparing: Comparing<'a>,
@@ -143,7 +80,7 @@ fn read_and_compare<'a, R, O: Opens>(
         (O.lacks system.now.opener comparing.entry.list.now) O.Lines.remaining O.Lines.failures
         (O.opens system.now.opener comparing.entry.input.now)
         (O.misses system.now.opener comparing.entry.input.now) O.Reader.remaining
-        O.Reader.failures result.2 }
+        O.Reader.failures comparing.entry result.0.now result.1 result.2 }
     ensures refused { IfErr result.2 IsComparingRefusal }
 {
     let Comparing {
@@ -164,8 +101,8 @@ fn read_and_compare<'a, R, O: Opens>(
 
 /// Reads the list, and then compares all pictures of the file with it. It prints how many frames
 /// there are, if all agree; or one line, whatever comes of it. Answers also the path of what is
-/// refused.
-pub fn run_against<'a, R: Print, O: Opens>(
+/// refused. `Write` if that line cannot be printed, `OutOfMemory` if memory of it is refused.
+pub fn run_against<'a, R: Print, O: Opens + Tells>(
     system: &BySystem<'_, R, O>,
     comparing: Comparing<'a>,
 ) -> (Paths<'a>, Result<(), Refusal>)
@@ -173,11 +110,15 @@ pub fn run_against<'a, R: Print, O: Opens>(
         (O.lacks system.now.opener comparing.entry.list.now) O.Lines.remaining O.Lines.failures
         (O.opens system.now.opener comparing.entry.input.now)
         (O.misses system.now.opener comparing.entry.input.now) O.Reader.remaining
-        O.Reader.failures result.1 }
+        O.Reader.failures (O.compared system.now.opener) comparing.entry result.1 }
     ensures refused { IfErr result.1 IsComparingRefusal }
 {
+    let told = comparing.told;
     let (path, frames, done) = read_and_compare(system, comparing);
-    match tell_against(system, comparing.told, path, frames, done) {
+    match system
+        .opener
+        .tell_comparison(system.alloc, path, told, frames, done)
+    {
         Ok(()) => (Paths::looked(path), done),
         Err(refusal) => (Paths::looked(path), Err(refusal)),
     }

@@ -2,56 +2,20 @@
 
 ghost use Rattle.std.specs.Prelude.{◌≡◌, Err, IfErr, IfOk, IsOk, None, Ok, Some, false};
 ghost use Rattle.ffv1_wire.specs.Passage.{passage};
-ghost use Rattle.ffv1.specs.Opened.{ChecksFile, ChecksIn, Untold, judged};
-ghost use Rattle.ffv1.specs.Orders.{checking, is_of_frames};
-ghost use Rattle.ffv1.specs.Statuses.{IsAnyFault, IsFault};
-ghost use Rattle.ffv1.specs.declared.refusal.Refusal.TheVariants as refusal;
+ghost use Rattle.ffv1.specs.Opened.{ChecksFile, ChecksIn, judged};
+ghost use Rattle.ffv1_orders.specs.Orders.{is_of_frames};
+ghost use Rattle.ffv1_orders.specs.Statuses.{IsAnyFault, IsFault};
+ghost use Rattle.ffv1_orders.specs.declared.refusal.Refusal.TheVariants as refusal;
 ghost use Rattle.ffv1_unpack.specs.Check.{IsCheckFault};
 ghost use Rattle.ffv1_video.specs.declared.fault.Fault.{Fault};
 ghost use Rattle.ffv1_video.specs.declared.profile.Profile.TheVariants as profile;
 
-use crate::input::Opens;
-use crate::met::{Met, Noted};
-use crate::quiet::{LastLines, tell_line};
-use crate::refusal::Refusal;
 use crate::streams::check_stream;
-use crate::telling::Telling;
-use crate::verdict::tell_object;
 use ffv1_engine::Fault;
+use ffv1_orders::{Checking, LastLines, Met, Noted, Opens, Refusal, Tells};
 use ffv1_wire::{ByteOut, ToWrite};
-use ffv1_words::FrameRange;
 use std::alloc::Global;
 use std::io;
-
-/// How a file is checked.
-#[derive(Clone, Copy)]
-pub struct Checking {
-    /// Whether it goes on after a frame that is refused.
-    pub all: bool,
-    /// Whether it says where a fault is.
-    pub place: bool,
-    /// What it prints of the file.
-    pub told: Telling,
-    /// Whether it says how much of the file is read.
-    pub progress: bool,
-    /// The frames that are checked.
-    pub range: FrameRange,
-}
-
-impl Checking {
-    /// Puts together what an order says of it.
-    pub fn new(all: bool, place: bool, told: Telling, progress: bool, range: FrameRange) -> Checking
-        ensures { result ≡ checking all place told progress range }
-    {
-        Checking {
-            all,
-            place,
-            told,
-            progress,
-            range,
-        }
-    }
-}
 
 /// What becomes of an order whose frames were all judged: the first fault of one that is refused is
 /// its own.
@@ -105,35 +69,9 @@ fn write_check<O: Opens, W: ByteOut>(
     check_stream(alloc, &mut reader, writer, all, place, range)
 }
 
-/// Prints one line of a file that was checked, or an object of JSON on one. `answer` is what the
-/// check answered, and `lines` has what it wrote, with places.
-fn tell_verdict(
-    rt: &impl Print,
-    alloc: Global,
-    input: &str,
-    lines: &LastLines<'_>,
-    checking: Checking,
-    answer: Result<Option<Fault>, Fault>,
-) -> Result<(), Refusal>
-    ensures told { is_of_frames checking.told ≡ false →
-        IfErr result (λ r. Untold checking.told (Err r)) }
-    ensures fault { IfErr result IsAnyFault }
-    ensures own { IfErr result (IsFault (IsCheckFault profile.Wide)) }
-{
-    let all = checking.all;
-    match checking.told {
-        Telling::Object => tell_object(rt, alloc, input, lines, all, answer),
-        Telling::Line | Telling::Frames => {
-            let printed = tell_line(rt, input, lines, all, answer);
-            lines.met().printed(printed)
-        }
-    }
-}
-
-/// Decodes frames of a file, and prints one line of it: `Write` if that cannot be printed,
+/// Decodes frames of a file, and tells one line of it: `Write` if that cannot be printed,
 /// `OutOfMemory` if memory of it is refused.
-fn run_verdict<O: Opens>(
-    rt: &impl Print,
+fn run_verdict<O: Opens + Tells>(
     alloc: Global,
     opener: &O,
     input: &str,
@@ -144,7 +82,8 @@ fn run_verdict<O: Opens>(
     ensures own { checking.all ≡ false →
         IfErr result (IsFault (IsCheckFault profile.Wide)) }
     ensures checks { is_of_frames checking.told ≡ false → ChecksIn (O.opens opener.now input.now)
-        (O.misses opener.now input.now) O.Reader.remaining O.Reader.failures checking result }
+        (O.misses opener.now input.now) O.Reader.remaining O.Reader.failures
+        (O.tells opener.now input.now) checking result }
 {
     let located = Checking {
         place: true,
@@ -152,13 +91,13 @@ fn run_verdict<O: Opens>(
     };
     let mut lines = LastLines::new(met);
     let answer = write_check(alloc, opener, input, located, &mut lines);
-    tell_verdict(rt, alloc, input, &lines, checking, answer)?;
+    opener.tell(alloc, input, &lines, checking, answer)?;
     outcome_of(answer)
 }
 
 /// Decodes frames of a file, and prints what each took, and with `place` where one is refused;
 /// with `all` also those after one that is refused; or prints one line of the file.
-pub fn run_check<O: Opens>(
+pub fn run_check<O: Opens + Tells>(
     rt: &impl Print,
     alloc: Global,
     opener: &O,
@@ -170,11 +109,11 @@ pub fn run_check<O: Opens>(
     ensures own { checking.all ≡ false →
         IfErr result (IsFault (IsCheckFault profile.Wide)) }
     ensures checks { ChecksIn (O.opens opener.now input.now) (O.misses opener.now input.now)
-        O.Reader.remaining O.Reader.failures checking result }
+        O.Reader.remaining O.Reader.failures (O.tells opener.now input.now) checking result }
 {
     if checking.told.is_of_frames() {
         let mut writer = ToWrite::new(Noted::new(met, io::writer(rt)));
         return outcome_of(write_check(alloc, opener, input, checking, &mut writer));
     }
-    run_verdict(rt, alloc, opener, input, checking, met)
+    run_verdict(alloc, opener, input, checking, met)
 }

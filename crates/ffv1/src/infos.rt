@@ -1,43 +1,22 @@
 //! Prints what a file is: facts, a line each, or an object of JSON (RFC 8259) on a line.
 
-ghost use Rattle.std.specs.Prelude.{◌≡◌, IfErr, true};
-ghost use Rattle.ffv1.specs.Infos.{form_of, informing};
-ghost use Rattle.ffv1.specs.Opened.{FactsIn, InformsIn};
-ghost use Rattle.ffv1.specs.Statuses.{IsAnyFault};
+ghost use Rattle.std.specs.Prelude.{◌≡◌, IfErr};
+ghost use Rattle.ffv1.specs.Infos.{form_of};
+ghost use Rattle.ffv1.specs.Opened.{FactsIn, InformsIn, ObjectIn};
+ghost use Rattle.ffv1_orders.specs.Statuses.{IsAnyFault};
 
-use crate::input::Opens;
-use crate::met::{Met, Noted};
-use crate::refusal::Refusal;
 use crate::streams::info_stream;
-use crate::verdict::{print_beginning, print_end};
+use ffv1_orders::{Informing, Met, Noted, Opens, Refusal, Tells};
 use ffv1_outline::Form;
 use ffv1_wire::ToWrite;
 use std::alloc::Global;
 use std::io;
 
-/// What is asked of the facts of a file.
-#[derive(Clone, Copy)]
-pub struct Informing {
-    /// Whether its frames are counted.
-    pub count: bool,
-    /// Whether it is an object of JSON.
-    pub json: bool,
-}
-
-impl Informing {
-    /// Puts together what an order says of it.
-    pub fn new(count: bool, json: bool) -> Informing
-        ensures { result ≡ informing count json }
-    {
-        Informing { count, json }
-    }
-
-    /// How facts are written.
-    fn form(self) -> Form
-        ensures { result ≡ form_of self.json }
-    {
-        if self.json { Form::Json } else { Form::Text }
-    }
+/// How facts are written.
+fn form(is_json: bool) -> Form
+    ensures { result ≡ form_of is_json }
+{
+    if is_json { Form::Json } else { Form::Text }
 }
 
 /// Prints the facts of a file.
@@ -55,12 +34,12 @@ fn print_facts<O: Opens>(
 {
     let reader = opener.open(input, false)?;
     let mut writer = ToWrite::new(Noted::new(met, io::writer(rt)));
-    info_stream(alloc, reader, &mut writer, how.form(), how.count)
+    info_stream(alloc, reader, &mut writer, form(how.json), how.count)
 }
 
 /// Prints the facts of a file as an object of JSON on a line, whose last member is why the file is
 /// refused.
-fn print_object<O: Opens>(
+fn print_object<O: Opens + Tells>(
     rt: &impl Print,
     alloc: Global,
     opener: &O,
@@ -68,19 +47,20 @@ fn print_object<O: Opens>(
     how: Informing,
     met: &Met,
 ) -> Result<(), Refusal>
-    ensures facts { how.json ≡ true → InformsIn (O.opens opener.now input.now)
-        (O.misses opener.now input.now) O.Reader.remaining O.Reader.failures how result }
+    ensures facts { ObjectIn (O.opens opener.now input.now) (O.misses opener.now input.now)
+        O.Reader.remaining O.Reader.failures (O.begins opener.now input.now) (O.ends opener.now)
+        how result }
     ensures fault { IfErr result IsAnyFault }
 {
-    print_beginning(rt, alloc, met, input)?;
+    opener.begin(alloc, input)?;
     let done = print_facts(rt, alloc, opener, input, how, met);
-    print_end(rt, alloc, met, done)?;
+    opener.end(alloc, done)?;
     done
 }
 
 /// Prints what a file is. A fault comes after the facts that were read before it: `Read` if the
 /// file cannot be opened, `Write` if a fact cannot be printed, `OutOfMemory` if memory is refused.
-pub fn run_info<O: Opens>(
+pub fn run_info<O: Opens + Tells>(
     rt: &impl Print,
     alloc: Global,
     opener: &O,
@@ -89,7 +69,8 @@ pub fn run_info<O: Opens>(
     met: &Met,
 ) -> Result<(), Refusal>
     ensures facts { InformsIn (O.opens opener.now input.now) (O.misses opener.now input.now)
-        O.Reader.remaining O.Reader.failures how result }
+        O.Reader.remaining O.Reader.failures (O.begins opener.now input.now) (O.ends opener.now)
+        how result }
     ensures fault { IfErr result IsAnyFault }
 {
     if how.json {

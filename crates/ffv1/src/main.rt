@@ -1,55 +1,36 @@
 // SPDX-License-Identifier: MIT OR Apache-2.0
-//! The program `ffv1`: its arguments, its files, what it prints and its exit status. All else is
-//! `ffv1_engine`.
+//! The program `ffv1`: each order is done by a call of `ffv1_engine` or `ffv1_info`, over the files
+//! that `ffv1_orders` opens. What is said of an order, and its exit status, are there too.
 #![tactic(auto)]
 
-ghost use Rattle.std.specs.Prelude.{◌≡◌, ◌≤◌, ℕ, Err, IfErr, IfOk, IsOk, false, true};
+ghost use Rattle.std.specs.Prelude.{◌≡◌, ◌≤◌, IfErr, IfOk, false, true};
 ghost use Rattle.std.specs.Process.{exit_status};
-ghost use Rattle.ffv1.specs.declared.refusal.Refusal.TheVariants as refusal;
 ghost use Rattle.ffv1.specs.Against.{TellsIn};
 ghost use Rattle.ffv1.specs.Made.{PacksIn, UnpacksIn};
 ghost use Rattle.ffv1.specs.Opened.{LooksIn, PrintsIn, ShowsIn, TriesIn};
-ghost use Rattle.ffv1.specs.Orders.{names_files};
-ghost use Rattle.ffv1.specs.Statuses.{IsAnyFault, IsFault, IsStatus, makes_file, status_of};
+ghost use Rattle.ffv1_orders.specs.Orders.{names_files};
+ghost use Rattle.ffv1_orders.specs.Statuses.{IsAnyFault, IsFault, IsStatus, makes_file};
 ghost use Rattle.ffv1_unpack.specs.Show.{IsShowFault};
 ghost use Rattle.ffv1_words.specs.Order.{is_matroska};
 ghost use Rattle.ffv1_video.specs.declared.profile.Profile.TheVariants as profile;
-ghost use Rattle.ffv1_video.specs.declared.fault.Fault.{Fault};
 
-mod advice;
 mod against;
-mod arguments;
 mod checking;
 mod infos;
-mod input;
-mod lines;
 mod making;
-mod met;
-mod notes;
-mod orders;
-mod output;
-mod progress;
-mod quiet;
-mod refusal;
-mod several;
 mod streams;
-mod telling;
-mod told;
-mod verdict;
 
-use against::{Comparing, run_against};
-use arguments::{looks, other_words};
+use against::run_against;
 use checking::run_check;
 use ffv1_engine::Fault;
+use ffv1_orders::{
+    Again, Comparing, Doer, Looking, Making, Met, Noted, Opens, Paths, Refusal, SystemFiles, Tells,
+    command, looks, other_words, run_order,
+};
 use ffv1_wire::{ToWrite, read_byte};
 use ffv1_words::{Choice, ContainerChoice, FrameRange, Order, words};
 use infos::run_info;
-use input::{Again, Opens, SystemFiles};
-use lines::command;
-use making::{Making, run_pack, run_unpack};
-use met::{Met, Noted};
-use orders::{Doer, Looking, run_order};
-use refusal::Refusal;
+use making::{run_pack, run_unpack};
 use std::alloc::Global;
 use std::io::Input;
 use std::process::ExitCode;
@@ -57,7 +38,6 @@ use std::rt::Files;
 use std::time::Clock;
 use std::{env, io};
 use streams::{framemd5_stream, show_stream, trial_stream};
-use told::{Paths, advise};
 
 /// Prints what a file says, and with `cost` what its frames cost.
 fn run_show<O: Opens>(
@@ -118,39 +98,8 @@ fn run_trial<O: Opens>(
     trial_stream(alloc, &mut reader, &mut writer)
 }
 
-/// The exit status of an order: 0 if it was done, 1 for a fault, or if a list of MD5s or a frame of
-/// it is refused, 2 if its files are.
-fn status_of(done: Result<(), Refusal>) -> u8
-    ensures ok { IsOk done → result ≡ 0 }
-    ensures fault { (f : Fault) → done ≡ Err (refusal.Fault f) → result ≡ 1 }
-    ensures one_file { done ≡ Err refusal.OneFile → result ≡ 2 }
-    ensures exists { done ≡ Err refusal.Exists → result ≡ 2 }
-    ensures differs { (n : ℕ) → done ≡ Err (refusal.Differs n) → result ≡ 1 }
-    ensures list { (n : ℕ) → done ≡ Err (refusal.List n) → result ≡ 1 }
-    ensures value { result ≡ status_of done }
-{
-    match done {
-        Ok(()) => 0,
-        Err(Refusal::Fault(_)) => 1,
-        Err(Refusal::Differs(_) | Refusal::List(_)) => 1,
-        Err(Refusal::OneFile | Refusal::Exists) => 2,
-    }
-}
-
-/// Says on standard error why an order is not done: in one line, and of a fault in two more which
-/// file it is of and what to do. Answers its exit status.
-fn tell(rt: &impl Eprint, met: &Met, paths: Paths<'_>, done: Result<(), Refusal>) -> io::Result<u8>
-    ensures { IfOk result (λ status. status ≡ status_of done) }
-{
-    if let Err(refusal) = done {
-        eprintln!(rt; "ffv1: {refusal}")?;
-        advise(rt, met, paths, refusal)?;
-    }
-    Ok(status_of(done))
-}
-
 /// Looks at one file.
-fn look<O: Opens>(
+fn look<O: Opens + Tells>(
     rt: &impl Print,
     alloc: Global,
     opener: &O,
@@ -159,7 +108,8 @@ fn look<O: Opens>(
     met: &Met,
 ) -> Result<(), Refusal>
     ensures looks { LooksIn (O.opens opener.now path.now) (O.misses opener.now path.now)
-        O.Reader.remaining O.Reader.failures looking result }
+        O.Reader.remaining O.Reader.failures (O.tells opener.now path.now)
+        (O.begins opener.now path.now) (O.ends opener.now) looking result }
     ensures fault { IfErr result IsAnyFault }
 {
     met.clear();
@@ -173,7 +123,7 @@ fn look<O: Opens>(
 }
 
 /// What does the parts of an order by the calls of the system. Files are opened and made by what is
-/// given for that.
+/// given for that, which also prints what becomes of them.
 #[derive(Drop)]
 pub struct BySystem<'a, R, O> {
     rt: &'a R,
@@ -182,11 +132,12 @@ pub struct BySystem<'a, R, O> {
     opener: O,
 }
 
-impl<R: Print + Eprint, O: Opens> Doer for BySystem<'_, R, O> {
+impl<R: Print + Eprint, O: Opens + Tells> Doer for BySystem<'_, R, O> {
     ghost packs = { λ s files container choice outcome t. (t ≡ s)
         × PacksIn (O.opens s.opener files.input.now) (O.makes s.opener files.output.now)
         (O.refuses s.opener files) O.Reader.remaining O.Reader.failures O.Writer.contents
-        O.Writer.failures (is_matroska container files.output.now) choice outcome };
+        O.Writer.failures O.Writer.overwrites (is_matroska container files.output.now) choice
+        outcome };
 
     ghost unpacks = { λ s files range outcome t. (t ≡ s)
         × UnpacksIn (O.opens s.opener files.input.now) (O.makes s.opener files.output.now)
@@ -196,14 +147,16 @@ impl<R: Print + Eprint, O: Opens> Doer for BySystem<'_, R, O> {
     ghost compares = { λ s comparing outcome t. (t ≡ s)
         × TellsIn (O.lists s.opener comparing.list.now) (O.lacks s.opener comparing.list.now)
         O.Lines.remaining O.Lines.failures (O.opens s.opener comparing.input.now)
-        (O.misses s.opener comparing.input.now) O.Reader.remaining O.Reader.failures outcome };
+        (O.misses s.opener comparing.input.now) O.Reader.remaining O.Reader.failures
+        (O.compared s.opener) comparing outcome };
 
     ghost names = { λ s looking _ printed t.
         (t ≡ s) × (names_files looking ≡ false → printed ≡ true) };
 
     ghost looks = { λ s looking path outcome t. (t ≡ s)
         × LooksIn (O.opens s.opener path) (O.misses s.opener path) O.Reader.remaining
-        O.Reader.failures looking outcome };
+        O.Reader.failures (O.tells s.opener path) (O.begins s.opener path) (O.ends s.opener)
+        looking outcome };
 
     fn pack(
         &mut self,

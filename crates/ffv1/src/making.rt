@@ -1,56 +1,17 @@
-//! What a command that makes a file is given, and what it does.
+//! What a command that makes a file does.
 
 ghost use Rattle.std.specs.Prelude.{◌≡◌, IfErr};
 ghost use Rattle.ffv1_words.specs.Order.{is_matroska};
-ghost use Rattle.ffv1.specs.Made.{IsUntold, PacksIn, UnpacksIn};
-ghost use Rattle.ffv1.specs.Orders.{making};
-ghost use Rattle.ffv1.specs.Statuses.{IsAnyFault, IsMakingRefusal};
-ghost use Rattle.ffv1.specs.declared.refusal.Refusal.TheVariants as refusal;
+ghost use Rattle.ffv1_orders.specs.Telling.{IsUntold};
+ghost use Rattle.ffv1.specs.Made.{PacksIn, UnpacksIn};
+ghost use Rattle.ffv1_orders.specs.Statuses.{IsAnyFault, IsMakingRefusal};
+ghost use Rattle.ffv1_orders.specs.declared.refusal.Refusal.TheVariants as refusal;
 ghost use Rattle.ffv1_video.specs.declared.fault.Fault.TheVariants as fault;
 
 use crate::BySystem;
-use crate::input::Opens;
-use crate::met::Met;
-use crate::notes::{Notes, tell_notes};
-use crate::refusal::Refusal;
 use crate::streams::{Counts, pack_into, unpack_stream};
-use crate::told::Paths;
+use ffv1_orders::{Making, Met, Notes, Opens, Refusal, tell_notes};
 use ffv1_words::{Choice, ContainerChoice, FrameRange, is_hyphen};
-
-/// What a command that makes a file is given.
-#[derive(Clone, Copy)]
-pub struct Making<'a> {
-    /// The path of what is read.
-    pub input: &'a str,
-    /// The path of what is written.
-    pub output: &'a str,
-    /// Whether an output that exists is refused.
-    pub no_clobber: bool,
-    /// Whether to say how much is read.
-    pub progress: bool,
-}
-
-impl<'a> Making<'a> {
-    /// Its paths.
-    pub fn paths(&self) -> Paths<'a> {
-        Paths {
-            input: self.input,
-            output: self.output,
-        }
-    }
-
-    /// Puts together what an order says of its files.
-    pub fn new(input: &'a str, output: &'a str, no_clobber: bool, progress: bool) -> Making<'a>
-        ensures { result ≡ making input.entry output.entry no_clobber progress }
-    {
-        Making {
-            input,
-            output,
-            no_clobber,
-            progress,
-        }
-    }
-}
 
 /// Prints a count: on standard output, or on standard error if the output itself goes there.
 fn print_count(
@@ -111,7 +72,8 @@ fn tell_unpacked<R: Print + Eprint, O>(
 }
 
 /// Packs a video into a file, and prints how many frames and bytes of them there are, after notes
-/// of what the file does not hold.
+/// of what the file does not hold. Matroska is finished if OUT can be written over; else its
+/// Segment stays open.
 pub fn run_pack<R: Print + Eprint, O: Opens>(
     system: &BySystem<'_, R, O>,
     files: &Making<'_>,
@@ -120,7 +82,7 @@ pub fn run_pack<R: Print + Eprint, O: Opens>(
 ) -> Result<(), Refusal>
     ensures packs { PacksIn (O.opens system.now.opener files.now.input.now)
         (O.makes system.now.opener files.now.output.now) (O.refuses system.now.opener files.now)
-        O.Reader.remaining O.Reader.failures O.Writer.contents O.Writer.failures
+        O.Reader.remaining O.Reader.failures O.Writer.contents O.Writer.failures O.Writer.overwrites
         (is_matroska container files.now.output.now) choice.now result }
     ensures refused { IfErr result (IsMakingRefusal files.now.no_clobber) }
 {

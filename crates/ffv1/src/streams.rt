@@ -10,16 +10,16 @@ ghost use Rattle.ffv1_unpack.specs.Show.{IsShowFault};
 ghost use Rattle.ffv1_unpack.specs.Unpack.{UnpackRangeDone, UnpackRangeStops};
 ghost use Rattle.ffv1_words.specs.Order.{leaves_out};
 ghost use Rattle.ffv1_video.specs.declared.profile.Profile.TheVariants as profile;
-ghost use Rattle.ffv1.specs.Made.{PacksInto};
-ghost use Rattle.ffv1.specs.Statuses.{IsAnyFault, IsFault};
+ghost use Rattle.ffv1.specs.Made.{AsksInto, PacksAsked, PacksInto};
+ghost use Rattle.ffv1_orders.specs.Statuses.{IsAnyFault, IsFault};
 ghost use Rattle.ffv1.specs.Streams.{Checks, Informs, Shows, Tries, WritesFrames, WritesMd5s};
 
-use crate::refusal::Refusal;
 use ffv1_engine::{
     Fault, Packed, PackedMatroska, Profile, check_all, check_all_range, check_range,
     framemd5_range, framemd5_text, pack, pack_matroska, show, trial, unpack_range,
 };
 use ffv1_info::info;
+use ffv1_orders::Refusal;
 use ffv1_outline::Form;
 use ffv1_wire::{ByteIn, ByteOut, PatchOut};
 use ffv1_words::{Choice, FrameRange};
@@ -193,7 +193,8 @@ pub fn pack_stream<R: ByteIn, W: ByteOut>(
     }
 }
 
-/// Packs a video into Matroska.
+/// Packs a video into Matroska. The file is finished if the output answers that it was written
+/// over, when it is asked for that; else the Segment stays open, of unknown size.
 pub fn pack_clusters<R: ByteIn, W: PatchOut>(
     alloc: Global,
     input: &mut R,
@@ -207,6 +208,8 @@ pub fn pack_clusters<R: ByteIn, W: PatchOut>(
         (IsFault (RefusesMatroska profile.Wide choice.now
         (passage R.remaining R.failures input.old input.new)
         (passage W.contents W.failures output.old output.new))) }
+    ensures asks { IfOk result (PacksAsked W.contents W.failures W.overwrites choice.now
+        (passage R.remaining R.failures input.old input.new) output.old output.new) }
     ensures fault { IfErr result IsAnyFault }
 {
     match pack_matroska(alloc, Profile::Wide, input, output, choice) {
@@ -215,7 +218,8 @@ pub fn pack_clusters<R: ByteIn, W: PatchOut>(
     }
 }
 
-/// Packs a video into Matroska, or into AVI.
+/// Packs a video into Matroska, or into AVI. Only Matroska is written over, where the output can
+/// be, and is then finished.
 pub fn pack_into<R: ByteIn, W: PatchOut>(
     alloc: Global,
     input: &mut R,
@@ -226,6 +230,8 @@ pub fn pack_into<R: ByteIn, W: PatchOut>(
     ensures packs { PacksInto is_matroska choice.now
         (passage R.remaining R.failures input.old input.new)
         (passage W.contents W.failures output.old output.new) result }
+    ensures asks { AsksInto W.contents W.failures W.overwrites is_matroska choice.now
+        (passage R.remaining R.failures input.old input.new) output.old output.new result }
     ensures fault { IfErr result IsAnyFault }
 {
     if is_matroska {

@@ -7,7 +7,10 @@ returns-in-Ok-clause-compares g c = inl (
   c.deref.result.now,
   rw c.deref.ensures.value c.in-Ok.ensures.listed,
   c.compare-done.ensures.compares,
+  refl,
+  rw (c.len.ensures, c.deref.ensures.value) c.in-Ok.md5s.ok.0,
 )
 
 pub returns-in-Err-clause-compares : goal.returns-in-Err-clause-compares
-returns-in-Err-clause-compares g c = inr (c.in-Err.refusal, c.in-Err.ensures.unlisted, refl)
+returns-in-Err-clause-compares g c =
+    inr (c.in-Err.refusal, c.in-Err.ensures.unlisted, refl, refl, refl)

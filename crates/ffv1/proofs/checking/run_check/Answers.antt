@@ -1,5 +1,5 @@
 -- Decodes frames of a file, and prints what each took.
-use Rattle.std.proofs.Common.{inl, refl, sym, ◌∙◌}
+use Rattle.std.proofs.Common.{◌≡◌, true, false, refl, sym, ◌∙◌}
 use Rattle.ffv1.proofs.checking.run_check.Goals as goal
 
 pub returns-then-is_of_frames-clause-checks : goal.returns-then-is_of_frames-clause-checks
@@ -11,7 +11,8 @@ returns-then-is_of_frames-clause-checks g c =
       place = c.args.checking.place;
       says_place = rw of_frames refl;
       checks = c.write_check.ensures.checks;
-      told = inl c.outcome_of.ensures.value;
+      by_frames = λ _. c.outcome_of.ensures.value;
+      by_line = λ of_line. absurd (let no : true ≡ false = sym of_frames ∙ of_line in cc);
     }
 
 pub returns-clause-checks : goal.returns-clause-checks

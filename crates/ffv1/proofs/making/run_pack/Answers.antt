@@ -16,7 +16,7 @@ returns-in-Ok-clause-packs g c = rw (← c.is_matroska.ensures) (inl (
   c.pack_into.new.output,
   c.in_ok-reader.ensures.opened,
   c.in_ok-reader.ensures.made,
-  (Ok c.in-Ok.counts, c.in-Ok.ensures.packs, c.tell_packed.ensures.untold),
+  (Ok c.in-Ok.counts, c.in-Ok.ensures.packs, c.in-Ok.ensures.asks, c.tell_packed.ensures.untold),
 ))
 
 pub returns-clause-packs : goal.returns-clause-packs
@@ -27,5 +27,5 @@ returns-clause-packs g c = rw (← c.is_matroska.ensures) (inl (
   c.pack_into.new.output,
   c.in_ok-reader.ensures.opened,
   c.in_ok-reader.ensures.made,
-  (Err c.in-Err.refusal, c.in-Err.ensures.packs, refl),
+  (Err c.in-Err.refusal, c.in-Err.ensures.packs, c.in-Err.ensures.asks, refl),
 ))

@@ -10,3 +10,7 @@ pub returns-in-Ok-pack_stream-clause-packs : goal.returns-in-Ok-pack_stream-clau
 returns-in-Ok-pack_stream-clause-packs g c =
     let arm = c.in-Ok-pack_stream in
     rw c.if-is_matroska.false (arm.packed, arm.ensures.packs, refl)
+
+pub returns-in-Ok-clause-asks : goal.returns-in-Ok-clause-asks
+returns-in-Ok-clause-asks g c =
+    rw c.if-is_matroska.true (c.in-Ok.packed, c.in-Ok.ensures.asks, refl)

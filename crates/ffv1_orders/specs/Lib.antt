@@ -1,0 +1,5 @@
+pub mod Looked
+pub mod Statuses
+pub mod Telling
+pub mod Orders
+pub mod Output

@@ -1,0 +1,37 @@
+//! How a file is checked.
+
+ghost use Rattle.std.specs.Prelude.{◌≡◌};
+ghost use Rattle.ffv1_orders.specs.Orders.{checking};
+
+use crate::telling::Telling;
+use ffv1_words::FrameRange;
+
+/// How a file is checked.
+#[derive(Clone, Copy)]
+pub struct Checking {
+    /// Whether it goes on after a frame that is refused.
+    pub all: bool,
+    /// Whether it says where a fault is.
+    pub place: bool,
+    /// What it prints of the file.
+    pub told: Telling,
+    /// Whether it says how much of the file is read.
+    pub progress: bool,
+    /// The frames that are checked.
+    pub range: FrameRange,
+}
+
+impl Checking {
+    /// Puts together what an order says of it.
+    pub fn new(all: bool, place: bool, told: Telling, progress: bool, range: FrameRange) -> Checking
+        ensures { result ≡ checking all place told progress range }
+    {
+        Checking {
+            all,
+            place,
+            told,
+            progress,
+            range,
+        }
+    }
+}

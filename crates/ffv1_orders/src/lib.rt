@@ -1,0 +1,46 @@
+// SPDX-License-Identifier: MIT OR Apache-2.0
+//! What the orders of the program `ffv1` are done by: their files, what is said of them, and their
+//! exit statuses.
+//!
+//! `command` does what a line asks for, and `run_order` what an order does, by a `Doer`, which has
+//! a call for each part: `Making`, `Comparing` and `Looking` say what that part is given. `Opens`
+//! opens and makes files, `Tells` prints what became of one, and `SystemFiles` does so by the calls
+//! of the system. `Met` keeps what is met in files, by the readers and writers in `Noted`. A
+//! `Refusal` is why an order is not done.
+#![tactic(auto)]
+
+mod advice;
+mod arguments;
+mod checking;
+mod comparing;
+mod informing;
+mod input;
+mod lines;
+mod making;
+mod met;
+mod notes;
+mod orders;
+mod output;
+mod progress;
+mod quiet;
+mod refusal;
+mod several;
+mod statuses;
+mod telling;
+mod told;
+mod verdict;
+
+pub use arguments::{looks, other_words};
+pub use checking::Checking;
+pub use comparing::Comparing;
+pub use informing::Informing;
+pub use input::{Again, Opens, SystemFiles};
+pub use lines::command;
+pub use making::Making;
+pub use met::{Met, Noted};
+pub use notes::{Notes, tell_notes};
+pub use orders::{Doer, Looking, run_order};
+pub use quiet::LastLines;
+pub use refusal::Refusal;
+pub use telling::{Telling, Tells};
+pub use told::Paths;
