@@ -5,7 +5,9 @@ use Rattle.std.proofs.Common.{drop, arith, append-nil, slice_index, pow_mono}
 use Rattle.std.proofs.lemmas.Nat.{pow_pos, pow-add, div_below, shr_high, mod_low, shl_below}
 use Rattle.std.proofs.lemmas.Nat.{mul-add-lt}
 use Rattle.std.proofs.lemmas.List.{drop_at, get_or_past}
-use Rattle.ffv1_rice.specs.Bits.{bit_of, bits_from, binary, number_of}
+use Rattle.std.proofs.Common.{length-append}
+use Rattle.std.proofs.Math.Seq.{drop-append_seam}
+use Rattle.ffv1_rice.specs.Bits.{bit_of, bits_from, bits_of, binary, number_of}
 use Rattle.ffv1_rice.proofs.Binary.{number-append, number-below, number-binary}
 
 pub length-bits_from : (bytes : List ℕ) (place n : ℕ) → length (bits_from bytes place n) ≡ n
@@ -180,3 +182,15 @@ eight_bytes bytes q small =
     let seven = number_bytes bytes q 6 (small (q + 6)) in
     let eight = number_bytes bytes q 7 (small (q + 7)) in
     omega (arith, none, here, one, two, three, four, five, six, seven, eight)
+
+-- bits that are left after some others
+pub last_bits : (bytes : List ℕ) (read text : List Bool) → bits_of bytes ≡ read ++ text →
+    (length text ≤ 8 * length bytes) × (drop (8 * length bytes - length text) (bits_of bytes) ≡
+    text)
+last_bits bytes read text is =
+    let long : 8 * length bytes ≡ length read + length text =
+    sym (length-bits_from bytes 0 (8 * length bytes)) ∙ ap length is ∙ length-append read text in
+    let at : 8 * length bytes - length text ≡ length read = omega (arith, long) in (
+      omega (arith, long),
+      ap (λ k. drop k (bits_of bytes)) at ∙ ap (drop (length read)) is ∙ drop-append_seam read text,
+    )

@@ -10,6 +10,7 @@ pub mod RunsOn
 pub mod Rows
 pub mod RowAnswers
 pub mod RowCodes
+pub mod RowLength
 pub mod RowOutcomes
 pub mod RowSamples
 pub mod RowPlaces

@@ -27,7 +27,7 @@ use Rattle.ffv1_rice.proofs.RowSamples.{rows_beside}
 use Rattle.ffv1_rice.proofs.Rows.{beside_same, places_same}
 use Rattle.ffv1_rice.proofs.Scalars.{some_bits}
 
--- a reading that stops at a place of a row, or behind its last one
+-- a reading that stops at a place of a row, or after its last one
 pub record Read (r : Reading) (row : List ℕ) (x : ℕ) (text : List Bool) : Type 0 where
   pub within : x ≤ length row
   pub samples : AreSamples r.depth x row
@@ -36,7 +36,7 @@ pub record Read (r : Reading) (row : List ℕ) (x : ℕ) (text : List Bool) : Ty
   pub stops : Stops r.depth (places_after r.depth r.start (places_of r.set r.depth r.two r.one row
       x)) (context_at r.set r.two r.one row x) (length row - x) text
 
--- two of them stop at one place, with the same samples before it and the same bits behind
+-- two of them stop at one place, with the same samples before it and the same bits after
 pub record AreOne (r : Reading) (row other : List ℕ) (x y : ℕ) (t u : List Bool) : Type 0 where
   pub place : x ≡ y
   pub samples : AgreeBelow x row other

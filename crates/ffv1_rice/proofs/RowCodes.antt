@@ -23,18 +23,18 @@ use Rattle.ffv1_rice.proofs.Codes.{binary_one}
 use Rattle.ffv1_rice.proofs.Differences.{differences_one, some_difference, length_difference}
 
 -- a row's bits by its first place
-row_first : (depth : ℕ) (c : Coder) (p : Place) (ps : List Place) →
+pub row_first : (depth : ℕ) (c : Coder) (p : Place) (ps : List Place) →
     row_bits depth c (p ∷ ps) ≡ place_bits depth c p ++ row_bits depth (place_after depth c p) ps
 unfolding places_bits places_after
 row_first depth c p ps =
     append_assoc (place_bits depth c p) (places_bits depth (place_after depth c p) ps)
     (end_bits (places_after depth (place_after depth c p) ps).run)
 
-row_none : (depth : ℕ) (c : Coder) → row_bits depth c [] ≡ end_bits c.run
+pub row_none : (depth : ℕ) (c : Coder) → row_bits depth c [] ≡ end_bits c.run
 unfolding places_bits places_after
 row_none depth c = refl
 
--- a run that is on is longer than one that is broken before it
+-- a run that goes on is longer than one that is broken before it
 goes_on : (depth : ℕ) (c : Coder) (ps : List Place) (m n : ℕ) (a b : List Bool) → c.run ≡ Some
     (suc m) →
     suc m < 2 ^ run_log c.index → n < suc m →
@@ -365,7 +365,7 @@ length_place depth c p some few small is =
           ]
     ]
 
--- a run that is on has a bit to come
+-- a run that goes on has a bit to come
 on_some : (depth : ℕ) (c : Coder) (ps : List Place) (m : ℕ) → c.run ≡ Some (suc m) → 1 ≤ length
     (row_bits depth c ps)
 on_some depth c [] m run = rw (row_none depth c, run) (omega arith)

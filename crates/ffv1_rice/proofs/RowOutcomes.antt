@@ -144,7 +144,7 @@ stops_tail depth c context left text small (inr (some, inr (inr behind))) = reco
       });
 }
 
--- the greatest difference does not stand behind a run
+-- the greatest difference does not stand after a run
 not_greatest : (half : ℕ) (d : ℤ) → 0 < half → d <ℤ pos half → is_zero d ≡ false → shortened d ≡ pos
     (half - 1) → ⊥
 not_greatest half (pos zero) some most other is = absurd (true≢false other)

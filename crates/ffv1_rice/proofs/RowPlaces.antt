@@ -28,7 +28,9 @@ use Rattle.std.proofs.lemmas.Bool.{cases_lt, cases_eq, cases_Bool}
 use mathlib.Core.Path.{fun_ext}
 use Rattle.ffv1_plane.specs.declared.prediction.Around.{Around}
 use Rattle.ffv1_plane.specs.Prediction.{predicted}
-use Rattle.ffv1_plane.specs.Residual.{sample_of, IsSuiting}
+use Rattle.ffv1_plane.specs.Residual.{sample_of, turned, IsSuiting}
+use Rattle.std.specs.Int.{int_rem_euclid}
+use Rattle.std.proofs.Common.{◌+ℤ◌}
 use Rattle.ffv1_plane.proofs.Folding.{only_chosen}
 use Rattle.ffv1_rice.proofs.States.{half_small}
 use Rattle.ffv1_rice.proofs.Scalars.{some_bits}
@@ -86,6 +88,15 @@ chosen_is set depth two one row x sample d depths inside folded made =
 pub zero_folded : (depth : ℕ) → IsFolded depth (pos 0)
 zero_folded depth = let some = pow_pos (depth - 1) in
     record { least = omega (arith, ints); most = omega (arith, ints, some) }
+
+-- no flip changes a difference of 0
+zero_turned : (flip : Bool) → turned flip (pos 0) ≡ pos 0
+zero_turned false = refl
+zero_turned true = omega (arith, ints)
+
+pub zero_made : (depth : ℕ) (p : ℤ) (flip : Bool) → sample_of depth p flip (pos 0) ≡ sample_of depth
+    p false (pos 0)
+zero_made depth p flip = ap (λ v. int_rem_euclid (p +ℤ v) (pos (2 ^ depth))) (zero_turned flip)
 
 -- one more difference of 0
 pub zeros_next : (set : Set) (depth : ℕ) (two one row : List ℕ) (from x sample : ℕ) →
@@ -219,7 +230,7 @@ pub so_far_none : (r : Reading) (row : List ℕ) → SoFar r row 0 r.start r.tex
 unfolding places_of places_after places_bits
 so_far_none r row = record { coder = refl; text = refl }
 
--- a place in a run that is on, or that begins one
+-- a place in a run that goes on, or that begins one
 pub record Entered (r : Reading) (row : List ℕ) (x index : ℕ) (states : ℕ → State)
     (rest : List Bool) : Type 0 where
   pub run : Option ℕ
@@ -239,7 +250,7 @@ entered_on r row x index is_on states rest read inside on =
       begins = refl;
     }
 
-off : (r : Reading) (row : List ℕ) (x index : ℕ) (is_on : Bool) (states : ℕ → State)
+pub off : (r : Reading) (row : List ℕ) (x index : ℕ) (is_on : Bool) (states : ℕ → State)
     (rest : List Bool) →
     Stretched r row x is_on states index rest → x < length row → is_on ≡ false → SoFar r row x
     (coder_of states index None) rest
@@ -258,22 +269,25 @@ entered_first r row x index is_on states rest read inside none first = record {
   begins = rw first refl;
 }
 
-pub place_next : (r : Reading) (row other : List ℕ) (x index : ℕ) (is_on : Bool)
-    (old new : ℕ → State) (text rest : List Bool) →
-    Stretched r row x is_on old index text → x < length row → is_on ≡ false →
-    (size_of r.set (beside r.two r.one row x) == 0) ≡ false →
-    AgreeBelow x other row → PlaceRead r.depth (place_at r.set r.depth r.two r.one other x) false
-    old new text rest →
-    Stretched r other (x + 1) is_on new index rest
-place_next r row other x index is_on old new text rest read inside none other_context agree place =
-    let so = off r row x index is_on old text read inside none in
+-- places that are in no run
+pub plain_next : (r : Reading) (row other : List ℕ) (x index : ℕ) (old new : ℕ → State)
+    (text rest : List Bool) → SoFar r row x (coder_of old index None) text →
+    (size_of r.set (beside r.two r.one row x) == 0) ≡ false → AgreeBelow x other row →
+    PlaceRead r.depth (place_at r.set r.depth r.two r.one other x) false old new text rest →
+    SoFar r other (x + 1) (coder_of new index None) rest
+plain_next r row other x index old new text rest so other_context agree place =
     let begins : begun None (size_of r.set (beside r.two r.one row x)) ≡ None = rw other_context
     refl in
-    record {
-      run = None;
-      so_far = scalar_read r x index None old new text rest row other agree so begins place;
-      within = λ inside. ap (λ b. if b then Some 0 else None) (sym none);
-    }
+    scalar_read r x index None old new text rest row other agree so begins place
+
+pub plain_done : (r : Reading) (row : List ℕ) (x index : ℕ) (is_on : Bool) (states : ℕ → State)
+    (rest : List Bool) → SoFar r row x (coder_of states index None) rest → is_on ≡ false →
+    Stretched r row x is_on states index rest
+plain_done r row x index is_on states rest so none = record {
+  run = None;
+  so_far = so;
+  within = λ inside. ap (λ b. if b then Some 0 else None) (sym none);
+}
 
 -- ---- where a row is refused
 
@@ -373,3 +387,14 @@ place_refused r row other x index is_on states text fault read inside none other
         );
       };
     }
+
+pub plain_refused : (r : Reading) (row other : List ℕ) (x index : ℕ) (states : ℕ → State)
+    (text : List Bool) (fault : Fault) → SoFar r row x (coder_of states index None) text → x <
+    length row → (size_of r.set (beside r.two r.one row x) == 0) ≡ false → AgreeBelow x other row →
+    (fault ≡ BitsEnd → Ends r.depth (parameter (states (size_of r.set (beside r.two r.one row x))))
+    text) →
+    (fault ≡ BadCode → IsNone r.depth (states (size_of r.set (beside r.two r.one row x))) false
+    text) → IsRefused r other x fault
+plain_refused r row other x index states text fault so inside other_context agree ends bad =
+    place_refused r row other x index false states text fault
+    (plain_done r row x index false states text so refl) inside refl other_context agree ends bad

@@ -212,7 +212,7 @@ places_beside set depth two one row other (suc n) depths small small' =
           (ap₂ (λ l x. l ++ (x ∷ [])) is (place_of p q same difference))) (omega arith)),
     ))
 
--- the places behind some of them
+-- the places after some of them
 record Further (set : Set) (depth : ℕ) (two one row : List ℕ) (x n : ℕ) : Type 0 where
   more : List Place
   is : places_of set depth two one row (x + suc n) ≡ places_of set depth two one row x ++

@@ -7,6 +7,7 @@ use Rattle.std.proofs.Common.{ne_eqb}
 use Rattle.std.proofs.Common.{min}
 use Rattle.std.proofs.lemmas.Nat.{pow_pos}
 use Rattle.ffv1_plane.specs.Quantisation.{Set}
+use Rattle.ffv1_plane.specs.declared.prediction.Around.{Around}
 use Rattle.ffv1_line.specs.Beside.{before, two_before, beside, chosen_beside}
 use Rattle.ffv1_plane.specs.Context.{size_of, flip_of}
 use Rattle.ffv1_plane.specs.Prediction.{predicted_in}
@@ -87,6 +88,30 @@ beside_same n two one row other x agree within =
     })
     (before_same n one row other x agree within) (two_before_same n one row other x agree within)
 
+made : (two one row : List ℕ) (place sample above tt : ℕ) (a : Around) →
+    a ≡ beside two one row place → slice_index row place ≡ sample →
+    slice_index one (min (place + 1) (length one - 1)) ≡ slice_index one (suc place) →
+    above ≡ slice_index one (min (suc place + 1) (length one - 1)) → tt ≡ slice_index two (suc
+    place)
+    → record { l = sample; t = a.tr; tl = a.t; tr = above; ll = a.l; tt = tt } ≡ beside two one row
+    (suc place)
+made two one row place sample above tt a is here right over up =
+    rw (is, over, up, sym here, right) refl
+
+-- what is beside the place after another one
+pub beside_next : (two one row : List ℕ) (place x sample above tt : ℕ) (a : Around) → x ≡ place + 1
+    →
+    x < length one → a ≡ beside two one row place → slice_index row place ≡ sample →
+    above ≡ slice_index one (min (x + 1) (length one - 1)) → tt ≡ slice_index two x →
+    record { l = sample; t = a.tr; tl = a.t; tr = above; ll = a.l; tt = tt } ≡ beside two one row x
+beside_next two one row place x sample above tt a next inside is here right up =
+    let at : x ≡ suc place = omega (arith, next) in
+    let last : min (place + 1) (length one - 1) ≡ x = omega (arith, next, inside) in
+    rw (at) (made two one row place sample above tt a is here
+    (ap (slice_index one) last ∙ ap (slice_index one) at)
+    (right ∙ ap (λ n. slice_index one (min (n + 1) (length one - 1))) at)
+    (up ∙ ap (slice_index two) at))
+
 pub place_same : (set : Set) (depth n : ℕ) (two one row other : List ℕ) (x : ℕ) → AgreeBelow n row
     other → x < n → place_at set depth two one row x ≡ place_at set depth two one other x
 place_same set depth n two one row other x agree within =
@@ -135,14 +160,14 @@ pub scalar_after_is : (depth : ℕ) (c : Coder) (p : Place) → begun c.run p.co
     place_after depth c p ≡ after_in depth c p None
 scalar_after_is depth c p is = ap (after_in depth c p) is
 
-zero_bits_is : (depth : ℕ) (c : Coder) (p : Place) (n : ℕ) → begun c.run p.context ≡ Some n →
+pub zero_bits_is : (depth : ℕ) (c : Coder) (p : Place) (n : ℕ) → begun c.run p.context ≡ Some n →
     p.difference ≡ pos 0 →
     suc n < 2 ^ run_log c.index → place_bits depth c p ≡ []
 zero_bits_is depth c p n is flat less =
     let apart : suc n ≡ 2 ^ run_log c.index → ⊥ = λ same. absurd (omega (arith, less, same)) in
     ap (bits_in depth c p) is ∙ rw (flat, ne_eqb (suc n) (2 ^ run_log c.index) apart) refl
 
-zero_after_is : (depth : ℕ) (c : Coder) (p : Place) (n : ℕ) → begun c.run p.context ≡ Some n →
+pub zero_after_is : (depth : ℕ) (c : Coder) (p : Place) (n : ℕ) → begun c.run p.context ≡ Some n →
     p.difference ≡ pos 0 →
     suc n < 2 ^ run_log c.index → place_after depth c p ≡
     record { states = c.states; index = c.index; run = Some (suc n) }
@@ -150,26 +175,26 @@ zero_after_is depth c p n is flat less =
     let apart : suc n ≡ 2 ^ run_log c.index → ⊥ = λ same. absurd (omega (arith, less, same)) in
     ap (after_in depth c p) is ∙ rw (flat, ne_eqb (suc n) (2 ^ run_log c.index) apart) refl
 
-full_bits_is : (depth : ℕ) (c : Coder) (p : Place) (n : ℕ) → begun c.run p.context ≡ Some n →
+pub full_bits_is : (depth : ℕ) (c : Coder) (p : Place) (n : ℕ) → begun c.run p.context ≡ Some n →
     p.difference ≡ pos 0 →
     suc n ≡ 2 ^ run_log c.index → place_bits depth c p ≡ true ∷ []
 full_bits_is depth c p n is flat same =
     ap (bits_in depth c p) is ∙ rw (flat, eq-eqb (suc n) (2 ^ run_log c.index) same) refl
 
-full_after_is : (depth : ℕ) (c : Coder) (p : Place) (n : ℕ) → begun c.run p.context ≡ Some n →
+pub full_after_is : (depth : ℕ) (c : Coder) (p : Place) (n : ℕ) → begun c.run p.context ≡ Some n →
     p.difference ≡ pos 0 →
     suc n ≡ 2 ^ run_log c.index → place_after depth c p ≡
     record { states = c.states; index = c.index + 1; run = Some 0 }
 full_after_is depth c p n is flat same =
     ap (after_in depth c p) is ∙ rw (flat, eq-eqb (suc n) (2 ^ run_log c.index) same) refl
 
-broken_bits_is : (depth : ℕ) (c : Coder) (p : Place) (n : ℕ) → begun c.run p.context ≡ Some n →
+pub broken_bits_is : (depth : ℕ) (c : Coder) (p : Place) (n : ℕ) → begun c.run p.context ≡ Some n →
     is_zero p.difference ≡ false →
     place_bits depth c p ≡ false ∷ (binary (run_log c.index) n ++ scalar_bits depth
     (c.states p.context) (shortened p.difference))
 broken_bits_is depth c p n is other = ap (bits_in depth c p) is ∙ rw other refl
 
-broken_after_is : (depth : ℕ) (c : Coder) (p : Place) (n : ℕ) → begun c.run p.context ≡ Some n →
+pub broken_after_is : (depth : ℕ) (c : Coder) (p : Place) (n : ℕ) → begun c.run p.context ≡ Some n →
     is_zero p.difference ≡ false →
     place_after depth c p ≡ record {
       states = with_state c.states p.context (scalar_after depth (c.states p.context)

@@ -7,8 +7,8 @@ use Rattle.ffv1_rice.specs.Run.{run_log}
 use Rattle.ffv1_rice.specs.Row.{Place, Coder, begun, is_zero, after_in, place_after, places_after}
 use Rattle.ffv1_rice.proofs.RowCodes.{length_of}
 
--- a run that begins has no difference yet, and one that is on has as many as before
-begun_has : (context : ℕ) (run : Option ℕ) → (begun run context ≡ None) ⊎ ((n : ℕ) ×
+-- a run that begins has no difference yet, and one that goes on has as many as before
+pub begun_has : (context : ℕ) (run : Option ℕ) → (begun run context ≡ None) ⊎ ((n : ℕ) ×
     (begun run context ≡ Some n) × (n ≡ length_of run))
 unfolding length_of
 begun_has context None = elim (cases_eq context 0) [
@@ -17,11 +17,11 @@ begun_has context None = elim (cases_eq context 0) [
 ]
 begun_has context (Some n) = inr (n, refl, refl)
 
-length_some : (n : ℕ) → length_of (Some n) ≡ n
+pub length_some : (n : ℕ) → length_of (Some n) ≡ n
 unfolding length_of
 length_some n = refl
 
-length_none : length_of None ≡ 0
+pub length_none : length_of None ≡ 0
 unfolding length_of
 length_none = refl
 

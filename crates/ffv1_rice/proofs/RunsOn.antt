@@ -1,4 +1,4 @@
--- Bits of a run that is on.
+-- Bits of a run that goes on.
 use Rattle.std.proofs.Common.{◌≡◌, refl, sym, ◌∙◌, ap, ap₂, subst, ℕ, suc, ◌+◌, ◌^◌, ◌<◌}
 use Rattle.std.proofs.Common.{◌≤◌, ◌⊎◌, Bool, true, false, List, [], ◌∷◌, ◌++◌, length, drop}
 use Rattle.std.proofs.Common.{get_or}
@@ -14,7 +14,7 @@ use Rattle.ffv1_rice.specs.Row.{after_in, place_after}
 use Rattle.ffv1_rice.specs.Row.{places_bits, places_after}
 use Rattle.ffv1_rice.proofs.Codes.{binary_one}
 
--- ---- a run that is on
+-- ---- a run that goes on
 
 -- the bits go on by a 1, or by a 0 and so many differences as there are before the one that breaks
 -- the run: at least n, and fewer than n and those that are left
@@ -29,7 +29,7 @@ pub record IsBroken (log n left : ℕ) (text : List Bool) : Type 0 where
 abbrev pub GoesOn : ℕ → ℕ → ℕ → List Bool → Type 0
 GoesOn log n left text = ((rest : List Bool) × (text ≡ true ∷ rest)) ⊎ IsBroken log n left text
 
--- what may stand behind some places
+-- what may stand after some places
 pub record IsTail (c : Coder) (left : ℕ) (text : List Bool) : Type 0 where
   pub some : (m : ℕ) → c.run ≡ Some (suc m) → GoesOn (run_log c.index) (suc m) left text
 
@@ -68,7 +68,7 @@ goes_past log n left text rest (inr broken) few is =
     let least = broken.least in
     absurd (omega (arith, same, least))
 
--- the bits of the first place, and what is behind it
+-- the bits of the first place, and what is after it
 pub head : (depth : ℕ) (c : Coder) (p : Place) (ps : List Place) (t bits : List Bool) (next :
     Coder) →
     place_bits depth c p ≡ bits → place_after depth c p ≡ next →

@@ -32,7 +32,7 @@ number_of zero bits = 0
 number_of (suc count) [] = 0
 number_of (suc count) (bit ∷ bits) = digit bit * 2 ^ count + number_of count bits
 
--- what stands behind the last bit that codes something: zeros to the end of its byte
+-- what stands after the last bit that codes something: zeros to the end of its byte
 pub record IsPadding (bits : List Bool) : Type 0 where
   pub few : length bits < 8
   pub zeros : bits ≡ replicate (length bits) false

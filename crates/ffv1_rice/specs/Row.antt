@@ -18,7 +18,7 @@ pub record Place : Type 0 where
   pub difference : ℤ
 
 -- what a row is coded by: the states of the contexts, the index of its runs, and how many
--- differences there are of a run that is on
+-- differences there are of a run that goes on
 pub record Coder : Type 0 where
   pub states : ℕ → State
   pub index : ℕ
@@ -28,7 +28,7 @@ pub record Coder : Type 0 where
 abbrev pub with_state : (ℕ → State) → ℕ → State → ℕ → State
 with_state states context s k = if k == context then s else states k
 
--- the run at a place: where none is on one begins at context 0
+-- the run at a place: if none goes on, one begins at context 0
 abbrev pub begun : Option ℕ → ℕ → Option ℕ
 begun (Some n) context = Some n
 begun None context = if context == 0 then Some 0 else None
@@ -140,6 +140,11 @@ abbrev pub AreFolded : ℕ → List Place → Type 0
 AreFolded depth [] = Unit {0}
 AreFolded depth (p ∷ ps) = IsFolded depth p.difference × AreFolded depth ps
 
--- a run that is on is not yet whole
+-- each context is one of so many
+abbrev pub AreContexts : ℕ → List Place → Type 0
+AreContexts contexts [] = Unit {0}
+AreContexts contexts (p ∷ ps) = (p.context < contexts) × AreContexts contexts ps
+
+-- a run that goes on is not yet whole
 abbrev pub IsRunning : ℕ → Option ℕ → Type 0
 IsRunning index run = (n : ℕ) → run ≡ Some n → n < 2 ^ run_log index

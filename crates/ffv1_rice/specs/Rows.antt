@@ -79,7 +79,7 @@ pub record CodesRow (r : Reading) (row : List ℕ) (rest : List Bool) : Type 0 w
       (length row)) ++ rest
 
 -- where bits are refused at a place of this context: at a difference that is in no run, at the
--- begin of a part of a run, or behind a run that is broken
+-- begin of a part of a run, or after a run that is broken
 abbrev pub StopsAt : Coder → ℕ → List Bool → (List Bool → Type 0) →
     (Bool → List Bool → Type 0) → Type 0
 StopsAt c context text InRun At =
@@ -88,7 +88,7 @@ StopsAt c context text InRun At =
     (begun c.run context ≡ Some n) × (text ≡ false ∷ (binary (run_log c.index) n ++ rest)) ×
     At true rest))
 
--- the bits begin with no difference: with no number's bits, or behind a run with those of the
+-- the bits begin with no difference: with no number's bits, or after a run with those of the
 -- greatest difference, which would count one more
 abbrev pub IsNone : ℕ → State → Bool → List Bool → Type 0
 IsNone depth s is_behind text = IsBad depth (parameter s) text ⊎ ((is_behind ≡ true) ×

@@ -1,6 +1,6 @@
 //! Bits of bytes.
 
-ghost use Rattle.std.specs.Prelude.{◌≡◌, ◌+◌, ◌*◌, ◌^◌, ◌<◌, ◌≤◌, ◌↔◌, IsTrue, length, drop};
+ghost use Rattle.std.specs.Prelude.{◌≡◌, ◌+◌, ◌-◌, ◌*◌, ◌^◌, ◌<◌, ◌≤◌, ◌↔◌, IsTrue, length, drop};
 ghost use Rattle.std.specs.Prelude.{slice_index};
 ghost use Rattle.ffv1_rice.specs.Bits.{bits_from, bits_of, number_of, IsPadding};
 
@@ -27,6 +27,26 @@ impl<'a> Model for Bits<'a> {
         (8 * length b.bytes.now - (8 * b.place + b.turn)) };
 
     ghost invariant = { λ b. IsPlace (length b.bytes.now) b.place b.turn };
+}
+
+/// How many bits of some bytes are left, without the bytes: what is kept of bits between two rows.
+/// In a contract it is that number.
+#[derive(Drop)]
+pub struct ParkedBits {
+    // How many bytes are not read whole, and how many bits of the first of them are.
+    left: usize,
+    turn: u32,
+}
+
+impl Model for ParkedBits {
+    ghost use Rattle.std.specs.Prelude.{ℕ, ◌-◌, ◌*◌};
+    ghost use Rattle.ffv1_rice.specs.Internal.Place.{IsPlace};
+
+    ghost Value = { ℕ };
+
+    ghost view = { λ b. 8 * b.left - b.turn };
+
+    ghost invariant = { λ b. IsPlace b.left 0 b.turn };
 }
 
 /// The byte at a place, and 0 after the last.
@@ -88,6 +108,40 @@ impl<'a> Bits<'a> {
         }
     }
 
+    /// The bits of some bytes after the first `at` of them.
+    pub fn behind(bytes: &'a [u8], at: usize) -> Bits<'a>
+        requires { at ≤ length bytes.now }
+        ensures { result ≡ drop (8 * at) (bits_of bytes.now) }
+    {
+        Bits {
+            bytes,
+            place: at,
+            turn: 0,
+        }
+    }
+
+    /// How many bits are left, to go on with them by the same bytes (`ParkedBits::wake`).
+    pub fn park(&self) -> ParkedBits
+        ensures { result ≡ length self.now }
+    {
+        ParkedBits {
+            left: self.bytes.len() - self.place,
+            turn: self.turn,
+        }
+    }
+
+    /// The same bits.
+    #[inline(always)]
+    pub(crate) fn copy(&self) -> Bits<'a>
+        ensures { result ≡ self.now }
+    {
+        Bits {
+            bytes: self.bytes,
+            place: self.place,
+            turn: self.turn,
+        }
+    }
+
     /// The next 32 bits as a number, the high one first; after the last bit all are 0.
     #[inline(always)]
     pub(crate) fn peek(&self) -> u32
@@ -125,5 +179,20 @@ impl<'a> Bits<'a> {
         ensures { IsTrue result ↔ IsPadding self.now }
     {
         !self.has(8) && self.peek() == 0
+    }
+}
+
+impl ParkedBits {
+    /// The last bits of some bytes, as many as were left when they were parked: the same, if the
+    /// bytes are (`laws::bits_that_are_left_are_the_last`).
+    pub fn wake<'a>(&self, bytes: &'a [u8]) -> Bits<'a>
+        requires { self.now ≤ 8 * length bytes.now }
+        ensures { result ≡ drop (8 * length bytes.now - self.now) (bits_of bytes.now) }
+    {
+        Bits {
+            bytes,
+            place: bytes.len() - self.left,
+            turn: self.turn,
+        }
     }
 }

@@ -1,14 +1,14 @@
 //! Laws of the definitions.
 
-ghost use Rattle.std.specs.Prelude.{◌≡◌, ℕ, ◌+◌, ◌^◌, ◌<◌, ◌≤◌, ◌++◌, ◌⊎◌, List, Bool, length, ℤ};
-ghost use Rattle.std.specs.Prelude.{◌∷◌, None, slice_index};
+ghost use Rattle.std.specs.Prelude.{◌≡◌, ℕ, ◌+◌, ◌-◌, ◌*◌, ◌^◌, ◌<◌, ◌≤◌, ◌++◌, ◌⊎◌, List, Bool};
+ghost use Rattle.std.specs.Prelude.{◌∷◌, None, drop, length, slice_index, ℤ};
 ghost use Rattle.ffv1_plane.specs.Residual.{IsFolded};
 ghost use Rattle.ffv1_rice.specs.declared.state.State.{State};
 ghost use Rattle.ffv1_rice.specs.Number.{number_bits, Ends, IsBad};
 ghost use Rattle.ffv1_rice.specs.States.{IsState, parameter};
 ghost use Rattle.ffv1_rice.specs.Scalar.{scalar_bits, scalar_after};
 ghost use Rattle.ffv1_rice.specs.Row.{Coder, Place, row_bits, place_bits, IsRunning};
-ghost use Rattle.ffv1_rice.specs.Row.{AreAlike, AreFolded, places_after};
+ghost use Rattle.ffv1_rice.specs.Row.{AreAlike, AreContexts, AreFolded, places_after};
 ghost use Rattle.ffv1_rice.specs.Rows.{AreSamples, CodesRow, IsRefused, Reading};
 ghost use Rattle.ffv1_rice.specs.Bits.{bits_of, IsPadding};
 ghost use Rattle.ffv1_rice.specs.Run.{run_log};
@@ -121,4 +121,20 @@ pub fn a_row_is_refused_in_one_way()
         length row ≡ length other → x < length row → y < length other →
         AreSamples r.depth x row → AreSamples r.depth y other → IsRefused r row x fault →
         IsRefused r other y reason → (x ≡ y) × (fault ≡ reason) }
+{}
+
+/// A row of up to 8192 places takes at most 27 bits and those of a difference for each, 35 or 36,
+/// if it begins with an index of at most 30 and its contexts have states.
+pub fn row_takes_few_bits()
+    ensures { (depth contexts : ℕ) (c : Coder) (ps : List Place) → 3 ≤ depth → depth ≤ 9 →
+        c.run ≡ None → c.index ≤ 30 → length ps ≤ 8192 → AreContexts contexts ps →
+        ((k : ℕ) → k < contexts → IsState depth (c.states k)) →
+        length (row_bits depth c ps) ≤ (27 + depth) * length ps }
+{}
+
+/// Bits that are left after some others are those that are woken by how many they are.
+pub fn bits_that_are_left_are_the_last()
+    ensures { (bytes : List ℕ) (read text : List Bool) → bits_of bytes ≡ read ++ text →
+        (length text ≤ 8 * length bytes)
+        × (drop (8 * length bytes - length text) (bits_of bytes) ≡ text) }
 {}

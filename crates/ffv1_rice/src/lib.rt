@@ -15,13 +15,16 @@
 //! decode_row(&mut bits, &below, &mut states, &mut index, &mut cur)?;
 //! ```
 //!
-//! Behind the last row `Bits::is_padding` says whether what is left are zeros to the end of a byte.
+//! Between two rows bits can be parked, so that no bytes are lent, and woken by the same bytes
+//! (`ParkedBits`). Behind the last row `Bits::is_padding` says whether what is left are zeros to
+//! the end of a byte.
 //!
 //! `laws` has what follows from the definitions: bits begin with one number at most, with one
 //! difference and with one row; what is coded is read, what is read is what codes it, and all other
 //! bits are refused at one place and for one reason; and how many bits a place takes.
 #![tactic(auto)]
 
+mod around;
 pub mod bits;
 pub mod fault;
 pub mod kept;
@@ -32,7 +35,7 @@ pub mod run;
 pub mod scalar;
 pub mod state;
 
-pub use bits::Bits;
+pub use bits::{Bits, ParkedBits};
 pub use fault::Fault;
 pub use row::{Below, Refused, decode_row};
 pub use state::State;

@@ -2,11 +2,11 @@
 
 ghost use Rattle.std.specs.Prelude.{◌≡◌, ℕ, ◌+◌, ◌-◌, ◌*◌, ◌^◌, ◌<◌, ◌≤◌, ◌⊎◌, ◌==◌, IfOk, IfErr};
 ghost use Rattle.std.specs.Prelude.{OnOk, IsErrOf, IsOk, List, Bool, Option, length, slice_index};
-ghost use Rattle.std.specs.Prelude.{min, pos};
-ghost use Rattle.std.specs.Prelude.{Some};
-ghost use Rattle.ffv1_plane.specs.Quantisation.{contexts_of};
-ghost use Rattle.ffv1_plane.specs.Context.{size_of};
-ghost use Rattle.ffv1_line.specs.Beside.{before, two_before, beside, chosen_beside};
+ghost use Rattle.std.specs.Prelude.{pos};
+ghost use Rattle.std.specs.Prelude.{None, Some, true, false};
+ghost use Rattle.ffv1_plane.specs.Quantisation.{HasThreeTables, contexts_of};
+ghost use Rattle.ffv1_plane.specs.Context.{flip_of, size_of};
+ghost use Rattle.ffv1_line.specs.Beside.{beside, chosen_beside};
 ghost use Rattle.ffv1_rice.specs.Kept.{AreStates, state_at};
 ghost use Rattle.ffv1_rice.specs.Row.{Coder, begins, begun, place_at};
 ghost use Rattle.ffv1_rice.specs.Rows.{AgreeBelow, PlaceRead, RowRead, SoFar, Stretched, coder_of};
@@ -14,6 +14,7 @@ ghost use Rattle.ffv1_rice.specs.Rows.{AreSamples, CodesRow, IsNone, IsRefused, 
 ghost use Rattle.ffv1_rice.specs.Number.{Ends};
 ghost use Rattle.ffv1_rice.specs.States.{parameter};
 
+use crate::around::{around_next, around_place, context_of};
 use crate::bits::Bits;
 use crate::fault::Fault;
 use crate::kept::{load, store};
@@ -45,62 +46,6 @@ pub struct Refused {
     pub fault: Fault,
 }
 
-/// The sample to the left of a place.
-#[inline(always)]
-fn sample_before(above: &[u16], row: &[u16], x: usize) -> u16
-    requires above { 0 < length above.now }
-    requires row { x ≤ length row.now }
-    ensures { result ≡ before above.now row.now x }
-{
-    if x == 0 {
-        return above[0];
-    }
-    row[x - 1]
-}
-
-/// The second sample to the left.
-#[inline(always)]
-fn sample_two_before(above: &[u16], row: &[u16], x: usize) -> u16
-    requires above { 0 < length above.now }
-    requires row { x ≤ length row.now }
-    ensures { result ≡ two_before above.now row.now x }
-{
-    if x == 0 {
-        return 0;
-    }
-    sample_before(above, row, x - 1)
-}
-
-/// The sample above to the right: after the end of a row stands its last sample (RFC 9043, 3.1).
-#[inline(always)]
-fn right_above(one: &[u16], x: usize) -> u16
-    requires { x < length one.now }
-    ensures { result ≡ slice_index one.now (min (x + 1) (length one.now - 1)) }
-{
-    if x + 1 < one.len() {
-        return one[x + 1];
-    }
-    one[x]
-}
-
-/// The samples around a place of a row.
-#[inline(always)]
-fn around_place(two: &[u16], one: &[u16], cur: &[u16], x: usize) -> Around
-    requires two { length two.now ≡ length cur.now }
-    requires one { length one.now ≡ length cur.now }
-    requires inside { x < length cur.now }
-    ensures { result ≡ beside two.now one.now cur.now x }
-{
-    Around {
-        l: sample_before(one, cur, x),
-        t: one[x],
-        tl: sample_before(two, one, x),
-        tr: right_above(one, x),
-        ll: sample_two_before(one, cur, x),
-        tt: two[x],
-    }
-}
-
 /// Fills places whose differences are 0.
 #[inline(always)]
 fn fill_zeros<A: Allocator>(below: &Below<'_, A>, cur: &mut [u16], from: usize, count: usize)
@@ -115,16 +60,67 @@ fn fill_zeros<A: Allocator>(below: &Below<'_, A>, cur: &mut [u16], from: usize, 
         slice_index cur.new k < 2 ^ below.now.depth }
 {
     let Below {
-        set,
         depth,
         two,
         one,
+        ..
     } = *below;
     for x in from..from + count {
         let around = around_place(two, one, cur, x);
-        let (_, flip) = context(set, &around);
-        cur[x] = sample_from(predict(&around), flip, 0, depth);
+        cur[x] = sample_from(predict(&around), false, 0, depth);
     }
+}
+
+/// A place of a row, and what is seen of it: the samples around it, and its context.
+#[derive(Clone, Copy, Debug, PartialEq, Eq)]
+struct Seen {
+    x: usize,
+    around: Around,
+    size: u32,
+    flip: bool,
+}
+
+/// Reads the difference of a place by what is seen of it, and makes its sample.
+#[inline(always)]
+fn read_seen<A: Allocator>(
+    bits: &mut Bits<'_>,
+    below: &Below<'_, A>,
+    states: &mut [u8],
+    cur: &mut [u16],
+    seen: &Seen,
+    is_behind: bool,
+) -> Result<(), Fault>
+    requires depth { (below.now.depth ≡ 8) ⊎ (below.now.depth ≡ 9) }
+    requires two { length below.now.two.now ≡ length cur.old }
+    requires one { length below.now.one.now ≡ length cur.old }
+    requires inside { seen.now.x < length cur.old }
+    requires around { seen.now.around ≡ beside below.now.two.now below.now.one.now cur.old
+        seen.now.x }
+    requires size { seen.now.size ≡ size_of below.now.set.now seen.now.around }
+    requires few { seen.now.size < contexts_of below.now.set.now }
+    requires flip { seen.now.flip ≡ flip_of below.now.set.now seen.now.around }
+    requires long { length states.old ≡ contexts_of below.now.set.now * 32 }
+    requires states { AreStates below.now.depth (contexts_of below.now.set.now) states.old }
+    ensures ok { OnOk result (PlaceRead below.now.depth (place_at below.now.set.now below.now.depth
+        below.now.two.now below.now.one.now cur.new seen.now.x) is_behind (state_at states.old)
+        (state_at states.new) bits.old bits.new) }
+    ensures agree { AgreeBelow seen.now.x cur.new cur.old }
+    ensures sample { OnOk result (slice_index cur.new seen.now.x < 2 ^ below.now.depth) }
+    ensures states { AreStates below.now.depth (contexts_of below.now.set.now) states.new }
+    ensures ends { IsErrOf result Fault.BitsEnd → Ends below.now.depth (parameter
+        (state_at states.old (size_of below.now.set.now
+        (beside below.now.two.now below.now.one.now cur.old seen.now.x)))) bits.old }
+    ensures bad { IsErrOf result Fault.BadCode → IsNone below.now.depth
+        (state_at states.old (size_of below.now.set.now
+        (beside below.now.two.now below.now.one.now cur.old seen.now.x))) is_behind bits.old }
+{
+    let depth = below.depth;
+    let context = seen.size as usize;
+    let mut state = load(states, context);
+    let difference = read_difference(bits, &mut state, depth, is_behind)?;
+    store(states, context, &state);
+    cur[seen.x] = sample_from(predict(&seen.around), seen.flip, difference, depth);
+    Ok(())
 }
 
 /// Reads the difference of a place, and makes its sample.
@@ -156,19 +152,15 @@ fn read_place<A: Allocator>(
         (state_at states.old (size_of below.now.set.now
         (beside below.now.two.now below.now.one.now cur.old x))) is_behind bits.old }
 {
-    let Below {
-        set,
-        depth,
-        two,
-        one,
-    } = *below;
-    let around = around_place(two, one, cur, x);
-    let (size, flip) = context(set, &around);
-    let mut state = load(states, size as usize);
-    let difference = read_difference(bits, &mut state, depth, is_behind)?;
-    store(states, size as usize, &state);
-    cur[x] = sample_from(predict(&around), flip, difference, depth);
-    Ok(())
+    let around = around_place(below.two, below.one, cur, x);
+    let (size, flip) = context(below.set, &around);
+    let seen = Seen {
+        x,
+        around,
+        size,
+        flip,
+    };
+    read_seen(bits, below, states, cur, &seen, is_behind)
 }
 
 /// Whether a place has context 0.
@@ -183,6 +175,114 @@ fn first_context<A: Allocator>(below: &Below<'_, A>, cur: &[u16], x: usize) -> b
     let around = around_place(below.two, below.one, cur, x);
     let (size, _) = context(below.set, &around);
     size == 0
+}
+
+/// Reads places up to one of context 0, or to the end of the row, and answers where that is.
+#[inline(never)]
+fn read_scalars<A: Allocator, const THREE: bool>(
+    bits: &mut Bits<'_>,
+    below: &Below<'_, A>,
+    states: &mut [u8],
+    cur: &mut [u16],
+    x: usize,
+) -> Result<usize, Refused>
+    requires depth { (below.now.depth ≡ 8) ⊎ (below.now.depth ≡ 9) }
+    requires two { length below.now.two.now ≡ length cur.old }
+    requires one { length below.now.one.now ≡ length cur.old }
+    requires inside { x < length cur.old }
+    requires three { THREE ≡ true → HasThreeTables below.now.set.now }
+    requires long { length states.old ≡ contexts_of below.now.set.now * 32 }
+    requires states { AreStates below.now.depth (contexts_of below.now.set.now) states.old }
+    ensures ok { IfOk result (λ after. (start : Coder) (text : List Bool) (index : ℕ) →
+        SoFar (reading_of below.now.set.now below.now.depth below.now.two.now below.now.one.now
+        start text) cur.old x (coder_of (state_at states.old) index None) bits.old →
+        SoFar (reading_of below.now.set.now below.now.depth below.now.two.now below.now.one.now
+        start text) cur.new after (coder_of (state_at states.new) index None) bits.new) }
+    ensures on { IfOk result (λ after. (size_of below.now.set.now
+        (beside below.now.two.now below.now.one.now cur.old x) == 0) ≡ false → x < after) }
+    ensures inside { IfOk result (λ after. after ≤ length cur.new) }
+    ensures refused { IfErr result (λ e. (start : Coder) (text : List Bool) (index : ℕ) →
+        SoFar (reading_of below.now.set.now below.now.depth below.now.two.now below.now.one.now
+        start text) cur.old x (coder_of (state_at states.old) index None) bits.old →
+        IsRefused (reading_of below.now.set.now below.now.depth below.now.two.now
+        below.now.one.now start text) cur.new e.x e.fault) }
+    ensures refused_inside { IfErr result (λ e. e.x < length cur.new) }
+    ensures samples { IfOk result (λ after. AreSamples below.now.depth x cur.old →
+        AreSamples below.now.depth after cur.new) }
+    ensures samples_before { IfErr result (λ e. AreSamples below.now.depth x cur.old →
+        AreSamples below.now.depth e.x cur.new) }
+    ensures states { AreStates below.now.depth (contexts_of below.now.set.now) states.new }
+{
+    let Below { set, two, one, .. } = *below;
+    let mut own = bits.copy();
+    let mut at = x;
+    let mut around = around_place(two, one, cur, x);
+    while at < cur.len() {
+        let (size, flip) = context_of::<A, THREE>(set, &around);
+        if size == 0 {
+            *bits = own;
+            return Ok(at);
+        }
+        let seen = Seen {
+            x: at,
+            around,
+            size,
+            flip,
+        };
+        match read_seen(&mut own, below, states, cur, &seen, false) {
+            Ok(()) => {}
+            Err(fault) => return Err(Refused { x: at, fault }),
+        }
+        at += 1;
+        if at == cur.len() {
+            *bits = own;
+            return Ok(at);
+        }
+        around = around_next(two, one, &around, cur[at - 1], at);
+    }
+    *bits = own;
+    Ok(at)
+}
+
+/// The same by the tables that the set has.
+#[inline(always)]
+fn read_plain<A: Allocator>(
+    bits: &mut Bits<'_>,
+    below: &Below<'_, A>,
+    states: &mut [u8],
+    cur: &mut [u16],
+    x: usize,
+) -> Result<usize, Refused>
+    requires depth { (below.now.depth ≡ 8) ⊎ (below.now.depth ≡ 9) }
+    requires two { length below.now.two.now ≡ length cur.old }
+    requires one { length below.now.one.now ≡ length cur.old }
+    requires inside { x < length cur.old }
+    requires long { length states.old ≡ contexts_of below.now.set.now * 32 }
+    requires states { AreStates below.now.depth (contexts_of below.now.set.now) states.old }
+    ensures ok { IfOk result (λ after. (start : Coder) (text : List Bool) (index : ℕ) →
+        SoFar (reading_of below.now.set.now below.now.depth below.now.two.now below.now.one.now
+        start text) cur.old x (coder_of (state_at states.old) index None) bits.old →
+        SoFar (reading_of below.now.set.now below.now.depth below.now.two.now below.now.one.now
+        start text) cur.new after (coder_of (state_at states.new) index None) bits.new) }
+    ensures on { IfOk result (λ after. (size_of below.now.set.now
+        (beside below.now.two.now below.now.one.now cur.old x) == 0) ≡ false → x < after) }
+    ensures inside { IfOk result (λ after. after ≤ length cur.new) }
+    ensures refused { IfErr result (λ e. (start : Coder) (text : List Bool) (index : ℕ) →
+        SoFar (reading_of below.now.set.now below.now.depth below.now.two.now below.now.one.now
+        start text) cur.old x (coder_of (state_at states.old) index None) bits.old →
+        IsRefused (reading_of below.now.set.now below.now.depth below.now.two.now
+        below.now.one.now start text) cur.new e.x e.fault) }
+    ensures refused_inside { IfErr result (λ e. e.x < length cur.new) }
+    ensures samples { IfOk result (λ after. AreSamples below.now.depth x cur.old →
+        AreSamples below.now.depth after cur.new) }
+    ensures samples_before { IfErr result (λ e. AreSamples below.now.depth x cur.old →
+        AreSamples below.now.depth e.x cur.new) }
+    ensures states { AreStates below.now.depth (contexts_of below.now.set.now) states.new }
+{
+    if below.set.has_three_tables() {
+        return read_scalars::<A, true>(bits, below, states, cur, x);
+    }
+    read_scalars::<A, false>(bits, below, states, cur, x)
 }
 
 /// How far a part of a run leads: the place after it, and whether the run goes on.
@@ -308,9 +408,9 @@ pub fn decode_row<A: Allocator>(
                 Err(refused) => return Err(refused),
             }
         } else {
-            match read_place(bits, below, states, cur, x, false) {
-                Ok(()) => x += 1,
-                Err(fault) => return Err(Refused { x, fault }),
+            match read_plain(bits, below, states, cur, x) {
+                Ok(after) => x = after,
+                Err(refused) => return Err(refused),
             }
         }
     }

@@ -1,12 +1,10 @@
 -- Reads a row of a cell of a plane.
-use Rattle.std.proofs.Common.{Err, ap}
-use Rattle.std.proofs.Common.{◌≡◌, ◌∙◌, refl, sym, ◌<◌, ◌+◌, length, arith, true≢false, None}
+use Rattle.std.proofs.Common.{◌≡◌, ◌∙◌, refl, sym, ◌<◌, length, arith, true≢false, None}
 use Rattle.ffv1_rice.specs.Kept.{state_at}
 use Rattle.ffv1_rice.specs.Row.{begins}
 use Rattle.ffv1_rice.specs.Rows.{IsRefused, Stretched, reading_of}
-use Rattle.ffv1_rice.proofs.RowPlaces.{place_refused, Entered, so_far_none, entered_on}
-use Rattle.ffv1_rice.proofs.RowPlaces.{entered_first, place_next}
-use Rattle.ffv1_rice.proofs.RowSamples.{samples_next, samples_same}
+use Rattle.ffv1_rice.proofs.RowPlaces.{Entered, so_far_none, entered_on, entered_first}
+use Rattle.ffv1_rice.proofs.RowPlaces.{off, plain_done}
 use Rattle.ffv1_rice.proofs.RowAnswers.{coded_done, coded_not_refused}
 use Rattle.ffv1_rice.proofs.RowCodes.{running_none}
 use Rattle.ffv1_rice.proofs.Rows.{row_done}
@@ -55,26 +53,26 @@ pub loop-x-preserved : goal.loop-x-preserved
 loop-x-preserved g c =
     let below = c.args.below.now in
     let l = c.loop-x in
-    let r = reading_of below.set.now below.depth below.two.now below.one.now
-    (begins (state_at c.args.states.now) c.args.index.now) c.args.bits.now in
+    let start = begins (state_at c.args.states.now) c.args.index.now in
+    let r = reading_of below.set.now below.depth below.two.now below.one.now start c.args.bits.now
+    in
     let inside : l.x < length l.cur = c.loop-x-test.true in
-    let read : Stretched r c.read_place.new.cur (l.x + 1) l.is_on (state_at c.read_place.new.states)
-    l.index c.read_place.new.bits = elim c.if-is_on.branch [
+    let read : Stretched r c.read_plain.new.cur c.in-Ok-read_plain.after l.is_on
+    (state_at c.read_plain.new.states) l.index c.read_plain.new.bits = elim c.if-is_on.branch [
       | then-is_on w ↦ absurd (true≢false (sym w.if-is_on.true ∙ sym w.value-is ∙
           c.if-first_context.false))
-      | else-is_on w ↦ place_next r l.cur c.read_place.new.cur l.x l.index l.is_on
-          (state_at l.states) (state_at c.read_place.new.states) l.bits c.read_place.new.bits
-          l.invariant.read inside w.if-is_on.false
-          (sym w.first_context.ensures ∙ sym w.value-is ∙ c.if-first_context.false)
-          c.in-Ok-read_place.ensures.agree c.in-Ok-read_place.ensures.ok
+      | else-is_on w ↦ plain_done r c.read_plain.new.cur c.in-Ok-read_plain.after l.index l.is_on
+          (state_at c.read_plain.new.states) c.read_plain.new.bits
+          (c.in-Ok-read_plain.ensures.ok start c.args.bits.now l.index
+          (off r l.cur l.x l.index l.is_on (state_at l.states) l.bits l.invariant.read inside
+          w.if-is_on.false)) w.if-is_on.false
     ] in
     record {
-      inside = omega arith;
+      inside = c.in-Ok-read_plain.ensures.inside;
       index = l.invariant.index;
       long = omega arith;
-      samples = samples_next below.depth l.x l.cur c.read_place.new.cur l.invariant.samples
-          c.in-Ok-read_place.ensures.agree c.in-Ok-read_place.ensures.sample;
-      held = c.in-Ok-read_place.ensures.states;
+      samples = c.in-Ok-read_plain.ensures.samples l.invariant.samples;
+      held = c.in-Ok-read_plain.ensures.states;
       read = read;
     }
 
@@ -95,21 +93,19 @@ returns-in-Err-clause-refused g c =
     c.in-Err.ensures.refused (begins (state_at c.args.states.now) c.args.index.now)
     c.args.bits.now entered.run entered.so_far entered.begins
 
-pub returns-in-Err-read_place-clause-refused : goal.returns-in-Err-read_place-clause-refused
-returns-in-Err-read_place-clause-refused g c =
+pub returns-in-Err-read_plain-clause-refused : goal.returns-in-Err-read_plain-clause-refused
+returns-in-Err-read_plain-clause-refused g c =
     let below = c.args.below.now in
     let l = c.loop-x in
-    let r = reading_of below.set.now below.depth below.two.now below.one.now (begins
-    (state_at c.args.states.now) c.args.index.now) c.args.bits.now in
+    let start = begins (state_at c.args.states.now) c.args.index.now in
+    let r = reading_of below.set.now below.depth below.two.now below.one.now start c.args.bits.now
+    in
     elim c.if-is_on.branch [
       | then-is_on w ↦ absurd (true≢false (sym w.if-is_on.true ∙ sym w.value-is ∙
           c.if-first_context.false))
-      | else-is_on w ↦ place_refused r l.cur c.read_place.new.cur l.x l.index l.is_on
-          (state_at l.states) l.bits c.in-Err-read_place.fault l.invariant.read c.loop-x-test.true
-          w.if-is_on.false (sym w.first_context.ensures ∙ sym w.value-is ∙
-          c.if-first_context.false) c.in-Err-read_place.ensures.agree
-          (λ is. c.in-Err-read_place.ensures.ends (ap Err is))
-          (λ is. c.in-Err-read_place.ensures.bad (ap Err is))
+      | else-is_on w ↦ c.in-Err-read_plain.ensures.refused start c.args.bits.now l.index
+          (off r l.cur l.x l.index l.is_on (state_at l.states) l.bits l.invariant.read
+          c.loop-x-test.true w.if-is_on.false)
     ]
 
 pub returns-in-Err-clause-coded : goal.returns-in-Err-clause-coded
@@ -133,30 +129,24 @@ returns-in-Err-clause-coded g c = λ row rest long codes.
     c.in-Err.ensures.refused_inside
     (c.in-Err.ensures.samples_before l.invariant.samples) refused codes)
 
-pub returns-in-Err-read_place-clause-coded : goal.returns-in-Err-read_place-clause-coded
-returns-in-Err-read_place-clause-coded g c = λ row rest long codes.
+pub returns-in-Err-read_plain-clause-coded : goal.returns-in-Err-read_plain-clause-coded
+returns-in-Err-read_plain-clause-coded g c = λ row rest long codes.
     let below = c.args.below.now in
     let l = c.loop-x in
-    let r = reading_of below.set.now below.depth below.two.now below.one.now
-    (begins (state_at c.args.states.now) c.args.index.now) c.args.bits.now in
-    let refused : IsRefused r c.read_place.new.cur l.x c.in-Err-read_place.fault =
-    elim c.if-is_on.branch [
+    let start = begins (state_at c.args.states.now) c.args.index.now in
+    let r = reading_of below.set.now below.depth below.two.now below.one.now start c.args.bits.now
+    in
+    let e = c.in-Err-read_plain.refused in
+    let refused : IsRefused r c.read_plain.new.cur e.x e.fault = elim c.if-is_on.branch [
       | then-is_on w ↦ absurd (true≢false (sym w.if-is_on.true ∙ sym w.value-is ∙
           c.if-first_context.false))
-      | else-is_on w ↦ place_refused r l.cur c.read_place.new.cur l.x l.index l.is_on
-          (state_at l.states) l.bits c.in-Err-read_place.fault l.invariant.read c.loop-x-test.true
-          w.if-is_on.false (sym w.first_context.ensures ∙ sym w.value-is ∙
-          c.if-first_context.false) c.in-Err-read_place.ensures.agree
-          (λ is. c.in-Err-read_place.ensures.ends (ap Err is))
-          (λ is. c.in-Err-read_place.ensures.bad (ap Err is))
+      | else-is_on w ↦ c.in-Err-read_plain.ensures.refused start c.args.bits.now l.index
+          (off r l.cur l.x l.index l.is_on (state_at l.states) l.bits l.invariant.read
+          c.loop-x-test.true w.if-is_on.false)
     ] in
-    absurd (coded_not_refused r c.read_place.new.cur row l.x c.in-Err-read_place.fault rest
-    c.requires.depth (running_none c.args.index.now) (omega (arith, long)) (omega (
-      arith,
-      c.loop-x-test.true,
-    ))
-    (samples_same below.depth l.x l.cur c.read_place.new.cur l.invariant.samples
-    c.in-Err-read_place.ensures.agree) refused codes)
+    absurd (coded_not_refused r c.read_plain.new.cur row e.x e.fault rest c.requires.depth
+    (running_none c.args.index.now) (omega (arith, long)) c.in-Err-read_plain.ensures.refused_inside
+    (c.in-Err-read_plain.ensures.samples_before l.invariant.samples) refused codes)
 
 pub returns-clause-coded : goal.returns-clause-coded
 returns-clause-coded g c = λ row rest long codes.

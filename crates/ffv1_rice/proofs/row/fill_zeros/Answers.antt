@@ -1,11 +1,11 @@
 -- Fills places whose differences are 0.
-use Rattle.std.proofs.Common.{◌≡◌, ◌∙◌, ap, ap₂, pos, arith, to_z, of_z, w32, to_z-of_z}
+use Rattle.std.proofs.Common.{false, sym, ◌≡◌, ◌∙◌, ap, pos, arith, to_z, of_z, w32, to_z-of_z}
 use Rattle.ffv1_plane.specs.Context.{flip_of}
 use Rattle.ffv1_plane.specs.Prediction.{predicted}
 use Rattle.ffv1_plane.specs.Residual.{sample_of}
 use Rattle.ffv1_line.specs.Beside.{beside}
 use Rattle.ffv1_rice.proofs.Rows.{agree_itself, agree_set, agree_trans}
-use Rattle.ffv1_rice.proofs.RowPlaces.{chosen_is, zero_folded}
+use Rattle.ffv1_rice.proofs.RowPlaces.{chosen_is, zero_folded, zero_made}
 use Rattle.ffv1_rice.proofs.RowPlaces.{zeros_next}
 use Rattle.ffv1_rice.proofs.RowSamples.{samples_set}
 use Rattle.ffv1_rice.proofs.row.fill_zeros.Goals as goal
@@ -29,8 +29,8 @@ loop-x-preserved g c =
     {z = c.predict.result} (record { sfits = c.predict.type_inv }) ∙ c.predict.ensures ∙
     ap predicted around in
     let made : pos sample ≡ sample_of below.depth (predicted a) (flip_of below.set.now a) (pos 0) =
-    c.sample_from.ensures.value ∙ ap₂ (λ p flip. sample_of below.depth p flip (pos 0)) prediction
-    (c.context-flip.ensures.flip ∙ ap (flip_of below.set.now) around) in
+    c.sample_from.ensures.value ∙ ap (λ p. sample_of below.depth p false (pos 0)) prediction
+    ∙ sym (zero_made below.depth (predicted a) (flip_of below.set.now a)) in
     let last = chosen_is below.set.now below.depth below.two.now below.one.now cur x sample (pos 0)
     c.requires.depth (omega arith) (zero_folded below.depth) made in
     record {

@@ -6,6 +6,7 @@ use Rattle.ffv1_rice.proofs.row.fill_zeros.Given as goal
 abbrev pub invariant-loop-x : goal.invariant-loop-x
 invariant-loop-x g l = record {
   agree : AgreeBelow l.from l.cur l.fn.cur;
-  zeros : (k : ℕ) → l.from ≤ k → k < l.x → chosen_beside l.set l.depth l.two l.one l.cur k ≡ pos 0;
+  zeros : (k : ℕ) → l.from ≤ k → k < l.x → chosen_beside l.below.set.now l.depth l.two l.one l.cur
+      k ≡ pos 0;
   samples : (k : ℕ) → l.from ≤ k → k < l.x → slice_index l.cur k < 2 ^ l.depth;
 }
