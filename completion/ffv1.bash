@@ -31,7 +31,7 @@ _ffv1() {
                 words="$words --container --codec-id --range --siting --primaries --transfer --matrix"
                 words="$words --verify --no-clobber --progress --help"
                 ;;
-            unpack) words="--from --frames --no-clobber --progress --help" ;;
+            unpack) words="--all --from --frames --no-clobber --progress --help" ;;
             check) words="--all --place --quiet --json --against --from --frames --progress --help" ;;
             show) words="--cost --help" ;;
             info) words="--count --json --help" ;;

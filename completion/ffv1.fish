@@ -32,6 +32,7 @@ complete -c ffv1 -n "__fish_seen_subcommand_from pack" -l matrix -x -d "Matrix c
 complete -c ffv1 -n "__fish_seen_subcommand_from pack" -l verify -d "Decode each frame and compare it"
 complete -c ffv1 -n "__fish_seen_subcommand_from pack" -l no-clobber -d "Refuse an output that exists"
 complete -c ffv1 -n "__fish_seen_subcommand_from pack" -l progress -d "Say how much is read"
+complete -c ffv1 -n "__fish_seen_subcommand_from unpack" -l all -d "Write the last good picture again"
 complete -c ffv1 -n "__fish_seen_subcommand_from unpack" -l from -x -d "The first frame, from 0"
 complete -c ffv1 -n "__fish_seen_subcommand_from unpack" -l frames -x -d "How many frames"
 complete -c ffv1 -n "__fish_seen_subcommand_from unpack" -l no-clobber -d "Refuse an output that exists"

@@ -65,7 +65,7 @@ COMMANDS = {
         "primaries": (number(0, 255), 2), "transfer": (number(0, 255), 2),
         "matrix": (number(0, 255), 2),
     }, flags=["verify", "no-clobber", "progress"]),
-    "unpack": Level(2, RANGE, ["no-clobber", "progress"]),
+    "unpack": Level(2, RANGE, ["all", "no-clobber", "progress"]),
     "check": Level(1, {"against": (str, None), **RANGE}, ["all", "place", "quiet", "json", "progress"],
                    math.inf),
     "show": Level(1, flags=["cost"], most=math.inf),
@@ -175,6 +175,8 @@ def words(line):
         raise Refused(found["against"])
     if level.most > 2 and is_range_refused(found, paths):
         raise Refused("--from or --frames")
+    if name == "unpack" and found.get("all") and (found.get("from") or found.get("frames")):
+        raise Refused("--all")
     choice = {name: default for name, (_, default) in level.options.items()}
     order = Order(name, paths, {**choice, **dict.fromkeys(level.flags, False), **found})
     if order.choice.get("container") == "auto" and paths[1].lower().endswith(OTHERS):

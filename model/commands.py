@@ -27,17 +27,10 @@ from packing import is_matroska, pack, pack_matroska, said_in
 from quiet import quietly
 from stream_lines import shown
 from trial import trial
+from unpacking import planes_of, salvage, unpack_ppm, unpack_y4m
 
 
 # --------------------------------------------------------------------------- unpack, check and show
-
-def planes_of(config, lines):
-    """The planes of lines that were handed over."""
-    planes = [[] for _ in range(ffv1.plane_count(config))]
-    for plane, _, samples in lines:
-        planes[plane].append(samples)
-    return planes
-
 
 ALL = {"from": 0, "frames": None}       # the range of all frames
 
@@ -61,47 +54,6 @@ def ranged(frames, choice, passed=None):
     first, count = choice["from"], choice["frames"]
     last = None if count is None else first + count
     return itertools.islice(counted(frames, [] if passed is None else passed), first, last)
-
-
-def unpack_y4m(head, config, frames, out):
-    """The canonical text of a file; own: 71 where a frame's structure or aspect is another."""
-    planes = (config.chroma, config.log2_h, config.log2_v, config.extra)
-    if files.name_of(planes, config.depth) is None:
-        raise Fault(72)
-    count, first = 0, None
-    for payload in frames:
-        decoded = ffv1.decode_frame(config, payload)
-        if decoded.fault:
-            raise decoded.fault
-        if first is None:
-            first = decoded.info
-            video = files.VideoHead(config.width, config.height, head.rate, head.scale, first[0],
-                                    first[1:], planes, depth=config.depth,
-                                    **said_in(getattr(head, "colour", {}), planes, config))
-            out(files.y4m_header(video))
-        elif decoded.info != first:
-            raise Fault(71)
-        out(files.y4m_picture(planes_of(config, decoded.lines), config.depth))
-        count += 1
-    return count
-
-
-def unpack_ppm(config, frames, out):
-    """The images of a file, of a frame at fault the rows before the fault."""
-    if config.extra:
-        raise Fault(73)
-    count = 0
-    for payload in frames:
-        decoded = ffv1.decode_frame(config, payload)
-        rows = list(zip(*planes_of(config, decoded.lines)))
-        if rows:
-            out(files.ppm_header(config.width, config.height, config.depth))
-        for row in rows:
-            out(files.ppm_line(row, config.depth))
-        if decoded.fault:
-            raise decoded.fault
-        count += 1
-    return count
 
 
 def unpack(source, out, choice=ALL):
@@ -335,11 +287,31 @@ def make(order, source, descriptors, output):
     if path != "-":
         descriptors.append(opened_output(path, order.choice["no-clobber"]))
         out, over = writer(descriptors[1], anew=True), overwriter(descriptors[1])
+    if order.command == "unpack" and order.choice["all"]:
+        return unpack_all(source, out, output if path != "-" else None)
     count, told = made(order, source, out, over)
     if path == "-":
         return told + count
     output(count)
     return told
+
+
+def unpack_all(source, out, output):
+    """Unpacks all of a file that may be damaged. Its lines are printed as they come, and then how many
+    frames there were; the first fault ends it. It answers what is printed on standard error, the lines
+    where OUT is standard output."""
+    told = []
+    data, is_matroska = input_of(source)
+    try:
+        head, config, frames, _ = opened_in(data, is_matroska, True)
+        count, first = salvage(head, config, frames, out, output or told.append)
+        (output or told.append)(f"frames {count}\n")
+        if first:
+            raise first
+    except Fault as fault:
+        fault.told = "".join(told)
+        raise
+    return "".join(told)
 
 
 def list_of(path, standard_input):
@@ -421,7 +393,7 @@ def run(line, output, standard_input=0):
     except Help:
         return 0, None
     except Fault as fault:
-        return 1, f"ffv1: {fault}\n"
+        return 1, getattr(fault, "told", "") + f"ffv1: {fault}\n"
 
 
 def refused_words(line):

@@ -353,7 +353,7 @@ def file_line(dice):
                          ["info", "in", "--count"]])
     if words[0] != "unpack" and dice.random() < 0.2:
         words = words + dice.choice([["in"], ["no", "in"], ["out", "in"], ["-"], ["./in", ""]])
-    if words[0] == "check" and dice.random() < 0.4:
+    if dice.random() < {"check": 0.4, "unpack": 0.25}.get(words[0], 0):
         words = [words[0], "--all", *words[1:]]
     if words[0] == "check" and dice.random() < 0.2:
         words = [words[0], dice.choice(["--quiet", "--json"]), *words[1:]]

@@ -3,13 +3,13 @@
 the formats. `check.py` asks them of the model, and `tests/commands` of the built program.
 """
 from known_answers import containers, damaged, depths, infos, lines, lists, matroska_commands
-from known_answers import objects, offsets, payloads, ranges, riffs, shared_chroma, shown, sums, texts
-from known_answers import unpacking
+from known_answers import objects, offsets, payloads, ranges, riffs, salvaging, shared_chroma, shown
+from known_answers import sums, texts, unpacking
 
 
 def cases():
     """All of them."""
-    for subject in [texts, payloads, unpacking, containers, riffs, shown, lines, lists,
+    for subject in [texts, payloads, unpacking, salvaging, containers, riffs, shown, lines, lists,
                     matroska_commands, depths, sums, offsets, damaged, shared_chroma, ranges,
                     objects, infos]:
         for group in subject.CASES:

@@ -10,6 +10,9 @@ use Rattle.ffv1_pack.specs.PackMatroska.{AsksMatroska, PacksMatroska, RefusesMat
 use Rattle.ffv1_pack.specs.declared.matroska_packing.PackedMatroska.{PackedMatroska}
 use Rattle.ffv1_pack.specs.declared.packing.Packed.{Packed}
 use Rattle.ffv1_unpack.specs.Unpack.{UnpackRangeDone, UnpackRangeStops}
+use Rattle.ffv1_unpack.specs.UnpackAll.{UnpackAllDone, UnpackAllStops}
+use Rattle.ffv1_unpack.specs.declared.judging.JudgedCounts.{JudgedCounts}
+use Rattle.ffv1.specs.Opened.{judged}
 use Rattle.ffv1_video.specs.declared.profile.Profile.TheVariants as profile
 use Rattle.ffv1_orders.specs.Looked.{Outcome}
 use Rattle.ffv1_orders.specs.Statuses.{IsFault}
@@ -66,10 +69,22 @@ UnpacksInto range input output answer = MatchResult answer
     (UnpackRangeDone profile.Wide range input output)
     (IsFault (UnpackRangeStops profile.Wide range input output))
 
+-- all of a file that may be damaged is, with lines of its faults
+abbrev pub UnpacksAll : Passage → Passage → Passage → Result JudgedCounts Refusal → Type 0
+UnpacksAll input lines output answer = MatchResult answer
+    (UnpackAllDone profile.Wide input lines output)
+    (IsFault (UnpackAllStops profile.Wide input lines output))
+
 -- what was answered comes of it, unless a success is not told
 abbrev pub ToldOf : {A : Type 0} → Result A Refusal → Outcome → Type 0
 ToldOf (Ok done) outcome = IfErr outcome IsUntold
 ToldOf (Err r) outcome = outcome ≡ Err r
+
+-- the first fault comes of it, unless it is not told how many frames there are
+abbrev pub AllToldOf : Result JudgedCounts Refusal → Outcome → Type 0
+AllToldOf (Ok counts) outcome =
+    (outcome ≡ judged (Ok counts.first)) ⊎ ((r : Refusal) × (outcome ≡ Err r) × IsUntold r)
+AllToldOf (Err r) outcome = outcome ≡ Err r
 
 -- by which readers are of the file that was opened and which writers of the one that was made, why
 -- they could not be, and what readers give and writers hold
@@ -96,3 +111,14 @@ module _ {R W : Type 0} (opens : R → Type 0) (makes : W → Type 0) (refuses :
   UnpacksIn range outcome = OfFiles (λ input begin end. (answer : Result ℕ Refusal)
       × UnpacksInto range input (passage contents writes_failed begin end) answer
       × ToldOf answer outcome) outcome
+
+  abbrev pub UnpacksAllIn : Outcome → Type 0
+  UnpacksAllIn outcome = OfFiles (λ input begin end. (lines : Passage)
+      × (answer : Result JudgedCounts Refusal)
+      × UnpacksAll input lines (passage contents writes_failed begin end) answer
+      × AllToldOf answer outcome) outcome
+
+  -- all of it, or frames of it
+  abbrev pub UnpacksBy : Bool → FrameRange → Outcome → Type 0
+  UnpacksBy true range = UnpacksAllIn
+  UnpacksBy false range = UnpacksIn range

@@ -19,7 +19,7 @@ use std::io;
 
 /// What becomes of an order whose frames were all judged: the first fault of one that is refused is
 /// its own.
-fn judged(first: Option<Fault>) -> Result<(), Refusal>
+pub(crate) fn judged(first: Option<Fault>) -> Result<(), Refusal>
     ensures value { result ≡ judged (Ok first) }
     ensures sound { first ≡ None → IsOk result }
     ensures refused { (f : Fault) → first ≡ Some f → result ≡ Err (refusal.Fault f) }

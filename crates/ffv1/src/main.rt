@@ -6,7 +6,7 @@
 ghost use Rattle.std.specs.Prelude.{◌≡◌, ◌≤◌, IfErr, IfOk, false, true};
 ghost use Rattle.std.specs.Process.{exit_status};
 ghost use Rattle.ffv1.specs.Against.{TellsIn};
-ghost use Rattle.ffv1.specs.Made.{PacksIn, UnpacksIn};
+ghost use Rattle.ffv1.specs.Made.{PacksIn, UnpacksBy};
 ghost use Rattle.ffv1.specs.Opened.{LooksIn, PrintsIn, ShowsIn, TriesIn};
 ghost use Rattle.ffv1_orders.specs.Orders.{names_files};
 ghost use Rattle.ffv1_orders.specs.Statuses.{IsAnyFault, IsFault, IsStatus, makes_file};
@@ -30,7 +30,7 @@ use ffv1_orders::{
 use ffv1_wire::{ToWrite, read_byte};
 use ffv1_words::{Choice, ContainerChoice, FrameRange, Order, words};
 use infos::run_info;
-use making::{run_pack, run_unpack};
+use making::{run_pack, run_unpack, run_unpack_all};
 use std::alloc::Global;
 use std::io::Input;
 use std::process::ExitCode;
@@ -139,10 +139,10 @@ impl<R: Print + Eprint, O: Opens + Tells> Doer for BySystem<'_, R, O> {
         O.Writer.failures O.Writer.overwrites (is_matroska container files.output.now) choice
         outcome };
 
-    ghost unpacks = { λ s files range outcome t. (t ≡ s)
-        × UnpacksIn (O.opens s.opener files.input.now) (O.makes s.opener files.output.now)
+    ghost unpacks = { λ s files range all outcome t. (t ≡ s)
+        × UnpacksBy (O.opens s.opener files.input.now) (O.makes s.opener files.output.now)
         (O.refuses s.opener files) O.Reader.remaining O.Reader.failures O.Writer.contents
-        O.Writer.failures range outcome };
+        O.Writer.failures all range outcome };
 
     ghost compares = { λ s comparing outcome t. (t ≡ s)
         × TellsIn (O.lists s.opener comparing.list.now) (O.lacks s.opener comparing.list.now)
@@ -167,7 +167,10 @@ impl<R: Print + Eprint, O: Opens + Tells> Doer for BySystem<'_, R, O> {
         run_pack(&*self, files, container, choice)
     }
 
-    fn unpack(&mut self, files: &Making<'_>, range: FrameRange) -> Result<(), Refusal> {
+    fn unpack(&mut self, files: &Making<'_>, range: FrameRange, all: bool) -> Result<(), Refusal> {
+        if all {
+            return run_unpack_all(&*self, files);
+        }
         run_unpack(&*self, files, range)
     }
 

@@ -3,14 +3,16 @@
 ghost use Rattle.std.specs.Prelude.{◌≡◌, IfErr};
 ghost use Rattle.ffv1_words.specs.Order.{is_matroska};
 ghost use Rattle.ffv1_orders.specs.Telling.{IsUntold};
-ghost use Rattle.ffv1.specs.Made.{PacksIn, UnpacksIn};
+ghost use Rattle.ffv1.specs.Made.{PacksIn, UnpacksAllIn, UnpacksIn};
 ghost use Rattle.ffv1_orders.specs.Statuses.{IsAnyFault, IsMakingRefusal};
 ghost use Rattle.ffv1_orders.specs.declared.refusal.Refusal.TheVariants as refusal;
 ghost use Rattle.ffv1_video.specs.declared.fault.Fault.TheVariants as fault;
 
 use crate::BySystem;
-use crate::streams::{Counts, pack_into, unpack_stream};
-use ffv1_orders::{Making, Met, Notes, Opens, Refusal, tell_notes};
+use crate::checking::judged;
+use crate::streams::{Counts, pack_into, unpack_all_stream, unpack_stream};
+use ffv1_orders::{Making, Met, Noted, Notes, Opens, Refusal, beside, tell_notes};
+use ffv1_wire::ToWrite;
 use ffv1_words::{Choice, ContainerChoice, FrameRange, is_hyphen};
 
 /// Prints a count: on standard output, or on standard error if the output itself goes there.
@@ -114,6 +116,29 @@ pub fn run_unpack<R: Print + Eprint, O: Opens>(
     let (_written, answer) = unpack_stream(system.alloc, &mut reader, writer, range);
     match answer {
         Ok(frames) => tell_unpacked(system, files, frames),
+        Err(refusal) => Err(refusal),
+    }
+}
+
+/// Unpacks all of a file that may be damaged into a text of its pictures, and prints a line of each
+/// fault, and then how many frames there are. What becomes of it is the first fault.
+pub fn run_unpack_all<R: Print + Eprint, O: Opens>(
+    system: &BySystem<'_, R, O>,
+    files: &Making<'_>,
+) -> Result<(), Refusal>
+    ensures unpacks { UnpacksAllIn (O.opens system.now.opener files.now.input.now)
+        (O.makes system.now.opener files.now.output.now) (O.refuses system.now.opener files.now)
+        O.Reader.remaining O.Reader.failures O.Writer.contents O.Writer.failures result }
+    ensures refused { IfErr result (IsMakingRefusal files.now.no_clobber) }
+{
+    let (mut reader, output) = system.opener.make(files)?;
+    let mut lines = ToWrite::new(Noted::new(system.met, beside(system.rt, files.output)));
+    let (_written, answer) = unpack_all_stream(system.alloc, &mut reader, &mut lines, output);
+    match answer {
+        Ok(counts) => {
+            tell_unpacked(system, files, counts.frames)?;
+            judged(counts.first)
+        }
         Err(refusal) => Err(refusal),
     }
 }

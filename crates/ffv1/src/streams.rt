@@ -8,6 +8,7 @@ ghost use Rattle.ffv1_pack.specs.PackMatroska.{PacksMatroska, RefusesMatroska};
 ghost use Rattle.ffv1_unpack.specs.Check.{IsCheckFault};
 ghost use Rattle.ffv1_unpack.specs.Show.{IsShowFault};
 ghost use Rattle.ffv1_unpack.specs.Unpack.{UnpackRangeDone, UnpackRangeStops};
+ghost use Rattle.ffv1.specs.Made.{UnpacksAll};
 ghost use Rattle.ffv1_words.specs.Order.{leaves_out};
 ghost use Rattle.ffv1_video.specs.declared.profile.Profile.TheVariants as profile;
 ghost use Rattle.ffv1.specs.Made.{AsksInto, PacksAsked, PacksInto};
@@ -15,8 +16,8 @@ ghost use Rattle.ffv1_orders.specs.Statuses.{IsAnyFault, IsFault};
 ghost use Rattle.ffv1.specs.Streams.{Checks, Informs, Shows, Tries, WritesFrames, WritesMd5s};
 
 use ffv1_engine::{
-    Fault, Packed, PackedMatroska, Profile, check_all, check_all_range, check_range,
-    framemd5_range, framemd5_text, pack, pack_matroska, show, trial, unpack_range,
+    Fault, JudgedCounts, Packed, PackedMatroska, Profile, check_all, check_all_range, check_range,
+    framemd5_range, framemd5_text, pack, pack_matroska, show, trial, unpack_all, unpack_range,
 };
 use ffv1_info::info;
 use ffv1_orders::Refusal;
@@ -158,6 +159,29 @@ pub fn unpack_stream<R: ByteIn, W: ByteOut>(
     match answer {
         Ok(count) => (output, Ok(count)),
         Err(fault) => (output, Err(Refusal::Fault(fault))),
+    }
+}
+
+/// Unpacks all of a file that may be damaged into a text of its pictures, and writes a line of each
+/// fault. Answers the writer, how many frames and faults there are, and the first fault.
+pub fn unpack_all_stream<R: ByteIn, L: ByteOut, W: ByteOut>(
+    alloc: Global,
+    input: &mut R,
+    lines: &mut L,
+    output: W,
+) -> (W, Result<JudgedCounts, Refusal>)
+    ensures unpacks { UnpacksAll (passage R.remaining R.failures input.old input.new)
+        (passage L.contents L.failures lines.old lines.new)
+        (passage W.contents W.failures output result.0) result.1 }
+    ensures fault { IfErr result.1 IsAnyFault }
+{
+    let (output, answer) = unpack_all(alloc, Profile::Wide, input, lines, output);
+    match answer {
+        Ok(counts) => (output, Ok(counts)),
+        Err(fault) => {
+            let refusal = Refusal::Fault(fault);
+            (output, Err(refusal))
+        }
     }
 }
 

@@ -7,7 +7,7 @@
 //! every `movi` of every RIFF. Then `AviReader::head` tells its head, and each
 //! `AviReader::next_frame` gives the next frame, until it answers false. A reader holds no input:
 //! each call is lent the same one. `FileFault` says why a file could not be read or written. The
-//! test `read_back` of `ffv1_tests` runs this:
+//! test `read_back` of `ffv1_file_tests` runs this:
 //!
 //! ```text
 //! let mut reader = AviReader::open(rt.alloc(), &mut input)?;

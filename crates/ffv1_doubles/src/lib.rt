@@ -9,8 +9,10 @@
 //! ```
 #![tactic(auto)]
 
+pub mod made;
 mod memory;
 mod reader;
+pub mod riffs;
 mod writer;
 
 pub use memory::Scarce;

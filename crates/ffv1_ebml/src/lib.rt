@@ -12,7 +12,7 @@
 //! ID; `number` and `text` read what it holds, and `judge` judges a CRC-32. Nothing is copied.
 //!
 //! `short_header`, `long_header`, `unknown_header` and `spelled_number` spell elements. `laws` says
-//! that what is spelled is read, and found. The tests `ebml` of `ffv1_tests` run this:
+//! that what is spelled is read, and found. The tests `ebml` of `ffv1_file_tests` run this:
 //!
 //! ```text
 //! let mut sum = Sum::Absent;

@@ -25,8 +25,9 @@ pub use ffv1_pack::{
     Coded, Packed, PackedMatroska, code_plane, framemd5_text, laws, pack, pack_matroska, trial,
 };
 pub use ffv1_unpack::{
-    ListFault, Unlike, check, check_against, check_all, check_all_range, check_range, frame_line,
-    framemd5, framemd5_range, player, read_list, show, unpack, unpack_range,
+    JudgedCounts, ListFault, Unlike, check, check_against, check_all, check_all_range, check_range,
+    frame_line, framemd5, framemd5_range, player, read_list, show, unpack, unpack_all,
+    unpack_range,
 };
 pub use ffv1_video::{Fault, Profile};
 pub use ffv1_words::{

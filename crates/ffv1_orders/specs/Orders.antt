@@ -35,7 +35,7 @@ abbrev pub Packing : Type 0 → Type 1
 Packing D = D → Making → ContainerChoice → Choice → Outcome → D → Type 0
 
 abbrev pub Unpacking : Type 0 → Type 1
-Unpacking D = D → Making → FrameRange → Outcome → D → Type 0
+Unpacking D = D → Making → FrameRange → Bool → Outcome → D → Type 0
 
 abbrev pub ComparingOf : Type 0 → Type 1
 ComparingOf D = D → Comparing → Outcome → D → Type 0
@@ -160,8 +160,8 @@ looks_at_files o = false
 abbrev pub DoesOrder : {D E : Type 0} → Doing D → D → Order → Result ℕ E → D → Type 0
 DoesOrder does s (order.Pack input output choice container no_clobber progress) status t =
     Does (does.packs s (making input output no_clobber progress) container choice) status t
-DoesOrder does s (order.Unpack input output no_clobber progress range) status t =
-    Does (does.unpacks s (making input output no_clobber progress) range) status t
+DoesOrder does s (order.Unpack input output no_clobber progress range all) status t =
+    Does (does.unpacks s (making input output no_clobber progress) range all) status t
 DoesOrder does s (order.Check inputs all place quiet json progress against range) status t =
     ChecksAll does s (checking all place (telling_of quiet json) progress range) against
     inputs.now status t

@@ -47,7 +47,7 @@ IsComparingRefusal (refusal.List line) = Unit {0}
 -- whether an order makes a file
 abbrev pub makes_file : Order → Bool
 makes_file (order.Pack input output choice container no_clobber progress) = true
-makes_file (order.Unpack input output no_clobber progress range) = true
+makes_file (order.Unpack input output no_clobber progress range all) = true
 makes_file o = false
 
 -- the exit status of an order: 2 is one for orders that make a file alone

@@ -131,7 +131,7 @@ pub static ROWS: [&str; 66] = [
      stopped, and give it a picture; give a lesser --from.",
     "71 FormatChanged\n  A later image of PPM has another size or depth; in unpack a later \
      frame's structure or aspect are not those of the header.\n  Pack images of one size and \
-     depth; for unpack, check still decodes all frames.",
+     depth; for unpack, check still decodes all frames, and unpack --all writes them all.",
     "72 NoY4mName\n  unpack: YUV4MPEG2 has no name for the chroma, or for it at this depth.\n  \
      check decodes it; another program may convert.",
     "73 NoPpm\n  unpack: RCT has a plane of transparency, which PPM has not.\n  check decodes it; \

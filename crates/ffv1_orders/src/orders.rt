@@ -77,9 +77,9 @@ pub trait Doer {
         ensures packs { packs self.old files.now container choice.now result self.new }
         ensures refused { IfErr result (IsMakingRefusal files.now.no_clobber) };
 
-    /// Unpacks frames of a file into a text.
-    fn unpack(&mut self, files: &Making<'_>, range: FrameRange) -> Result<(), Refusal>
-        ensures unpacks { unpacks self.old files.now range result self.new }
+    /// Unpacks frames of a file into a text; with `all` all of one that may be damaged.
+    fn unpack(&mut self, files: &Making<'_>, range: FrameRange, all: bool) -> Result<(), Refusal>
+        ensures unpacks { unpacks self.old files.now range all result self.new }
         ensures refused { IfErr result (IsMakingRefusal files.now.no_clobber) };
 
     /// Compares a file with a list of MD5s. Answers also the path of what is refused.
@@ -205,12 +205,13 @@ fn unpack_file<D: Doer>(
     doer: D,
     files: &Making<'_>,
     range: FrameRange,
+    all: bool,
 ) -> (D, io::Result<u8>)
-    ensures does { Does (D.unpacks doer files.now range) result.1 result.0 }
+    ensures does { Does (D.unpacks doer files.now range all) result.1 result.0 }
     ensures status { IfOk result.1 (IsStatus true) }
 {
     let mut doer = doer;
-    let done = doer.unpack(files, range);
+    let done = doer.unpack(files, range, all);
     (doer, tell(rt, met, files.paths(), done))
 }
 
@@ -278,9 +279,10 @@ pub fn run_order<D: Doer>(
             no_clobber,
             progress,
             range,
+            all,
         } => {
             let files = Making::new(input, output, no_clobber, progress);
-            unpack_file(rt, met, doer, &files, range)
+            unpack_file(rt, met, doer, &files, range, all)
         }
         Order::Check {
             inputs,
@@ -292,8 +294,7 @@ pub fn run_order<D: Doer>(
             against,
             range,
         } => {
-            let told = Telling::new(quiet, json);
-            let checking = Checking::new(all, place, told, progress, range);
+            let checking = Checking::new(all, place, Telling::new(quiet, json), progress, range);
             check_all(rt, met, doer, checking, inputs, against)
         }
         Order::Show { .. } | Order::Info { .. } | Order::FrameMd5 { .. } | Order::Trial { .. } => {

@@ -1,5 +1,5 @@
 // SPDX-License-Identifier: MIT OR Apache-2.0
-//! Tests of each crate by what it makes public, and those that cross crates.
+//! Tests of commands and Matroska, by what each crate makes public, and of all together.
 #![tactic(auto)]
 
 #[cfg(test)]

@@ -1,41 +1,20 @@
-//! Tests of each crate by what it makes public, and those that cross crates.
+//! Tests of commands and Matroska, by what each crate makes public, and of all together.
 
-mod avi;
 mod checks;
-mod decoded;
-mod depths;
-mod ebml;
-mod encoded;
-mod endings;
 mod faults;
-mod frames;
 mod infos;
 mod judged;
-mod lanes;
-mod line;
 mod lists;
-mod made;
 mod matroska;
 mod orders;
-mod overlaps;
 mod packs;
-mod pictures;
-mod plane;
 mod profiles;
-mod range;
 mod ranges;
-mod rct;
-mod record;
 mod refusals;
-mod rice;
+mod salvages;
 mod shows;
-mod slice;
 mod strangers;
-mod sum;
 mod sums;
 mod trials;
 mod turns;
 mod unpacks;
-mod wide;
-mod wire;
-mod y4m;

@@ -47,7 +47,7 @@ module _ (profile : Profile) (i0 i1 i2 : Option (List ℕ)) (ib im ia : ℕ) (r 
   begins (Some file) (Some rest) known whole = (known, whole)
 
   -- what a file has after its head is what the file has
-  has_file : (is : List Given) (Next : ItemsNext) → Known i1 i2 (ItemsFrom r.place (course_of r) is Next) → Known i0 i2 (ItemsThen profile r.head is Next)
+  pub has_file : (is : List Given) (Next : ItemsNext) → Known i1 i2 (ItemsFrom r.place (course_of r) is Next) → Known i0 i2 (ItemsThen profile r.head is Next)
   has_file is Next has =
       known_map i0 i2 (λ file rest. (left : List ℕ) × Begins file left × ItemsFrom r.place (course_of r) is Next left rest) (ItemsThen profile r.head is Next)
       (λ file rest p. (r.place, r.offset, p.0, p.1.0, p.1.1, p.2))

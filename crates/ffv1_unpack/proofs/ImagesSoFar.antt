@@ -27,7 +27,7 @@ use Rattle.ffv1_unpack.proofs.FramesPlayed.{none_yet}
 use Rattle.ffv1_unpack.proofs.FramesUnpacked.{Unpacked, goes_to, none_unpacked, unpacks_over, unpacks_more, unpacks_on}
 
 -- the text grows by the next image
-text_more : (s : Stream) (frames : List Frame) (f : Frame) →
+pub text_more : (s : Stream) (frames : List Frame) (f : Frame) →
     ppm_text s (frames ++ (f ∷ [])) ≡ ppm_text s frames ++ image_text s.accepted.configuration.depth s.accepted.configuration.width s.accepted.configuration.height f.planes
 text_more s [] f = append-nil (image_text s.accepted.configuration.depth s.accepted.configuration.width s.accepted.configuration.height f.planes)
 text_more s (g ∷ gs) f =

@@ -33,11 +33,11 @@ use Rattle.ffv1_video.specs.declared.fault.Fault.{Fault}
 use Rattle.ffv1_video.specs.Faults.{Cause, cause_of, of_codec}
 use Rattle.ffv1_video.specs.Faults.Cause.{Reading, Writing, Memory, Content}
 use Rattle.ffv1_unpack.specs.Internal.ImagesOut.{ImageFaults, ImageStopsBy, IsSinkFor, RowCut, rows_so_far}
-use Rattle.ffv1_codec.specs.Outcome.{FaultsOf}
+use Rattle.ffv1_codec.specs.Outcome.{FaultsOf, OffersLine}
 use Rattle.ffv1_codec.specs.Outcome.{lines_before}
 use Rattle.ffv1_unpack.specs.Internal.Play.{ReadsPayload}
 use Rattle.ffv1_unpack.specs.Internal.Told.{FileStopsBy}
-use Rattle.ffv1_video.specs.Output.{Silent}
+use Rattle.ffv1_video.specs.Output.{Silent, WritesUpTo}
 use Rattle.ffv1_unpack.proofs.ImageLines.{IsImage}
 use Rattle.ffv1_unpack.proofs.FrameDecoded.{same_fault}
 use Rattle.ffv1_video.proofs.Output.{silent, take_past}
@@ -113,6 +113,50 @@ module _ {W : Type 0} (contents : W → Option (List ℕ)) (failed : W → ℕ) 
   line_long c s p y samples is wide line =
       line.long ∙ ap (λ n. sample_bytes c.depth * n) wide ∙ bytes_are c.depth c.width ∙ sym (ap₂ (λ d w. bytes_for d w) is.depth is.width)
 
+  -- the sink refused the line that came next: its row was not written whole
+  module _ (a : Accepted) (payload : List ℕ) (s u : PpmSink W) (tally : Tally) (f : FrameFault) (is : IsSinkFor a.configuration s) (r : Refused taking (Refuses contents failed) a payload s u tally f) where
+    abbrev pub next_line : Line
+    next_line = record { plane = r.sink.plane; row = top_of a.configuration r.sink.plane r.sink.row + r.sink.line; samples = get_or r.sink.state.out r.sink.number [] }
+
+    pub row_written : Appends (contents s.out) (contents r.sink.between.out) (sink_text s r.sink.state.lines) → failed r.sink.between.out ≡ failed s.out →
+        AppendsBeginning (contents r.sink.between.out) (contents u.out) (line_text r.sink.between (get_or r.sink.state.out r.sink.number [])) → failed u.out ≡ one_more (failed r.sink.between.out) →
+        OffersLine a payload r.sink.state.lines next_line × (failed u.out ≡ one_more (failed s.out))
+        × WritesUpTo (contents s.out) (contents u.out) (length (rows_so_far a.configuration r.sink.state.lines)) (rows_so_far a.configuration (r.sink.state.lines ++ (next_line ∷ [])))
+    row_written before same cut fails =
+        let c = a.configuration in
+        let lines = r.sink.state.lines in
+        let o = contents s.out in
+        let n = contents u.out in
+        let rows = rows_so_far c lines in
+        let last = line_text r.sink.between (get_or r.sink.state.out r.sink.number []) in
+        let all : rows_so_far c (lines ++ (next_line ∷ [])) ≡ rows ++ last = sym (rows_are c s (lines ++ (next_line ∷ [])) is) ∙ line_more s r.sink.between lines next_line r.sink.grows ∙ ap (λ z. z ++ last) (rows_are c s lines is) in
+        let whole : length (rows ++ last) ≡ length rows + length last = length-append rows last in
+        let few : length rows + cut.0 < length (rows ++ last) = omega (arith, whole, cut.1) in
+        let enough : length rows ≤ length rows + cut.0 = omega arith in
+        let first = subst (Appends o (contents r.sink.between.out)) (rows_are c s lines is) before in (
+          record {
+            offsets = r.offsets;
+            cut = r.cut;
+            state = r.sink.state;
+            row = r.sink.row;
+            number = r.sink.number;
+            plane = r.sink.plane;
+            line = r.sink.line;
+            offers = r.sink.offers;
+            lines_are = refl;
+            next_is = refl;
+          },
+          fails ∙ ap one_more same,
+          record {
+            count = length rows + cut.0;
+            enough = enough;
+            short = subst (λ t. length rows + cut.0 < length t) (sym all) few;
+            writes =
+                subst (λ t. Appends o n (take (length rows + cut.0) t)) (sym all)
+                (subst (Appends o n) (sym (take_past rows last cut.0)) (Appends-trans o (contents r.sink.between.out) n rows (take cut.0 last) first cut.2));
+          },
+        )
+
   module _ (a : Accepted) (from to : Place) (input : Passage) (payload : List ℕ) (reads : ReadsPayload from to payload input) (s u : PpmSink W) (tally : Tally) (f : FrameFault) (is : IsSinkFor a.configuration s) where
     pub image_faults : (h : Faulty taking (Refuses contents failed) a payload s u tally f) → cause_of (of_codec f.fault) ≡ Content → Appends (contents s.out) (contents u.out) (sink_text s (lines_before h.faulty)) → failed u.out ≡ failed s.out →
         ImageFaults a from to input (between (contents s.out) (contents u.out) (failed s.out) (failed u.out)) (of_codec f.fault)
@@ -123,50 +167,19 @@ module _ {W : Type 0} (contents : W → Option (List ℕ)) (failed : W → ℕ) 
     }
 
     module _ (r : Refused taking (Refuses contents failed) a payload s u tally f) where
-      abbrev pub next_line : Line
-      next_line = record { plane = r.sink.plane; row = top_of a.configuration r.sink.plane r.sink.row + r.sink.line; samples = get_or r.sink.state.out r.sink.number [] }
-
       pub row_cut : Appends (contents s.out) (contents r.sink.between.out) (sink_text s r.sink.state.lines) → failed r.sink.between.out ≡ failed s.out →
           AppendsBeginning (contents r.sink.between.out) (contents u.out) (line_text r.sink.between (get_or r.sink.state.out r.sink.number [])) → failed u.out ≡ one_more (failed r.sink.between.out) →
           RowCut a from to input (between (contents s.out) (contents u.out) (failed s.out) (failed u.out))
       row_cut before same cut fails =
-          let c = a.configuration in
-          let lines = r.sink.state.lines in
-          let o = contents s.out in
-          let n = contents u.out in
-          let rows = rows_so_far c lines in
-          let last = line_text r.sink.between (get_or r.sink.state.out r.sink.number []) in
-          let all : rows_so_far c (lines ++ (next_line ∷ [])) ≡ rows ++ last = sym (rows_are c s (lines ++ (next_line ∷ [])) is) ∙ line_more s r.sink.between lines next_line r.sink.grows ∙ ap (λ z. z ++ last) (rows_are c s lines is) in
-          let whole : length (rows ++ last) ≡ length rows + length last = length-append rows last in
-          let few : length rows + cut.0 < length (rows ++ last) = omega (arith, whole, cut.1) in
-          let enough : length rows ≤ length rows + cut.0 = omega arith in
-          let first = subst (Appends o (contents r.sink.between.out)) (rows_are c s lines is) before in
+          let row = row_written a payload s u tally f is r before same cut fails in
           record {
             payload = payload;
-            lines = lines;
-            next = next_line;
+            lines = r.sink.state.lines;
+            next = next_line a payload s u tally f is r;
             reads = reads;
-            hands = record {
-              offsets = r.offsets;
-              cut = r.cut;
-              state = r.sink.state;
-              row = r.sink.row;
-              number = r.sink.number;
-              plane = r.sink.plane;
-              line = r.sink.line;
-              offers = r.sink.offers;
-              lines_are = refl;
-              next_is = refl;
-            };
-            written = fails ∙ ap one_more same;
-            writes = record {
-              count = length rows + cut.0;
-              enough = enough;
-              short = subst (λ t. length rows + cut.0 < length t) (sym all) few;
-              writes =
-                  subst (λ t. Appends o n (take (length rows + cut.0) t)) (sym all)
-                  (subst (Appends o n) (sym (take_past rows last cut.0)) (Appends-trans o (contents r.sink.between.out) n rows (take cut.0 last) first cut.2));
-            };
+            hands = row.0;
+            written = row.1;
+            writes = row.2;
           }
 
   -- a whole image

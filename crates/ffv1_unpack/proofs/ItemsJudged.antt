@@ -44,7 +44,7 @@ frames_after : (x : JudgedItem) (js ks : List Judged) → with_frame x (js ++ ks
 frames_after (OfFrame j) js ks = refl
 frames_after (ToldAt f offset) js ks = refl
 
-frames_more : (xs : List JudgedItem) (x : JudgedItem) → frames_of (xs ++ (x ∷ [])) ≡ frames_of xs ++ with_frame x []
+pub frames_more : (xs : List JudgedItem) (x : JudgedItem) → frames_of (xs ++ (x ∷ [])) ≡ frames_of xs ++ with_frame x []
 frames_more [] x = refl
 frames_more (y ∷ ys) x = ap (with_frame y) (frames_more ys x) ∙ frames_after y (frames_of ys) (with_frame x [])
 
@@ -123,12 +123,12 @@ items_more from c text [] to d at x last e rest h next = (
 )
 items_more from c text (y ∷ ys) to d at x last e rest h next = (h.0, h.1, h.2, h.3, items_more h.0 h.1 h.2 ys to d at x last e rest h.4 next)
 
-items_none : (from : Place) (c : Course) (o : Option (List ℕ)) → Known o o (λ bytes rest. ReadsItems from c bytes [] from c rest)
+pub items_none : (from : Place) (c : Course) (o : Option (List ℕ)) → Known o o (λ bytes rest. ReadsItems from c bytes [] from c rest)
 items_none from c None = tt
 items_none from c (Some text) = (refl, refl, refl)
 
 module _ (from to last : Place) (c d e : Course) where
-  reads_more : (o m n : Option (List ℕ)) (xs : List JudgedItem) (x : JudgedItem) → Known o m (λ bytes rest. ReadsItems from c bytes (map given_as xs) to d rest) →
+  pub reads_more : (o m n : Option (List ℕ)) (xs : List JudgedItem) (x : JudgedItem) → Known o m (λ bytes rest. ReadsItems from c bytes (map given_as xs) to d rest) →
       Known m n (λ text rest. item_read to d text ≡ Ok (Some (given_as x, last, e), rest)) → Known o n (λ bytes rest. ReadsItems from c bytes (map given_as (xs ++ (x ∷ []))) last e rest)
   reads_more None m n xs x h next = tt
   reads_more (Some text) None n xs x h next = absurd h
@@ -137,15 +137,15 @@ module _ (from to last : Place) (c d e : Course) where
 
 -- first these, and then this
 module _ (from to : Place) (c d : Course) (o : Option (List ℕ)) (is : List Given) where
-  has_then : (m n : Option (List ℕ)) (Next : ItemsNext) → Known o m (λ bytes rest. ReadsItems from c bytes is to d rest) → Known m n (Next to d) → Known o n (ItemsFrom from c is Next)
+  pub has_then : (m n : Option (List ℕ)) (Next : ItemsNext) → Known o m (λ bytes rest. ReadsItems from c bytes is to d rest) → Known m n (Next to d) → Known o n (ItemsFrom from c is Next)
   has_then m n Next read next =
       known_map o n (λ bytes rest. (left : List ℕ) × ReadsItems from c bytes is to d left × Next to d left rest) (ItemsFrom from c is Next) (λ bytes rest p. (to, d, p.0, p.1, p.2))
       (known_then o m n (λ bytes rest. ReadsItems from c bytes is to d rest) (Next to d) read next)
 
-  has_stays : (n : Option (List ℕ)) → Known o n (λ bytes rest. ReadsItems from c bytes is to d rest) → Known o n (ItemsFrom from c is ItemsStay)
+  pub has_stays : (n : Option (List ℕ)) → Known o n (λ bytes rest. ReadsItems from c bytes is to d rest) → Known o n (ItemsFrom from c is ItemsStay)
   has_stays n read = known_map o n (λ bytes rest. ReadsItems from c bytes is to d rest) (ItemsFrom from c is ItemsStay) (λ bytes rest r. (to, d, rest, r, refl)) read
 
-  has_many : (n : Option (List ℕ)) (count : ℕ) → count ≡ 2 ^ 64 - 1 → Known o n (λ bytes rest. ReadsItems from c bytes is to d rest) → Known o n (ItemsFrom from c is (ItemsOver count))
+  pub has_many : (n : Option (List ℕ)) (count : ℕ) → count ≡ 2 ^ 64 - 1 → Known o n (λ bytes rest. ReadsItems from c bytes is to d rest) → Known o n (ItemsFrom from c is (ItemsOver count))
   has_many n count many read =
       known_map o n (λ bytes rest. ReadsItems from c bytes is to d rest) (ItemsFrom from c is (ItemsOver count)) (λ bytes rest r. (to, d, rest, r, inr (many, refl))) read
 

@@ -32,3 +32,8 @@ mod Md5Lists
 mod FramesCompared
 mod FramesInParts
 mod AllJudged
+mod SalvageLists
+mod SalvageSteps
+mod FileSalvaged
+mod SalvageLaws
+mod PicturesPut

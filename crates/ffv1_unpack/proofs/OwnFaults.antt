@@ -126,6 +126,13 @@ told_checks profile place f within h = elim h [
   | inr own ↦ inr (inr (inr (container_own profile place f within own)))
 ]
 
+-- those of reading on and of writing lines are those of writing pictures
+pub told_writes : (place : Place) (f : Fault) → IsToldFault (container_of place) f → IsWritingFault (container_of place) f
+told_writes place f h = elim h [
+  | inl own ↦ inl (inr (inl own))
+  | inr own ↦ inr own
+]
+
 pub written_unpacks : (profile : Profile) (place : Place) (f : Fault) → IsWithin profile place → IsWritingFault (container_of place) f → IsUnpackFaultIn profile f
 written_unpacks profile place f within h = elim h [
   | inl own ↦ inl own

@@ -1,5 +1,5 @@
 -- Pictures are written one after the other.
-use Rattle.std.proofs.Common.{rules, ◌≡◌, ◌≢◌, refl, ℕ, true, false, Option, Some, None, Err, List, [], ◌∷◌, ◌++◌, length, inl, inr, ap, sym, subst, ◌∙◌, append-nil, append_assoc}
+use Rattle.std.proofs.Common.{rules, ◌≡◌, ◌≢◌, refl, ℕ, true, false, Option, Some, Err, List, [], ◌∷◌, ◌++◌, length, inl, inr, ap, sym, subst, ◌∙◌, append-nil, append_assoc}
 use Rattle.std.specs.List.{flat_map}
 use Rattle.std.specs.Io.KnownBytes.{Appends}
 use Rattle.std.proofs.KnownBytes.{Appends-nil, Appends-kept}
@@ -22,7 +22,7 @@ use Rattle.ffv1_reads.specs.Known.{Known}
 use Rattle.ffv1_video.specs.declared.fault.Fault.{Fault}
 use Rattle.ffv1_video.specs.Faults.{Cause, cause_of, of_codec}
 use Rattle.ffv1_video.specs.Faults.Cause.{Reading, Writing, Memory, Content}
-use Rattle.ffv1_unpack.specs.Internal.PicturesOut.{Begun, FrameChanges, IsBegun, NextStopsBy, SaysAgain, WritesPicture, head_saying, said_in, text_behind, writer_behind}
+use Rattle.ffv1_unpack.specs.Internal.PicturesOut.{Begun, FrameChanges, begun_behind, IsBegun, NextStopsBy, SaysAgain, WritesPicture, head_saying, said_in, text_behind, writer_behind}
 use Rattle.ffv1_unpack.specs.Stream.{Frame, IsFrame, Stream, frame_payload, payloads}
 use Rattle.ffv1_unpack.specs.Internal.Told.{FileStopsBy}
 use Rattle.ffv1_video.specs.Output.{Silent}
@@ -36,11 +36,6 @@ use Rattle.ffv1_unpack.proofs.FramesInTurn.{all_more, reads_more}
 use Rattle.ffv1_video.proofs.Output.{silent}
 use Rattle.ffv1_unpack.proofs.FramesPlayed.{has_stays, none_yet}
 use Rattle.ffv1_unpack.proofs.FramesUnpacked.{Unpacked, goes_to, none_unpacked, picture_fails, unpacks_over, unpacks_more, unpacks_on}
-
--- the writer after the pictures of frames
-abbrev pub begun_behind : ℕ → VideoHead → List Frame → Begun
-begun_behind depth h [] = None
-begun_behind depth h (f ∷ fs) = Some (f.said, writer_behind depth h f.said)
 
 pub is_begun : (depth : ℕ) (h : VideoHead) (frames : List Frame) → IsBegun depth h (begun_behind depth h frames)
 is_begun depth h [] = tt
@@ -73,7 +68,7 @@ texts_more (g ∷ gs) f =
     ap (λ z. picture_text g.planes ++ z) (texts_more gs f) ∙ sym (append_assoc (picture_text g.planes) (flat_map picture_text (pictures gs)) (picture_text f.planes))
 
 -- the text grows by that of the next picture
-text_more : (s : Stream) (h : VideoHead) (frames : List Frame) (f : Frame) → ((said : Said) → head_saying h said ≡ video_of s said) →
+pub text_more : (s : Stream) (h : VideoHead) (frames : List Frame) (f : Frame) → ((said : Said) → head_saying h said ≡ video_of s said) →
     let depth = s.accepted.configuration.depth in y4m_text s (frames ++ (f ∷ [])) ≡ y4m_text s frames ++ text_behind depth h (said_in (begun_behind depth h frames)) f.said f.planes
 text_more s h [] f heads =
     ap (λ z. header_text s.accepted.configuration.depth (video_of s f.said) ++ z) (append-nil (picture_text f.planes)) ∙ ap (λ z. header_text s.accepted.configuration.depth z ++ picture_text f.planes) (sym (heads f.said))

@@ -13,6 +13,7 @@ pub mod Passing
 pub mod PicturesOut
 pub mod Play
 pub mod Plays
+pub mod Salvage
 pub mod Show
 pub mod Told
 pub mod Unpack

@@ -15,6 +15,8 @@ pub mod CheckAll
 pub mod Unpacked
 pub mod Unpacking
 pub mod Unpack
+pub mod Salvaged
+pub mod UnpackAll
 pub mod StreamLines
 pub mod FrameMd5
 pub mod Compared

@@ -66,7 +66,7 @@ impl JudgedCounts {
 }
 
 /// Writes the line of a frame that is refused.
-fn write_refused<W: ByteOut, A: Allocator>(
+pub(crate) fn write_refused<W: ByteOut, A: Allocator>(
     output: &mut W,
     text: &mut Vec<u8, A>,
     number: u64,

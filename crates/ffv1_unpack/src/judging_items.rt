@@ -70,7 +70,7 @@ fn put_told<A: Allocator>(
 }
 
 /// Writes the line of a fault that is told.
-fn write_told<W: ByteOut, A: Allocator>(
+pub(crate) fn write_told<W: ByteOut, A: Allocator>(
     output: &mut W,
     text: &mut Vec<u8, A>,
     offset: u64,

@@ -1,7 +1,9 @@
-//! Laws of frames in parts.
+//! Laws of frames in parts, and of a file of which all is unpacked.
 
-ghost use Rattle.std.specs.Prelude.{◌≡◌, ℕ, ◌+◌, Bool, true, List, [], ◌++◌, length, Option};
+ghost use Rattle.std.specs.Prelude.{◌≡◌, ℕ, ◌+◌, Bool, true, List, [], ◌++◌, length, map};
+ghost use Rattle.std.specs.Prelude.{Option};
 ghost use Rattle.ffv1_codec.specs.Picture.{Planes};
+ghost use Rattle.ffv1_record.specs.Accepted.{Accepted};
 ghost use Rattle.ffv1_record.specs.Configuration.{Configuration};
 ghost use Rattle.ffv1_reads.specs.Head.{Head};
 ghost use Rattle.ffv1_video.specs.Md5Text.{md5_lines};
@@ -9,10 +11,13 @@ ghost use Rattle.ffv1_video.specs.declared.profile.Profile.{Profile};
 ghost use Rattle.ffv1_unpack.specs.declared.frame_line.FrameLine.{FrameLine};
 ghost use Rattle.ffv1_unpack.specs.FrameLines.{lines_from};
 ghost use Rattle.ffv1_unpack.specs.Judged.{Judged, judged_from};
+ghost use Rattle.ffv1_unpack.specs.JudgedItems.{IsJudgedItem, JudgedItem, frames_of};
 ghost use Rattle.ffv1_unpack.specs.Plays.{NextBehind, NextOver, has_more};
 ghost use Rattle.ffv1_unpack.specs.Ranges.{RangeThen};
-ghost use Rattle.ffv1_unpack.specs.Stream.{Frame, Stream};
-ghost use Rattle.ffv1_unpack.specs.Unpacked.{ppm_text};
+ghost use Rattle.ffv1_unpack.specs.Salvaged.{leading, salvage_faults, salvage_lines, shown};
+ghost use Rattle.ffv1_unpack.specs.Salvaged.{of_good};
+ghost use Rattle.ffv1_unpack.specs.Stream.{AreAll, Frame, IsFrame, Stream};
+ghost use Rattle.ffv1_unpack.specs.Unpacked.{AlikeBy, ppm_text};
 
 /// The payloads of a range are those that come in the file after as many as are before it; if more
 /// are wanted than there are, they are all of these.
@@ -40,4 +45,21 @@ pub fn parts_make_up_the_whole()
         ≡ md5_lines rct depth i xs ++ md5_lines rct depth (i + length xs) ys }
     ensures images { (s : Stream) (xs ys : List Frame) →
         ppm_text s (xs ++ ys) ≡ ppm_text s xs ++ ppm_text s ys }
+{}
+
+/// If all of a file is unpacked, there are as many pictures as frames, less those before the first
+/// good one; each is the picture of a payload that decodes.
+pub fn each_frame_has_a_picture()
+    ensures length { (xs : List JudgedItem) → length (shown xs) + leading xs
+        ≡ length (frames_of xs) }
+    ensures decoded { (a : Accepted) (xs : List JudgedItem) → AreAll (IsJudgedItem a) xs →
+        AreAll (IsFrame a) (shown xs) }
+{}
+
+/// If there is no fault, the pictures are those of the frames in turn, which say the same, and no
+/// line is told.
+pub fn sound_frames_are_unpacked_alike()
+    ensures { (ppm : Bool) (xs : List JudgedItem) → salvage_faults ppm xs ≡ [] →
+        (frames : List Frame) × (xs ≡ map of_good frames) × (shown xs ≡ frames)
+        × (salvage_lines ppm xs ≡ []) × AlikeBy ppm frames }
 {}

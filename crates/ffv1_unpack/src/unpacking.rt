@@ -33,7 +33,10 @@ use std::alloc::Allocator;
 /// Whether pictures of a configuration have a text: YUV4MPEG2 names six kinds of chroma of 8 bits,
 /// and fewer of other depths, as `has_chroma_name_at` has them, and PPM has no transparency.
 /// Refuses with `NoY4mName` or `NoPpm`.
-fn check_text<A: Allocator>(head: &FileHead<A>, checked: &Checked<A>) -> Result<(), Fault>
+pub(crate) fn check_text<A: Allocator>(
+    head: &FileHead<A>,
+    checked: &Checked<A>,
+) -> Result<(), Fault>
     ensures ok { IfOk result (λ _. HasTextBy (is_rct checked.now.configuration.colour)
         checked.now.configuration) }
     ensures err { IfErr result (LacksTextBy (is_rct checked.now.configuration.colour)

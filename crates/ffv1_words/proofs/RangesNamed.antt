@@ -4,7 +4,6 @@ use Rattle.std.specs.Prelude.{slice_index}
 use Rattle.clap.specs.Walk.{Row, Text, first_of}
 use Rattle.ffv1_words.specs.Order.{NamesCount, NamesNone, NamesNumber, NamesRange}
 use Rattle.ffv1_words.specs.declared.order.FrameRange.{FrameRange}
-use Rattle.ffv1_words.specs.declared.order.Order.{Order}
 use Rattle.ffv1_words.specs.declared.order.Order.TheVariants as order
 
 -- the words give a number that is none in its range
@@ -18,7 +17,7 @@ no_count rows id low high found t is some none (Some n) named = none n named
 module _ (rows : List Row) (none : (r : FrameRange) → NamesRange rows r → ⊥) where
   pub none_unpacked : NamesNone (Some (codes "unpack", rows))
   none_unpacked (order.Pack i w c holder no_clobber progress) named = let e = named.0 in cc
-  none_unpacked (order.Unpack i w no_clobber progress range) named = none range named.5
+  none_unpacked (order.Unpack i w no_clobber progress range all) named = none range named.5
   none_unpacked (order.Check is all place quiet json progress against range) named = let e = named.0 in cc
   none_unpacked (order.Show is cost) named = let e = named.0 in cc
   none_unpacked (order.Info is count json) named = let e = named.0 in cc
@@ -27,7 +26,7 @@ module _ (rows : List Row) (none : (r : FrameRange) → NamesRange rows r → �
 
   pub none_checked : NamesNone (Some (codes "check", rows))
   none_checked (order.Pack i w c holder no_clobber progress) named = let e = named.0 in cc
-  none_checked (order.Unpack i w no_clobber progress range) named = let e = named.0 in cc
+  none_checked (order.Unpack i w no_clobber progress range all) named = let e = named.0 in cc
   none_checked (order.Check is all place quiet json progress against range) named = none range named.8
   none_checked (order.Show is cost) named = let e = named.0 in cc
   none_checked (order.Info is count json) named = let e = named.0 in cc
@@ -38,7 +37,7 @@ module _ (rows : List Row) (none : (r : FrameRange) → NamesRange rows r → �
 
   pub none_hashed : NamesNone (Some (codes "framemd5", rows))
   none_hashed (order.Pack i w c holder no_clobber progress) named = let e = named.0 in cc
-  none_hashed (order.Unpack i w no_clobber progress range) named = let e = named.0 in cc
+  none_hashed (order.Unpack i w no_clobber progress range all) named = let e = named.0 in cc
   none_hashed (order.Check is all place quiet json progress against range) named = let e = named.0 in cc
   none_hashed (order.Show is cost) named = let e = named.0 in cc
   none_hashed (order.Info is count json) named = let e = named.0 in cc

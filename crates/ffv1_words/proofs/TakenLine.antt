@@ -190,12 +190,14 @@ module _ (lists : OptionWords) (are : AreOptionWords lists) where
   unpack_named rest e =
       let input = value_left unpack rest (rule_at unpack 0) refl refl (inl refl) refl e in
       let output = value_left unpack rest (rule_at unpack 1) refl refl (inr (inl refl)) refl e in
-      let range = frames_named unpack rest refl refl (inr (inr (inl refl))) (inr (inr (inr (inl refl)))) e in
-      let kept = value_left unpack rest (rule_at unpack 4) refl refl (inr (inr (inr (inr (inl refl))))) refl e in
+      let on = value_left unpack rest (rule_at unpack 2) refl refl (inr (inr (inl refl))) refl e in
+      let all = flag_named (rows_after unpack.rules [] rest) (codes "all") on.text on.is on.passes in
+      let range = frames_named unpack rest refl refl (inr (inr (inr (inl refl)))) (inr (inr (inr (inr (inl refl))))) e in
+      let kept = value_left unpack rest (rule_at unpack 5) refl refl (inr (inr (inr (inr (inr (inl refl)))))) refl e in
       let no_clobber = flag_named (rows_after unpack.rules [] rest) (codes "no-clobber") kept.text kept.is kept.passes in
-      let told = value_left unpack rest (rule_at unpack 5) refl refl (inr (inr (inr (inr (inr (inl refl)))))) refl e in
+      let told = value_left unpack rest (rule_at unpack 6) refl refl (inr (inr (inr (inr (inr (inr (inl refl))))))) refl e in
       let progress = flag_named (rows_after unpack.rules [] rest) (codes "progress") told.text told.is told.passes in
-      (order.Unpack (path input.text) (path output.text) no_clobber.0 progress.0 range.0, (refl, input.is, output.is, no_clobber.1, progress.1, range.1))
+      (order.Unpack (path input.text) (path output.text) no_clobber.0 progress.0 range.0 all.0, (refl, input.is, output.is, no_clobber.1, progress.1, range.1, all.1))
 
   abbrev check : Shape
   check = command 2

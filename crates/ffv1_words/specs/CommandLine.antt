@@ -119,7 +119,8 @@ pack_app words =
     (with_pace (with_slices (with_model words.contexts (two_files (codes "pack"))))))))))
 
 abbrev pub unpack_app : App
-unpack_app = with_progress (with_no_clobber (with_range (two_files (codes "unpack"))))
+unpack_app = with_progress (with_no_clobber (with_range
+    (with_rule (two_files (codes "unpack")) (flag_rule (codes "all")))))
 
 abbrev pub check_app : App
 check_app = with_progress (with_range

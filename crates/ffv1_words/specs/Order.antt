@@ -150,10 +150,10 @@ Names (order.Pack i w c holder no_clobber progress) (Some p) = (p.0 ≡ codes "p
     × NamesFile p.1 (codes "IN") i.now × NamesFile p.1 (codes "OUT") w.now × NamesChoice p.1 c
     × (first_of (codes "container") p.1 ≡ Some (container_word holder))
     × NamesFlag p.1 (codes "no-clobber") no_clobber × NamesFlag p.1 (codes "progress") progress
-Names (order.Unpack i w no_clobber progress range) (Some p) = (p.0 ≡ codes "unpack")
+Names (order.Unpack i w no_clobber progress range all) (Some p) = (p.0 ≡ codes "unpack")
     × NamesFile p.1 (codes "IN") i.now × NamesFile p.1 (codes "OUT") w.now
     × NamesFlag p.1 (codes "no-clobber") no_clobber × NamesFlag p.1 (codes "progress") progress
-    × NamesRange p.1 range
+    × NamesRange p.1 range × NamesFlag p.1 (codes "all") all
 Names (order.Check is all place quiet json progress against range) (Some p) =
     (p.0 ≡ codes "check") × NamesFiles p.1 (codes "IN") (map (λ i. i.now) is.now)
     × NamesFlag p.1 (codes "all") all × NamesFlag p.1 (codes "place") place
@@ -272,7 +272,8 @@ abbrev pub is_in_conflict : Order → Bool
 is_in_conflict (order.Pack i w c holder no_clobber progress) =
     is_conflict i.now w.now || (is_misnamed holder w.now
     || (lacks_codec_id c holder w.now || lacks_colour c holder w.now))
-is_in_conflict (order.Unpack i w no_clobber progress range) = is_conflict i.now w.now
+is_in_conflict (order.Unpack i w no_clobber progress range all) =
+    is_conflict i.now w.now || (all && leaves_out range)
 is_in_conflict (order.Check is all place quiet json progress against range) =
     are_in_conflict (map (λ i. i.now) is.now)
     || (is_range_in_conflict range against (map (λ i. i.now) is.now)

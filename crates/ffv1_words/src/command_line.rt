@@ -260,7 +260,9 @@ fn unpack_command<'a>(alloc: Global) -> Result<Command<'a>, AllocError>
 {
     let about = "Decode a file into YUV4MPEG2, or into PPM if it holds RGB";
     let output = "The video, or - for standard output: written anew as soon as it has a byte";
+    let all = "Go on after a frame that is refused, and write the last good picture again";
     let command = two_files_command(alloc, "unpack", about, CODED_FILE, output)?;
+    let command = command.arg(flag_arg(alloc, "all", all))?;
     let command = add_range(alloc, command)?;
     add_making(alloc, command)
 }

@@ -337,6 +337,7 @@ fn unpack_order<'a>(rows: &ArgMatches<'a>) -> Option<Order<'a>>
     let output = path(rows, "OUT")?;
     let no_clobber = flag(rows, "no-clobber")?;
     let progress = flag(rows, "progress")?;
+    let all = flag(rows, "all")?;
     let range = range_of_frames(rows)?;
     Some(Order::Unpack {
         input,
@@ -344,6 +345,7 @@ fn unpack_order<'a>(rows: &ArgMatches<'a>) -> Option<Order<'a>>
         no_clobber,
         progress,
         range,
+        all,
     })
 }
 

@@ -194,6 +194,8 @@ pub enum Order<'a> {
         progress: bool,
         /// The frames that are decoded.
         range: FrameRange,
+        /// Whether it goes on after a frame that is refused.
+        all: bool,
     },
     /// Decodes the video of each file, and prints what its frames hold.
     Check {
@@ -387,6 +389,21 @@ fn range_conflict(range: FrameRange, against: bool, inputs: &[&str]) -> Option<&
     None
 }
 
+/// Why a file is not to be unpacked so, if it is not: all of it is gone on with, and some frames
+/// alone are wanted.
+fn unpack_conflict(input: &str, output: &str, range: FrameRange, all: bool) -> Option<&'static str>
+    ensures { is_some result
+        ≡ (is_conflict input.now output.now || (all && leaves_out range)) }
+{
+    if let Some(why) = conflict_of(input, output) {
+        return Some(why);
+    }
+    if all && range.leaves_out() {
+        return Some("--all goes on to the end of the file: without --from and --frames");
+    }
+    None
+}
+
 /// Why a list of MD5s does not go with these files, or with options, if it does not.
 fn list_conflict(list: &str, all: bool, place: bool, inputs: &[&str]) -> Option<&'static str>
     ensures { is_some result ≡ opposes_list list.now all place (map (λ p. p.now) inputs.now) }
@@ -449,7 +466,13 @@ impl<'a> Order<'a> {
                 container,
                 ..
             } => pack_conflict(input, output, &choice, container),
-            Order::Unpack { input, output, .. } => conflict_of(input, output),
+            Order::Unpack {
+                input,
+                output,
+                range,
+                all,
+                ..
+            } => unpack_conflict(input, output, range, all),
             Order::Check {
                 inputs,
                 all,

@@ -9,8 +9,8 @@
 //! take samples of up to 16 bits, which are two bytes each above 8 bits, the low byte first in
 //! planes, lines and YUV4MPEG2, the high byte first in PPM. `Fault` says why a text could not be
 //! read or written; `specs/FirstFaults` and `specs/ImageFaults` say which fault a text has first,
-//! and where; `fault_laws` says that readers answer it. The test `example` of `ffv1_tests` runs
-//! these lines:
+//! and where; `fault_laws` says that readers answer it. The test `example` of `ffv1_file_tests`
+//! runs these lines:
 //!
 //! ```text
 //! let mut reader = Y4mReader::open(rt.alloc(), None, &mut input)?;

@@ -1,7 +1,7 @@
 //! What `check` writes of files over memory, and its faults.
 
-use super::{made, shows};
-use ffv1_doubles::Scarce;
+use super::shows;
+use ffv1_doubles::{Scarce, made};
 use ffv1_engine::{Fault, Profile, check};
 use ffv1_wire::{FromRead, ToWrite};
 use std::alloc::Global;

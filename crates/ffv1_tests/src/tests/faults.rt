@@ -1,8 +1,8 @@
 //! The texts of faults, of each crate all of them: the number and the name that stand for a fault
 //! on standard error.
 
-use super::made::shows;
 use ffv1_codec::CodecFault;
+use ffv1_doubles::made::shows;
 use ffv1_engine::Fault;
 use ffv1_reads::FileFault;
 use ffv1_record::RecordFault;

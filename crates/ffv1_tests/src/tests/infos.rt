@@ -1,8 +1,8 @@
 //! What `info` writes of files over memory, and its faults. The facts are those of the model, in
 //! `model/known_answers/infos.py`.
 
-use crate::tests::made;
 use crate::tests::shows::file_of;
+use ffv1_doubles::made;
 use ffv1_engine::{Fault, Profile};
 use ffv1_info::info;
 use ffv1_outline::Form;

@@ -1,7 +1,7 @@
 //! What `check_all` writes of files over memory, and its faults.
 
-use super::{made, shows};
-use ffv1_doubles::{Scarce, ShortWriter};
+use super::shows;
+use ffv1_doubles::{Scarce, ShortWriter, made};
 use ffv1_engine::{Fault, Profile, check_all};
 use ffv1_wire::{FromRead, ToWrite};
 use std::alloc::Global;

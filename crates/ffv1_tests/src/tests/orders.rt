@@ -71,6 +71,7 @@ static COMMANDS: [(&[&str], Order<'static>); 7] = [
             no_clobber: false,
             progress: false,
             range: FrameRange::ALL,
+            all: false,
         },
     ),
     (

@@ -1,8 +1,9 @@
 //! Files of more than one RIFF: at the wide profile each frame of them, at the strict one those of
 //! the first `movi`.
 
-use crate::tests::avi::riffs::MORE;
-use crate::tests::{made, shows};
+use crate::tests::shows;
+use ffv1_doubles::made;
+use ffv1_doubles::riffs::MORE;
 use ffv1_engine::{Fault, Profile, check, show, unpack};
 use ffv1_wire::{FromRead, ToWrite};
 use std::alloc::Global;

@@ -1,8 +1,8 @@
 //! What `show` writes of files over memory, and its faults. The lines are those of the model, in
 //! `model/known_answers/shown.py`.
 
-use crate::tests::made;
 use ffv1_avi::write_avi;
+use ffv1_doubles::made;
 use ffv1_engine::{Fault, Profile, show};
 use ffv1_plane::QuantSet;
 use ffv1_reads::FileHead;

@@ -1,10 +1,9 @@
 //! What `framemd5` writes of files over memory and `framemd5_text` of texts, with the lines that
 //! FFmpeg 5.1.9 prints of them, and their faults.
 
-use super::made;
 use super::orders::NO_COLOUR;
 use ffv1_avi::write_avi;
-use ffv1_doubles::{FailingWriter, Scarce};
+use ffv1_doubles::{FailingWriter, Scarce, made};
 use ffv1_engine::{
     Choice, CodecIdChoice, CoderChoice, Fault, Profile, framemd5, framemd5_text, pack,
 };

@@ -1,8 +1,8 @@
 //! Files that are unpacked, with texts computed outside the program, and their faults.
 
-use super::made;
 use super::orders::NO_COLOUR;
 use ffv1_avi::write_avi;
+use ffv1_doubles::made;
 use ffv1_engine::{Choice, CodecIdChoice, CoderChoice, Fault, Profile, pack, unpack};
 use ffv1_reads::FileHead;
 use ffv1_record::{Colour, Config, write_record};

@@ -1,7 +1,7 @@
 -- Writing pictures of YCbCr one after the other: the text of the next one, and what writing it
 -- answers.
-use Rattle.std.specs.Prelude.{◌≡◌, ◌⊎◌, ℕ, Bool, true, false, List, Option, Some, None, Result}
-use Rattle.std.specs.Prelude.{Ok, Err, ⊤}
+use Rattle.std.specs.Prelude.{◌≡◌, ◌⊎◌, ℕ, Bool, true, false, List, [], ◌∷◌, Option, Some, None}
+use Rattle.std.specs.Prelude.{Result, Ok, Err, ⊤}
 use Rattle.std.specs.Io.KnownBytes.{Appends}
 use Rattle.ffv1_wire.specs.Failures.{one_more}
 use Rattle.ffv1_wire.specs.Passage.{Passage}
@@ -41,6 +41,11 @@ Begun = Option (Said × Y4mWriting)
 abbrev pub writer_behind : ℕ → VideoHead → Said → Y4mWriting
 writer_behind depth h said =
     record { head = head_saying h said; depth = depth; begun = true; failed = false }
+
+-- the writer after the pictures of frames
+abbrev pub begun_behind : ℕ → VideoHead → List Frame → Begun
+begun_behind depth h [] = None
+begun_behind depth h (f ∷ fs) = Some (f.said, writer_behind depth h f.said)
 
 -- a text that is begun has that writer
 abbrev pub IsBegun : ℕ → VideoHead → Begun → Type 0

@@ -44,6 +44,7 @@ static FILES: [(&[&str], Order<'static>); 11] = [
             no_clobber: false,
             progress: false,
             range: FrameRange::ALL,
+            all: false,
         },
     ),
     (
@@ -54,6 +55,7 @@ static FILES: [(&[&str], Order<'static>); 11] = [
             no_clobber: false,
             progress: false,
             range: FrameRange::ALL,
+            all: false,
         },
     ),
     (
@@ -64,6 +66,7 @@ static FILES: [(&[&str], Order<'static>); 11] = [
             no_clobber: false,
             progress: false,
             range: FrameRange::ALL,
+            all: false,
         },
     ),
     (
@@ -74,6 +77,7 @@ static FILES: [(&[&str], Order<'static>); 11] = [
             no_clobber: false,
             progress: false,
             range: FrameRange::ALL,
+            all: false,
         },
     ),
     (
@@ -84,6 +88,7 @@ static FILES: [(&[&str], Order<'static>); 11] = [
             no_clobber: false,
             progress: false,
             range: FrameRange::ALL,
+            all: false,
         },
     ),
     (
@@ -94,6 +99,7 @@ static FILES: [(&[&str], Order<'static>); 11] = [
             no_clobber: false,
             progress: false,
             range: FrameRange::ALL,
+            all: false,
         },
     ),
     (
@@ -104,6 +110,7 @@ static FILES: [(&[&str], Order<'static>); 11] = [
             no_clobber: false,
             progress: false,
             range: FrameRange::ALL,
+            all: false,
         },
     ),
     (
@@ -114,6 +121,7 @@ static FILES: [(&[&str], Order<'static>); 11] = [
             no_clobber: false,
             progress: false,
             range: FrameRange::ALL,
+            all: false,
         },
     ),
     (

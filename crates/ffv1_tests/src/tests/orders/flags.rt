@@ -4,7 +4,7 @@ use super::{DEFAULTS, names_each};
 use ffv1_engine::{ContainerChoice, FrameRange, Order};
 
 /// Flags, and words that are files after two hyphens.
-static FLAGS: [(&[&str], Order<'static>); 18] = [
+static FLAGS: [(&[&str], Order<'static>); 19] = [
     (
         &["ffv1", "pack", "a", "--no-clobber", "b"],
         Order::Pack {
@@ -24,6 +24,18 @@ static FLAGS: [(&[&str], Order<'static>); 18] = [
             no_clobber: true,
             progress: true,
             range: FrameRange::ALL,
+            all: false,
+        },
+    ),
+    (
+        &["ffv1", "unpack", "a", "--all", "b"],
+        Order::Unpack {
+            input: "a",
+            output: "b",
+            no_clobber: false,
+            progress: false,
+            range: FrameRange::ALL,
+            all: true,
         },
     ),
     (
@@ -45,6 +57,7 @@ static FLAGS: [(&[&str], Order<'static>); 18] = [
             no_clobber: false,
             progress: true,
             range: FrameRange::ALL,
+            all: false,
         },
     ),
     (
@@ -162,6 +175,7 @@ static FLAGS: [(&[&str], Order<'static>); 18] = [
                 first: 4294967295,
                 count: None,
             },
+            all: false,
         },
     ),
     (
@@ -218,6 +232,7 @@ static FLAGS: [(&[&str], Order<'static>); 18] = [
             no_clobber: false,
             progress: false,
             range: FrameRange::ALL,
+            all: false,
         },
     ),
 ];

@@ -7,13 +7,13 @@ use Rattle.ffv1_codec.specs.SliceList.{Said}
 use Rattle.ffv1_video.specs.Faults.{cause_of}
 use Rattle.ffv1_unpack.specs.Internal.Opens.{stream_of}
 use Rattle.ffv1_video.specs.KeptLines.{IsKeptFor}
-use Rattle.ffv1_unpack.specs.Internal.PicturesOut.{WritesNext, head_saying, said_in}
+use Rattle.ffv1_unpack.specs.Internal.PicturesOut.{WritesNext, begun_behind, head_saying, said_in}
 use Rattle.ffv1_unpack.specs.Unpacked.{video_of}
 use Rattle.ffv1_unpack.specs.Plays.{AtMost}
 use Rattle.ffv1_unpack.proofs.FramesInTurn.{counted_more}
 use Rattle.ffv1_unpack.proofs.FramesPlayed.{none_at_most, one_at_most}
 use Rattle.ffv1_unpack.proofs.FramesUnpacked.{unpacks_full}
-use Rattle.ffv1_unpack.proofs.PicturesWritten.{UnpackedSo, begun_behind, begun_more, heads_of}
+use Rattle.ffv1_unpack.proofs.PicturesWritten.{UnpackedSo, begun_more, heads_of}
 use Rattle.ffv1_unpack.proofs.PicturesWritten.{unpacked_more, unpacked_none, unpacked_over}
 use Rattle.ffv1_unpack.proofs.PicturesWritten.{unpacking_stops, wants_memory}
 use Rattle.ffv1_video.proofs.KeptLines.{zeros_kept}

@@ -1,0 +1,5 @@
+use Rattle.ffv1_range.specs.Symbols.{AreHeld}
+use Rattle.ffv1_codec_tests.proofs.tests.range.parking.put_slice.Given as goal
+
+abbrev pub invariant-loop : goal.invariant-loop
+invariant-loop l = AreHeld l.table l.head

@@ -1,0 +1,7 @@
+-- A truth value.
+use Rattle.std.proofs.Common.{arith}
+use Rattle.std.proofs.lemmas.Grind.{common_steps}
+use Rattle.ffv1_codec_tests.proofs.tests.record.symbols.Symbols.truth.Goals as goal
+
+pub invariant_of-self : goal.invariant_of-self
+invariant_of-self c = grind (arith, common_steps)

@@ -1,5 +1,0 @@
-use Rattle.ffv1_range.specs.Table.{Holds}
-use Rattle.ffv1_tests.proofs.tests.range.transitions.each_entry_is_written.Given as goal
-
-abbrev pub invariant-loop-at : goal.invariant-loop-at
-invariant-loop-at g l = Holds l.table l.state

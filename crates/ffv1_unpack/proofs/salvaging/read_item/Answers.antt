@@ -1,0 +1,30 @@
+-- Reads the next item of a file, of either container.
+use Rattle.std.proofs.Common.{Bool, sym, subst, ◌∙◌}
+use Rattle.ffv1_wire.specs.Passage.{passage}
+use Rattle.ffv1_files.specs.Answers.{ReadsAs}
+use Rattle.ffv1_files.specs.Files.{frame_read}
+use Rattle.ffv1_files.specs.Readers.{next_of}
+use Rattle.ffv1_unpack.proofs.SalvageSteps.{avi_end, avi_frame}
+use Rattle.ffv1_unpack.proofs.salvaging.read_item.Goals as goal
+
+pub returns-in-Ok-true-clause-ok : goal.returns-in-Ok-true-clause-ok
+returns-in-Ok-true-clause-ok g c =
+    let from = c.args.player.now.reader.place in
+    let to = c.next_frame.new.self.place in
+    let i = passage g.R.ByteIn.remaining g.R.ByteIn.failures c.args.input.now
+    c.next_frame.new.input in
+    let read = subst (λ (b : Bool). ReadsAs (frame_read from) i (next_of b
+    c.next_frame.new.frame.items to)) c.in-Ok-true.field-0-test
+    (c.in-Ok-true.ensures.answer c.requires.sound) in
+    avi_frame c.args.course.now i from to c.next_frame.new.frame.items
+    (sym c.container.ensures ∙ c.in-Avi.is) read
+
+pub returns-in-Ok-false-clause-ok : goal.returns-in-Ok-false-clause-ok
+returns-in-Ok-false-clause-ok g c =
+    let from = c.args.player.now.reader.place in
+    let i = passage g.R.ByteIn.remaining g.R.ByteIn.failures c.args.input.now
+    c.next_frame.new.input in
+    let read = subst (λ (b : Bool). ReadsAs (frame_read from) i (next_of b
+    c.next_frame.new.frame.items c.next_frame.new.self.place)) c.in-Ok-false.field-0-test
+    (c.in-Ok-false.ensures.answer c.requires.sound) in
+    avi_end c.args.course.now i from (sym c.container.ensures ∙ c.in-Avi.is) read

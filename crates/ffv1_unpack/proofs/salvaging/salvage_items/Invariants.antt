@@ -1,0 +1,22 @@
+use Rattle.std.proofs.Common.{◌≡◌, None}
+use Rattle.ffv1_wire.specs.Passage.{passage}
+use Rattle.ffv1_files.specs.Items.{course_of}
+use Rattle.ffv1_files.specs.Places.{container_of}
+use Rattle.ffv1_unpack.specs.Internal.Opens.{stream_of}
+use Rattle.ffv1_unpack.specs.Unpacked.{is_ppm_stream}
+use Rattle.ffv1_unpack.proofs.SalvageSteps.{SalvagedTo}
+use Rattle.ffv1_unpack.proofs.salvaging.salvage_items.Given as goal
+
+abbrev pub invariant-loop-item : goal.invariant-loop-item
+invariant-loop-item g l =
+    let s = stream_of l.fn.player.reader l.fn.player.decoder.accepted in
+    (l.player.reader.fault ≡ None)
+    × (l.player.decoder.accepted ≡ l.fn.player.decoder.accepted)
+    × (container_of l.player.reader.place ≡ container_of l.fn.player.reader.place)
+    × (l.salvage.ppm ≡ is_ppm_stream s)
+    × SalvagedTo g.P.PictureOut.ready l.output s l.fn.player.reader.place
+    (course_of l.fn.player.reader)
+    (passage g.R.ByteIn.remaining g.R.ByteIn.failures l.initial.input l.input)
+    (passage g.L.ByteOut.contents g.L.ByteOut.failures l.initial.lines l.lines)
+    (passage g.P.PictureOut.contents g.P.PictureOut.failures l.initial.output l.output) l._item
+    l.salvage.counts l.salvage.header l.salvage.last.items l.player.reader.place l.salvage.course

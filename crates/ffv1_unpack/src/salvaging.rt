@@ -1,0 +1,364 @@
+//! Judges what a file gives that may be damaged, one after the other, and writes the picture of
+//! each frame, or the last good one again if the frame is refused; and a line of each fault.
+
+ghost use Rattle.std.specs.Prelude.{◌≡◌, IfErr, IfOk, List, None, OnOk, Some, [], true};
+ghost use Rattle.ffv1_wire.specs.Passage.{passage};
+ghost use Rattle.ffv1_record.specs.Accepted.{IsAccepted};
+ghost use Rattle.ffv1_record.specs.Configuration.{is_rct};
+ghost use Rattle.ffv1_codec.specs.SliceList.{Said};
+ghost use Rattle.ffv1_files.specs.Answers.{ReadsAs};
+ghost use Rattle.ffv1_files.specs.Items.{course_of, item_of, item_read};
+ghost use Rattle.ffv1_files.specs.Places.{container_of};
+ghost use Rattle.ffv1_video.specs.Faults.{cause_of};
+ghost use Rattle.ffv1_unpack.specs.Internal.Judged.{one_counted};
+ghost use Rattle.ffv1_unpack.specs.JudgedItems.{IsJudgedItem, ItemsFrom, JudgedItem};
+ghost use Rattle.ffv1_unpack.specs.Salvaged.{changed_fault, changed_line, changed_text, differs};
+ghost use Rattle.ffv1_unpack.specs.Salvaged.{good_frames, last_of, shown, those};
+ghost use Rattle.ffv1_unpack.specs.Internal.Opens.{stream_of};
+ghost use Rattle.ffv1_unpack.specs.Internal.Salvage.{FrameSalvaged, FrameTold, ItemSalvaged};
+ghost use Rattle.ffv1_unpack.specs.Internal.Salvage.{NoneGivenBy, PutsPictures, StandsAfter};
+ghost use Rattle.ffv1_unpack.specs.Internal.Told.{IsToldFault, WritesFrame};
+ghost use Rattle.ffv1_unpack.specs.Told.{is_telling_fault};
+ghost use Rattle.ffv1_unpack.specs.Stream.{AreAll, Frame, Stream};
+ghost use Rattle.ffv1_unpack.specs.UnpackAll.{AreSalvageCounts, SalvageStopsBy, SalvagesAll};
+ghost use Rattle.ffv1_unpack.specs.Unpacked.{HasText, is_ppm_stream};
+
+use crate::judging::{JudgedCounts, write_refused};
+use crate::judging_items::write_told;
+use crate::picture_out::PictureOut;
+use crate::player::Player;
+use ffv1_codec::Info;
+use ffv1_files::{Container, Course, Item};
+use ffv1_video::Fault;
+use ffv1_video::number_lines::push_number;
+use ffv1_wire::{ByteIn, ByteOut, write_all};
+use std::alloc::{AllocError, Allocator};
+use std::mem::swap;
+
+/// The line of a frame that says something else than the header, in place of what the text has.
+#[tactic(auto, unfolding(crate::specs::Salvaged::changed_line))]
+fn put_changed<A: Allocator>(text: &mut Vec<u8, A>, number: u64) -> Result<(), AllocError>
+    ensures { OnOk result (text.new.items ≡ changed_line number) }
+{
+    text.clear();
+    push_number(text, b"frame ", number)?;
+    text.extend_from_slice(b": fault 71 FormatChanged\n")?;
+    Ok(())
+}
+
+/// Writes the line of a frame that says something else than the header.
+fn write_changed<W: ByteOut, A: Allocator>(
+    output: &mut W,
+    text: &mut Vec<u8, A>,
+    number: u64,
+) -> Result<(), Fault>
+    ensures { WritesFrame (changed_line number)
+        (passage W.contents W.failures output.old output.new) result }
+{
+    put_changed(text, number)?;
+    if write_all(output, text).is_err() {
+        return Err(Fault::Write);
+    }
+    Ok(())
+}
+
+/// Reads the next item of a file, of either container: an AVI gives its frames.
+fn read_item<R: ByteIn, A: Allocator>(
+    player: &mut Player<A>,
+    input: &mut R,
+    course: &mut Course,
+) -> Result<Item, Fault>
+    requires sound { player.old.reader.fault ≡ None }
+    ensures ok { IfOk result (λ i. ReadsAs (item_read player.old.reader.place course.old)
+        (passage R.remaining R.failures input.old input.new)
+        (item_of i player.new.payload.items player.new.reader.place course.new)) }
+    ensures err { IfErr result (λ f. NoneGivenBy player.old.reader.place course.old
+        (passage R.remaining R.failures input.old input.new) f (cause_of f)) }
+    ensures sound { OnOk result (player.new.reader.fault ≡ None) }
+    ensures same { player.new.decoder ≡ player.old.decoder }
+    ensures head { player.new.reader.head ≡ player.old.reader.head }
+    ensures container { container_of player.new.reader.place
+        ≡ container_of player.old.reader.place }
+    ensures own { IfErr result (IsToldFault (container_of player.old.reader.place)) }
+{
+    match player.reader.container() {
+        Container::Avi => match player.reader.next_frame(input, &mut player.payload) {
+            Ok(true) => Ok(Item::Frame),
+            Ok(false) => Ok(Item::End),
+            Err(fault) => Err(Fault::from(fault)),
+        },
+        Container::Matroska(_size) => {
+            match player.reader.next_item(input, course, &mut player.payload) {
+                Ok(item) => Ok(item),
+                Err(fault) => Err(Fault::from(fault)),
+            }
+        }
+    }
+}
+
+/// How far a file was judged: what was counted, what the first good frame says, and the payload of
+/// the last good one.
+#[derive(Drop)]
+struct Salvage<A: Allocator> {
+    /// Whether the pictures are written as PPM.
+    ppm: bool,
+    course: Course,
+    counts: JudgedCounts,
+    header: Option<Info>,
+    last: Vec<u8, A>,
+    text: Vec<u8, A>,
+}
+
+/// Whether a frame says something else than the header of the text, if that stands.
+fn differs(ppm: bool, header: Option<Info>, info: Info) -> bool
+    ensures { result ≡ differs ppm header info }
+{
+    if ppm {
+        return false;
+    }
+    match header {
+        Some(header) => info != header,
+        None => false,
+    }
+}
+
+/// Counts a frame that is decoded, after its line if it says something else than the header.
+fn tell_good<L: ByteOut, A: Allocator>(
+    lines: &mut L,
+    salvage: &mut Salvage<A>,
+    info: Info,
+) -> Result<(), Fault>
+    ensures told { WritesFrame (changed_text salvage.old.counts.frames
+        (differs salvage.old.ppm salvage.old.header info))
+        (passage L.contents L.failures lines.old lines.new) result }
+    ensures counts { OnOk result (salvage.new.counts ≡ one_counted salvage.old.counts
+        (changed_fault (differs salvage.old.ppm salvage.old.header info))) }
+    ensures header { salvage.new.header ≡ salvage.old.header }
+    ensures last { salvage.new.last ≡ salvage.old.last }
+    ensures kind { salvage.new.ppm ≡ salvage.old.ppm }
+    ensures course { salvage.new.course ≡ salvage.old.course }
+    ensures own { IfErr result (λ f. is_telling_fault f ≡ true) }
+{
+    if differs(salvage.ppm, salvage.header, info) {
+        write_changed(lines, &mut salvage.text, salvage.counts.frames)?;
+        salvage.counts.count(Some(Fault::FormatChanged));
+        return Ok(());
+    }
+    salvage.counts.count(None);
+    Ok(())
+}
+
+/// Keeps the payload that was read last as the last good one, and what it says if it is the first.
+fn keep_good<A: Allocator>(player: &mut Player<A>, salvage: &mut Salvage<A>, info: Info)
+    ensures last { salvage.new.last.items ≡ player.old.payload.items }
+    ensures first { salvage.old.header ≡ None → salvage.new.header ≡ Some info }
+    ensures again { (said : Said) → salvage.old.header ≡ Some said →
+        salvage.new.header ≡ Some said }
+    ensures counts { salvage.new.counts ≡ salvage.old.counts }
+    ensures kind { salvage.new.ppm ≡ salvage.old.ppm }
+    ensures course { salvage.new.course ≡ salvage.old.course }
+    ensures reader { player.new.reader ≡ player.old.reader }
+    ensures same { player.new.decoder ≡ player.old.decoder }
+{
+    swap(&mut player.payload, &mut salvage.last);
+    if salvage.header.is_none() {
+        salvage.header = Some(info);
+    }
+}
+
+/// Judges the payload that was read last, writes its line if it has a fault, and counts it. A good
+/// payload is kept as the last good one. If a picture is remembered then, it is that one's.
+fn tell_frame<L: ByteOut, P: PictureOut, A: Allocator>(
+    player: &mut Player<A>,
+    lines: &mut L,
+    output: &mut P,
+    salvage: &mut Salvage<A>,
+) -> Result<(), Fault>
+    requires accepted { IsAccepted player.old.decoder.accepted.configuration
+        player.old.decoder.accepted.table }
+    ensures answer { (s : Stream) (before : List JudgedItem) (fs : List Frame) →
+        s.accepted ≡ player.old.decoder.accepted → salvage.old.ppm ≡ is_ppm_stream s →
+        StandsAfter s before salvage.old.counts salvage.old.header salvage.old.last.items →
+        P.ready s fs output.old → FrameTold s before player.old.payload.items
+        (passage L.contents L.failures lines.old lines.new) salvage.new.counts salvage.new.header
+        salvage.new.last.items result }
+    ensures silent { (P.contents output.new ≡ P.contents output.old)
+        × (P.failures output.new ≡ P.failures output.old) }
+    ensures fits { OnOk result ((s : Stream) (fs : List Frame) →
+        s.accepted ≡ player.old.decoder.accepted → P.ready s fs output.old →
+        P.ready s fs output.new × P.fits s salvage.new.last.items output.new) }
+    ensures kind { salvage.new.ppm ≡ salvage.old.ppm }
+    ensures course { salvage.new.course ≡ salvage.old.course }
+    ensures reader { player.new.reader ≡ player.old.reader }
+    ensures same { player.new.decoder.accepted ≡ player.old.decoder.accepted }
+    ensures own { IfErr result (λ f. is_telling_fault f ≡ true) }
+{
+    match output.judge(&mut player.decoder, &player.payload) {
+        Ok(info) => {
+            tell_good(lines, salvage, info)?;
+            keep_good(player, salvage, info);
+            Ok(())
+        }
+        Err(fault) => {
+            let number = salvage.counts.frames;
+            write_refused(lines, &mut salvage.text, number, fault.fault)?;
+            salvage.counts.count(Some(Fault::from(fault.fault)));
+            Ok(())
+        }
+    }
+}
+
+/// Writes the picture of the last good payload, if there is one.
+fn show_last<P: PictureOut, A: Allocator>(
+    player: &mut Player<A>,
+    output: &mut P,
+    salvage: &Salvage<A>,
+) -> Result<(), Fault>
+    ensures answer { (s : Stream) (xs : List JudgedItem) (fs : List Frame) →
+        s.accepted ≡ player.old.decoder.accepted →
+        IsAccepted s.accepted.configuration s.accepted.table → HasText s →
+        AreAll (IsJudgedItem s.accepted) xs → P.ready s fs output.old →
+        P.fits s salvage.now.last.items output.old →
+        StandsAfter s xs salvage.now.counts salvage.now.header salvage.now.last.items →
+        PutsPictures P.ready s fs (those (last_of (good_frames xs)))
+        (passage P.contents P.failures output.old output.new) output.new result }
+    ensures reader { player.new.reader ≡ player.old.reader }
+    ensures same { player.new.decoder.accepted ≡ player.old.decoder.accepted }
+    ensures own { IfErr result (λ f. is_telling_fault f ≡ true) }
+{
+    match salvage.header {
+        None => Ok(()),
+        Some(_said) => {
+            output.put(&mut player.decoder, &salvage.last)?;
+            Ok(())
+        }
+    }
+}
+
+/// Judges the payload that was read last, writes its line if it has a fault, and then its picture,
+/// or the last good one again.
+fn salvage_frame<L: ByteOut, P: PictureOut, A: Allocator>(
+    player: &mut Player<A>,
+    lines: &mut L,
+    output: &mut P,
+    salvage: &mut Salvage<A>,
+) -> Result<(), Fault>
+    requires accepted { IsAccepted player.old.decoder.accepted.configuration
+        player.old.decoder.accepted.table }
+    ensures answer { (s : Stream) (before : List JudgedItem) →
+        s.accepted ≡ player.old.decoder.accepted → salvage.old.ppm ≡ is_ppm_stream s →
+        HasText s → AreAll (IsJudgedItem s.accepted) before →
+        StandsAfter s before salvage.old.counts salvage.old.header salvage.old.last.items →
+        P.ready s (shown before) output.old →
+        FrameSalvaged P.ready s before (passage L.contents L.failures lines.old lines.new)
+        (passage P.contents P.failures output.old output.new) output.new
+        player.old.payload.items salvage.new.counts salvage.new.header salvage.new.last.items
+        result }
+    ensures kind { salvage.new.ppm ≡ salvage.old.ppm }
+    ensures course { salvage.new.course ≡ salvage.old.course }
+    ensures reader { player.new.reader ≡ player.old.reader }
+    ensures same { player.new.decoder.accepted ≡ player.old.decoder.accepted }
+    ensures own { IfErr result (λ f. is_telling_fault f ≡ true) }
+{
+    tell_frame(player, lines, output, salvage)?;
+    show_last(player, output, salvage)?;
+    Ok(())
+}
+
+/// Salvages the next item of a file: writes its line, and the picture for it. Answers false if
+/// there is none.
+fn salvage_item<R: ByteIn, L: ByteOut, P: PictureOut, A: Allocator>(
+    player: &mut Player<A>,
+    input: &mut R,
+    lines: &mut L,
+    output: &mut P,
+    salvage: &mut Salvage<A>,
+) -> Result<bool, Fault>
+    requires sound { player.old.reader.fault ≡ None }
+    requires accepted { IsAccepted player.old.decoder.accepted.configuration
+        player.old.decoder.accepted.table }
+    ensures answer { (s : Stream) (before : List JudgedItem) →
+        s.accepted ≡ player.old.decoder.accepted → salvage.old.ppm ≡ is_ppm_stream s →
+        HasText s → AreAll (IsJudgedItem s.accepted) before →
+        StandsAfter s before salvage.old.counts salvage.old.header salvage.old.last.items →
+        P.ready s (shown before) output.old →
+        ItemSalvaged s player.old.reader.place player.new.reader.place salvage.old.course
+        salvage.new.course (passage R.remaining R.failures input.old input.new) P.ready before
+        (passage L.contents L.failures lines.old lines.new)
+        (passage P.contents P.failures output.old output.new) output.new salvage.new.counts
+        salvage.new.header salvage.new.last.items result }
+    ensures sound { OnOk result (player.new.reader.fault ≡ None) }
+    ensures kind { salvage.new.ppm ≡ salvage.old.ppm }
+    ensures same { player.new.decoder.accepted ≡ player.old.decoder.accepted }
+    ensures container { container_of player.new.reader.place
+        ≡ container_of player.old.reader.place }
+    ensures own { IfErr result (IsToldFault (container_of player.old.reader.place)) }
+{
+    match read_item(player, input, &mut salvage.course) {
+        Err(fault) => Err(fault),
+        Ok(item) => match item {
+            Item::End => Ok(false),
+            Item::Frame => {
+                salvage_frame(player, lines, output, salvage)?;
+                Ok(true)
+            }
+            Item::Told { fault, offset } => {
+                write_told(lines, &mut salvage.text, offset, fault)?;
+                salvage.counts.tell(Fault::from(fault));
+                Ok(true)
+            }
+        },
+    }
+}
+
+/// Salvages all items of a file that are left, at most 2^64 - 1. Answers how many frames there
+/// were, and how many faults of either kind.
+pub(crate) fn salvage_items<R: ByteIn, L: ByteOut, P: PictureOut, A: Allocator + Copy>(
+    alloc: A,
+    player: &mut Player<A>,
+    input: &mut R,
+    lines: &mut L,
+    output: &mut P,
+    ppm: bool,
+) -> Result<JudgedCounts, Fault>
+    requires sound { player.old.reader.fault ≡ None }
+    requires accepted { IsAccepted player.old.decoder.accepted.configuration
+        player.old.decoder.accepted.table }
+    requires text { HasText (stream_of player.old.reader player.old.decoder.accepted) }
+    requires ready { P.ready (stream_of player.old.reader player.old.decoder.accepted) []
+        output.old }
+    requires kind { ppm ≡ is_rct player.old.decoder.accepted.configuration.colour }
+    ensures ok { IfOk result (λ counts. (xs : List JudgedItem)
+        × AreSalvageCounts (is_rct player.old.decoder.accepted.configuration.colour) counts xs
+        × SalvagesAll (ItemsFrom player.old.reader.place (course_of player.old.reader))
+        (stream_of player.old.reader player.old.decoder.accepted)
+        (passage R.remaining R.failures input.old input.new)
+        (passage L.contents L.failures lines.old lines.new)
+        (passage P.contents P.failures output.old output.new) xs) }
+    ensures err { IfErr result (λ f. SalvageStopsBy
+        (ItemsFrom player.old.reader.place (course_of player.old.reader))
+        (stream_of player.old.reader player.old.decoder.accepted)
+        (passage R.remaining R.failures input.old input.new)
+        (passage L.contents L.failures lines.old lines.new)
+        (passage P.contents P.failures output.old output.new) f (cause_of f)) }
+    ensures own { IfErr result (IsToldFault (container_of player.old.reader.place)) }
+{
+    let mut salvage = Salvage {
+        ppm,
+        course: player.reader.course(),
+        counts: JudgedCounts {
+            frames: 0,
+            faults: 0,
+            first: None,
+        },
+        header: None,
+        last: Vec::new(alloc),
+        text: Vec::new(alloc),
+    };
+    for _item in 0..u64::MAX {
+        if !salvage_item(player, input, lines, output, &mut salvage)? {
+            return Ok(salvage.counts);
+        }
+    }
+    Ok(salvage.counts)
+}

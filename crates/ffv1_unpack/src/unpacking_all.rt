@@ -1,0 +1,248 @@
+//! Unpacks all frames of a file that may be damaged into pictures.
+
+ghost use Rattle.std.specs.Prelude.{◌≡◌, IfErr, IfOk, List, None, false, true};
+ghost use Rattle.ffv1_wire.specs.Passage.{passage};
+ghost use Rattle.ffv1_record.specs.Accepted.{IsAccepted};
+ghost use Rattle.ffv1_record.specs.Configuration.{is_rct};
+ghost use Rattle.ffv1_files.specs.Items.{course_of};
+ghost use Rattle.ffv1_files.specs.Offsets.{Reached};
+ghost use Rattle.ffv1_files.specs.Places.{container_of};
+ghost use Rattle.ffv1_video.specs.Faults.{cause_of};
+ghost use Rattle.ffv1_video.specs.declared.fault.Fault.TheVariants as fault;
+ghost use Rattle.ffv1_video.specs.Profiles.{scope_in};
+ghost use Rattle.ffv1_unpack.specs.JudgedItems.{ItemsFrom, JudgedItem};
+ghost use Rattle.ffv1_unpack.specs.Internal.Opens.{OpensStream, stream_of};
+ghost use Rattle.ffv1_unpack.specs.Internal.Unpack.{IsWritingFault};
+ghost use Rattle.ffv1_unpack.specs.Unpack.{IsUnpackFaultIn, LacksUnpacking};
+ghost use Rattle.ffv1_unpack.specs.UnpackAll.{AreSalvageCounts, SalvageStopsBy, SalvagesAll};
+ghost use Rattle.ffv1_unpack.specs.UnpackAll.{UnpackAllDone, UnpackAllStops};
+ghost use Rattle.ffv1_unpack.specs.Unpacked.{HasText};
+
+use crate::judging::JudgedCounts;
+use crate::picture_out::TextOut;
+use crate::pictures_out::text_head;
+use crate::player::{Player, open_player_located};
+use crate::salvaging::salvage_items;
+use crate::unpacking::check_text;
+use ffv1_codec::KeepLines;
+use ffv1_record::{Colour, laws as record_laws};
+use ffv1_video::{Fault, Profile};
+use ffv1_wire::{ByteIn, ByteOut};
+use ffv1_y4m::PpmWriter;
+use std::alloc::Allocator;
+
+/// Opens a file whose pictures have a text, and makes the decoder of its frames.
+fn open_whole<R: ByteIn, A: Allocator + Copy>(
+    alloc: A,
+    profile: Profile,
+    input: &mut R,
+) -> Result<Player<A>, Fault>
+    ensures ok { IfOk result (λ p. OpensStream profile p.reader p.decoder.accepted
+        (passage R.remaining R.failures input.old input.new)) }
+    ensures located { IfOk result (λ p. Reached (scope_in profile) (R.remaining input.old)
+        (R.remaining input.new) p.reader) }
+    ensures text { IfOk result (λ p. HasText (stream_of p.reader p.decoder.accepted)) }
+    ensures err { IfErr result (LacksUnpacking profile
+        (passage R.remaining R.failures input.old input.new)) }
+    ensures own { IfErr result (IsUnpackFaultIn profile) }
+{
+    let mut offset = 0u64;
+    let player = open_player_located(alloc, profile, input, &mut offset)?;
+    check_text(player.reader.head(), player.decoder.config())?;
+    Ok(player)
+}
+
+/// Salvages the frames that are left as YUV4MPEG2, and hands the writer back.
+fn salvage_text<R: ByteIn, L: ByteOut, W: ByteOut, A: Allocator + Copy>(
+    alloc: A,
+    player: &mut Player<A>,
+    input: &mut R,
+    lines: &mut L,
+    output: W,
+) -> (W, Result<JudgedCounts, Fault>)
+    requires sound { player.old.reader.fault ≡ None }
+    requires accepted { IsAccepted player.old.decoder.accepted.configuration
+        player.old.decoder.accepted.table }
+    requires text { HasText (stream_of player.old.reader player.old.decoder.accepted) }
+    requires colour { is_rct player.old.decoder.accepted.configuration.colour ≡ false }
+    ensures ok { IfOk result.1 (λ counts. (xs : List JudgedItem)
+        × AreSalvageCounts (is_rct player.old.decoder.accepted.configuration.colour) counts xs
+        × SalvagesAll (ItemsFrom player.old.reader.place (course_of player.old.reader))
+        (stream_of player.old.reader player.old.decoder.accepted)
+        (passage R.remaining R.failures input.old input.new)
+        (passage L.contents L.failures lines.old lines.new)
+        (passage W.contents W.failures output result.0) xs) }
+    ensures err { IfErr result.1 (λ f. SalvageStopsBy
+        (ItemsFrom player.old.reader.place (course_of player.old.reader))
+        (stream_of player.old.reader player.old.decoder.accepted)
+        (passage R.remaining R.failures input.old input.new)
+        (passage L.contents L.failures lines.old lines.new)
+        (passage W.contents W.failures output result.0) f (cause_of f)) }
+    ensures own { IfErr result.1 (IsWritingFault (container_of player.old.reader.place)) }
+{
+    let checked = player.decoder.config();
+    match KeepLines::new(alloc, checked) {
+        Err(fault) => (output, Err(Fault::from(fault))),
+        Ok(kept) => {
+            let mut text = TextOut {
+                output,
+                kept,
+                held: None,
+                depth: checked.depth(),
+                head: text_head(player.reader.head(), checked),
+                begun: None,
+            };
+            let answer = salvage_items(alloc, player, input, lines, &mut text, false);
+            (text.into_inner(), answer)
+        }
+    }
+}
+
+/// Salvages the frames that are left as PPM, and hands the writer back.
+fn salvage_images<R: ByteIn, L: ByteOut, W: ByteOut, A: Allocator + Copy>(
+    alloc: A,
+    player: &mut Player<A>,
+    input: &mut R,
+    lines: &mut L,
+    output: W,
+) -> (W, Result<JudgedCounts, Fault>)
+    requires sound { player.old.reader.fault ≡ None }
+    requires accepted { IsAccepted player.old.decoder.accepted.configuration
+        player.old.decoder.accepted.table }
+    requires text { HasText (stream_of player.old.reader player.old.decoder.accepted) }
+    requires colour { is_rct player.old.decoder.accepted.configuration.colour ≡ true }
+    ensures ok { IfOk result.1 (λ counts. (xs : List JudgedItem)
+        × AreSalvageCounts (is_rct player.old.decoder.accepted.configuration.colour) counts xs
+        × SalvagesAll (ItemsFrom player.old.reader.place (course_of player.old.reader))
+        (stream_of player.old.reader player.old.decoder.accepted)
+        (passage R.remaining R.failures input.old input.new)
+        (passage L.contents L.failures lines.old lines.new)
+        (passage W.contents W.failures output result.0) xs) }
+    ensures err { IfErr result.1 (λ f. SalvageStopsBy
+        (ItemsFrom player.old.reader.place (course_of player.old.reader))
+        (stream_of player.old.reader player.old.decoder.accepted)
+        (passage R.remaining R.failures input.old input.new)
+        (passage L.contents L.failures lines.old lines.new)
+        (passage W.contents W.failures output result.0) f (cause_of f)) }
+    ensures own { IfErr result.1 (IsWritingFault (container_of player.old.reader.place)) }
+{
+    record_laws::accepted_configuration_is_in_range();
+    let checked = player.decoder.config();
+    let config = checked.config();
+    match PpmWriter::sized_at(alloc, output, config.width, config.height, checked.depth()) {
+        Err((output, fault)) => (output, Err(Fault::from(fault))),
+        Ok(mut sink) => {
+            let answer = salvage_items(alloc, player, input, lines, &mut sink, true);
+            (sink.into_inner(), answer)
+        }
+    }
+}
+
+/// Salvages the frames that are left, as the colour says.
+fn salvage_file<R: ByteIn, L: ByteOut, W: ByteOut, A: Allocator + Copy>(
+    alloc: A,
+    player: &mut Player<A>,
+    input: &mut R,
+    lines: &mut L,
+    output: W,
+) -> (W, Result<JudgedCounts, Fault>)
+    requires sound { player.old.reader.fault ≡ None }
+    requires accepted { IsAccepted player.old.decoder.accepted.configuration
+        player.old.decoder.accepted.table }
+    requires text { HasText (stream_of player.old.reader player.old.decoder.accepted) }
+    ensures ok { IfOk result.1 (λ counts. (xs : List JudgedItem)
+        × AreSalvageCounts (is_rct player.old.decoder.accepted.configuration.colour) counts xs
+        × SalvagesAll (ItemsFrom player.old.reader.place (course_of player.old.reader))
+        (stream_of player.old.reader player.old.decoder.accepted)
+        (passage R.remaining R.failures input.old input.new)
+        (passage L.contents L.failures lines.old lines.new)
+        (passage W.contents W.failures output result.0) xs) }
+    ensures err { IfErr result.1 (λ f. SalvageStopsBy
+        (ItemsFrom player.old.reader.place (course_of player.old.reader))
+        (stream_of player.old.reader player.old.decoder.accepted)
+        (passage R.remaining R.failures input.old input.new)
+        (passage L.contents L.failures lines.old lines.new)
+        (passage W.contents W.failures output result.0) f (cause_of f)) }
+    ensures own { IfErr result.1 (IsWritingFault (container_of player.old.reader.place)) }
+{
+    match player.decoder.config().config().colour {
+        Colour::YCbCr => salvage_text(alloc, player, input, lines, output),
+        Colour::Rct => salvage_images(alloc, player, input, lines, output),
+    }
+}
+
+/// These counts; or `NoFrames`, if there was neither a frame nor a fault.
+fn found(counts: JudgedCounts) -> Result<JudgedCounts, Fault>
+    ensures ok { IfOk result (λ c. (c ≡ counts)
+        × (counts.frames ≡ 0 → counts.faults ≡ 0 → ⊥)) }
+    ensures err { IfErr result (λ f. (f ≡ fault.NoFrames) × (counts.frames ≡ 0)
+        × (counts.faults ≡ 0)) }
+{
+    if counts.frames == 0 {
+        if counts.faults == 0 {
+            return Err(Fault::NoFrames);
+        }
+    }
+    Ok(counts)
+}
+
+/// Decodes all frames of a file that the profile reads, and goes on after a frame that is refused;
+/// in a Matroska file also after a fault of the file itself among its frames, as
+/// `MatroskaReader::next_item` does. Of each frame it writes a picture, as `unpack` does: its own,
+/// or, if it is refused, the last good one again; before the first good one none. So there are as
+/// many pictures as frames, less those before the first good one. It writes a line of each fault as
+/// soon as that is met, before the picture:
+///
+/// ```text
+/// frame {i}: fault {number} {name}
+/// byte {offset}: fault {number} {name}
+/// ```
+///
+/// A later frame whose structure or aspect are not those of the header of YUV4MPEG2 is good: its
+/// picture is written under that header, and its line tells `FormatChanged`. Images of PPM say
+/// neither, and nothing is told.
+///
+/// Answers how many frames there were, how many faults of both kinds, and the first fault. A file
+/// without faults has no line, and the pictures that `unpack` writes. Frames are counted from 0; a
+/// count of 64 bits stays at its greatest value, and at most 2^64 - 1 frames and faults are judged.
+/// Of YUV4MPEG2 each payload is decoded once, into the picture that is held, before anything of it
+/// is written; if it is refused, the last good one is decoded again. Images of PPM are written row
+/// by row, so each payload is decoded twice, first without writing, so that nothing of a refused
+/// picture is written. Beside what `unpack` holds, one payload more is held, the last good one.
+///
+/// All other faults end it as they end `unpack`, after the pictures and lines before: those of the
+/// file up to its first frame, of its record, `NoY4mName` and `NoPpm`, and of the chunks of its
+/// frames, if it is an AVI (`EmptyFrame`, too); `NoFrames` at the end if there was neither a frame
+/// nor a fault; `Read`, `OutOfMemory` and `Write` as they come. After `Write` a beginning of the
+/// next line or of the next picture is written.
+pub fn unpack_all<R: ByteIn, L: ByteOut, W: ByteOut, A: Allocator + Copy>(
+    alloc: A,
+    profile: Profile,
+    input: &mut R,
+    lines: &mut L,
+    output: W,
+) -> (W, Result<JudgedCounts, Fault>)
+    ensures ok { IfOk result.1 (UnpackAllDone profile
+        (passage R.remaining R.failures input.old input.new)
+        (passage L.contents L.failures lines.old lines.new)
+        (passage W.contents W.failures output result.0)) }
+    ensures err { IfErr result.1 (UnpackAllStops profile
+        (passage R.remaining R.failures input.old input.new)
+        (passage L.contents L.failures lines.old lines.new)
+        (passage W.contents W.failures output result.0)) }
+    ensures own { IfErr result.1 (IsUnpackFaultIn profile) }
+{
+    match open_whole(alloc, profile, input) {
+        Err(fault) => (output, Err(fault)),
+        Ok(mut player) => {
+            let (output, answer) = salvage_file(alloc, &mut player, input, lines, output);
+            match answer {
+                Err(fault) => (output, Err(fault)),
+                Ok(counts) => match found(counts) {
+                    Ok(counts) => (output, Ok(counts)),
+                    Err(fault) => (output, Err(fault)),
+                },
+            }
+        }
+    }
+}
