@@ -31,11 +31,16 @@ _ffv1() {
                 words="$words --container --codec-id --range --siting --primaries --transfer --matrix"
                 words="$words --verify --no-clobber --progress --help"
                 ;;
-            unpack) words="--all --from --frames --no-clobber --progress --help" ;;
-            check) words="--all --place --quiet --json --against --from --frames --progress --help" ;;
+            unpack)
+                words="--all --from --frames --no-clobber --progress --notes-as-faults --help"
+                ;;
+            check)
+                words="--all --place --quiet --json --against --from --frames --progress"
+                words="$words --notes-as-faults --help"
+                ;;
             show) words="--cost --help" ;;
             info) words="--count --json --help" ;;
-            framemd5) words="--from --frames --help" ;;
+            framemd5) words="--from --frames --notes-as-faults --help" ;;
             trial) words="--help" ;;
         esac
         case "$command $word" in

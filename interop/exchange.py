@@ -170,13 +170,17 @@ def encoded(name, pixels, width, height, *options, filters="null", inputs=(), ra
     return name
 
 
-def whole(results, what, kind, size, file):
-    """A file is read whole: as many frames as FFmpeg counts, and all its samples."""
+OPEN = "ffv1: note 90 Open\n"           # of a Segment without a size, and without Cues behind its frames
+
+
+def whole(results, what, kind, size, file, note=""):
+    """A file is read whole: as many frames as FFmpeg counts, and all its samples; and of its end this
+    is noted."""
     wanted, _ = decoded(file, kind.name, "-fps_mode", "passthrough")
     count = len(wanted) // kind.length(*size)
     status, out, errors = ffv1("check", file)
     results.same(f"{what}: check", (status, out.decode().splitlines()[-1:], errors),
-                 (0, [f"frames {count}"], ""))
+                 (0, [f"frames {count}"], note))
     status, _, errors = ffv1("unpack", file, "whole.out")
-    results.same(f"{what}: status", (status, errors), (0, ""))
+    results.same(f"{what}: status", (status, errors), (0, note))
     results.same(f"{what}: samples", samples_of(kind, *size, load("whole.out")) == wanted, True)

@@ -9,7 +9,7 @@ import shutil
 import sys
 
 from exchange import ASPECT, FRAMES, KINDS, TOP, conch, decoded, encoded, ffmpeg, ffv1, flipped, load
-from exchange import raw, run, save, text, whole, words_of
+from exchange import OPEN, raw, run, save, text, whole, words_of
 
 sys.path.append(os.path.join(TOP, "model"))
 
@@ -155,11 +155,11 @@ def read_around(results):
     save("chapters", CHAPTERS)
     for what, options, more in AROUND:
         file = encoded("around.mkv", "yuv422p", 96, 96, *options, **more)
-        whole(results, f"Matroska, {what}", C422, (96, 96), file)
+        whole(results, f"Matroska, {what}", C422, (96, 96), file, OPEN if "live" in what else "")
     for what, options in [("a pipe", []), ("a pipe without CRC-32", ["-write_crc32", "0"])]:
         words = words_of("yuv422p", (96, 96), options, "null", (), "25")
         save("piped.mkv", ffmpeg(*words, "-f", "matroska", "-"))
-        whole(results, f"Matroska, {what}", C422, (96, 96), "piped.mkv")
+        whole(results, f"Matroska, {what}", C422, (96, 96), "piped.mkv", OPEN)
 
 
 SLICES = ["-coder", "1", "-context", "1", "-slices"]
@@ -223,7 +223,8 @@ def read_forms(results):
         for name, form in [("finished", matroska.finished), ("open", matroska.open_form),
                            ("begun", matroska.begun)]:
             save("form.mkv", form(head, matroska.Shown(), frames))
-            whole(results, f"{name}, {kind.name}", kind, (96, 96), "form.mkv")
+            whole(results, f"{name}, {kind.name}", kind, (96, 96), "form.mkv",
+                  OPEN if name == "begun" else "")
 
 
 # --------------------------------------------------------------------------------- mkvmerge's files
@@ -281,7 +282,6 @@ OUTSIDE = [
     ("version 0", ["-level", "0"], "yuv420p", "15 Short"),
     ("version 2", ["-level", "2", "-strict", "-2"], "yuv420p", "17 Version"),
     ("version 4", ["-level", "4", "-strict", "-2"], "yuv420p", "17 Version"),
-    ("Golomb-Rice coding", ["-coder", "rice"], "yuv420p", "19 Coder"),
     ("another codec", ["-c:v", "mpeg4"], "yuv420p", "51 NoFfv1"),
 ]
 

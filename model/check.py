@@ -135,7 +135,8 @@ def example_checks():
         for length in range(298):
             yield f"{length} bytes of a file", read(EXAMPLE[:length], wide), (52, length >= 284)
     yield "what is left of a file", read(EXAMPLE + b"xy", False), ((2, 3, 25, 1, RECORD), [FRAME])
-    yield "what is no RIFF", read(EXAMPLE + b"xyzw", True), (50, True)
+    yield "bytes behind a file", read(EXAMPLE + b"xyzw", True), ((2, 3, 25, 1, RECORD), [FRAME])
+    yield "another file", read(EXAMPLE + EXAMPLE, True), (88, True)
     yield "the greatest file", files.riff_size(0, [2 ** 31 - 2 - 224]), 2 ** 31 - 2
     yield "a file too large", fault_of(lambda: files.write_avi(head, [Long()])), 55
     yield "the most microseconds", files.write_avi(

@@ -20,7 +20,7 @@ from random_matroska import Small, made, written
 
 SEED = 9559
 SUMMED = {"1F43B675", *(ident for _, ident in known.SEVEN)}
-FAULTS = {51, 52, 53, 54, 80, 81, 82, 83, 84, 85}
+FAULTS = {51, 52, 53, 54, 80, 81, 82, 83, 84, 85, 88}
 
 
 # ------------------------------------------------------------------------------ files that are read
@@ -40,13 +40,15 @@ class Failing:
 
 class Answer:
     """What a file is read as: what its Tracks say, where it could be opened; the size of its
-    Segment; the frames; the fault after them, or 0 for the end; and where the reader stands
-    then."""
+    Segment; the frames; the fault after them, or 0 for the end; where the reader stands then; and
+    what is noted, by number."""
 
     def __init__(self, read, tell):
         self.head, self.size, self.frames, self.fault = None, None, [], 0
+        source = ebml.Input(read)
+        self.notes = source.notes
         try:
-            self.head, self.size, frames = matroska.open_matroska(ebml.Input(read))
+            self.head, self.size, frames = matroska.open_matroska(source)
             for frame in frames:
                 self.frames.append(frame)
         except ffv1.Fault as fault:
@@ -308,10 +310,14 @@ def written_files(numbers):
         head, shown, frames = written(numbers)
         begun, opened, finished = (form(head, shown, frames) for form in [
             matroska.begun, matroska.open_form, matroska.finished])
-        for name, file, size in [("begun", begun, None), ("open", opened, None),
-                                 ("finished", finished, len(finished) - 52)]:
-            yield f"{name} file {number}", read(file + b"x" * (size is not None)).all(), \
-                (said(head), size, frames, 0, len(file))
+        for name, file, size, note in [
+                ("begun", begun, None, {90: "Open"}), ("open", opened, None, {}),
+                ("finished", finished, len(finished) - 52, {94: f"After byte {len(finished)}"})]:
+            more = b"x" * (size is not None)
+            answer = read(file + more)
+            yield f"{name} file {number}", answer.all(), \
+                (said(head), size, frames, 0, len(file + more))
+            yield f"what is noted of {name} file {number}", answer.notes, note
         yield f"the forms of file {number}", (opened[:len(begun)], opened[200:]), \
             (begun, finished[200:])
         yield f"places of file {number}", [pair for pair in places_of(finished)
@@ -367,7 +373,7 @@ def random_files():
         small = made(numbers, f"made file {number}")
         file, rest = small.file(), b"" if small.is_open else numbers.randbytes(5)
         yield small.name, read(file + rest).all(), \
-            (small.said, small.size(), small.frames, 0, len(file))
+            (small.said, small.size(), small.frames, 0, len(file + rest[:4]))
         yield from mutated_files(numbers, small.name, file + rest)
         head, shown, frames = written(numbers)
         form = numbers.choice([matroska.begun, matroska.open_form, matroska.finished])

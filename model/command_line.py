@@ -65,12 +65,12 @@ COMMANDS = {
         "primaries": (number(0, 255), 2), "transfer": (number(0, 255), 2),
         "matrix": (number(0, 255), 2),
     }, flags=["verify", "no-clobber", "progress"]),
-    "unpack": Level(2, RANGE, ["all", "no-clobber", "progress"]),
-    "check": Level(1, {"against": (str, None), **RANGE}, ["all", "place", "quiet", "json", "progress"],
-                   math.inf),
+    "unpack": Level(2, RANGE, ["all", "no-clobber", "progress", "notes-as-faults"]),
+    "check": Level(1, {"against": (str, None), **RANGE}, [
+        "all", "place", "quiet", "json", "progress", "notes-as-faults"], math.inf),
     "show": Level(1, flags=["cost"], most=math.inf),
     "info": Level(1, flags=["count", "json"], most=math.inf),
-    "framemd5": Level(1, RANGE, most=math.inf),
+    "framemd5": Level(1, RANGE, ["notes-as-faults"], most=math.inf),
     "trial": Level(1),
 }
 # What says nothing of colours.

@@ -83,7 +83,7 @@ def refuse(number, decoded, out, place):
     raise decoded.fault
 
 
-OF_FILE = {50, 51, 52, 53, 54, 56, 80, 81, 82, 83, 84, 85}      # a file's own faults, in reading
+OF_FILE = {50, 51, 52, 53, 54, 56, 80, 81, 82, 83, 84, 85, 88}  # a file's own faults, in reading
 
 
 def check(source, out, place, every, choice=ALL):
@@ -96,6 +96,8 @@ def check(source, out, place, every, choice=ALL):
         begun = lambda: data.begun
         config, frames = opened_in(data, is_matroska, every and is_all(choice))[1:3]
         first = check_frames(config, ranged(frames, choice, judged), out, place, every)
+        if first:
+            first.notes = source.notes
     except Fault as fault:
         if place and fault.number in OF_FILE:
             try:
@@ -154,6 +156,7 @@ def told_pictures(source, choice):
     a file are left out."""
     first = source.some(1)
     read = files.Source(after(first, source.read))
+    read.notes = source.notes
     if first in (b"P", b"Y") and first and is_all(choice):
         open_text, pictures = (files.open_ppm, files.ppm_pictures) if first == b"P" else \
             (files.open_y4m, files.y4m_pictures)
@@ -255,7 +258,7 @@ LOST = "AVI holds no range of colours and no siting of chroma, but .mkv does"
 KEPT = "--rate and --scale are for PPM: the rate of the text stands"
 
 
-def notes(order, head, is_avi):
+def said_beside(order, head, is_avi):
     """What is said of a text that was packed, beside the count."""
     given, made = ("standard input" if order.files[0] == "-" else order.files[0],
                    "standard output" if order.files[1] == "-" else order.files[1])
@@ -273,9 +276,9 @@ def made(order, source, out, over):
         return unpack(source, out, order.choice), ""
     if is_matroska(order.choice["container"], order.files[1]):
         count, head = pack_matroska(source, out, over, order.choice)
-        return count, notes(order, head, False)
+        return count, said_beside(order, head, False)
     count, head = pack(source, out, order.choice)
-    return count, notes(order, head, True)
+    return count, said_beside(order, head, True)
 
 
 def make(order, source, descriptors, output):
@@ -299,12 +302,13 @@ def make(order, source, descriptors, output):
 def unpack_all(source, out, output):
     """Unpacks all of a file that may be damaged. Its lines are printed as they come, and then how many
     frames there were; the first fault ends it. It answers what is printed on standard error, the lines
-    where OUT is standard output."""
+    where OUT is standard output. Own: nothing is noted."""
     told = []
     data, is_matroska = input_of(source)
     try:
         head, config, frames, _ = opened_in(data, is_matroska, True)
         count, first = salvage(head, config, frames, out, output or told.append)
+        source.notes.clear()
         (output or told.append)(f"frames {count}\n")
         if first:
             raise first
@@ -335,7 +339,8 @@ def compare(md5s, source, out):
 @objectively
 @quietly
 def perform(order, path, output, standard_input):
-    """Does what a line asks for with this IN, opened before OUT. It answers what standard error has."""
+    """Does what a line asks for with this IN, opened before OUT. It answers what standard error has, and
+    what is noted of the file, by number, but for its facts."""
     told, md5s = "", list_of(order.choice.get("against"), standard_input)
     descriptors = [os.dup(standard_input) if path == "-" else opened_file(path, os.O_RDONLY, 56)]
     try:
@@ -357,26 +362,40 @@ def perform(order, path, output, standard_input):
     finally:
         for descriptor in descriptors:
             os.close(descriptor)
-    return told
+    return told, {} if order.command == "info" else source.notes
+
+
+def noted(notes, path=""):
+    """The lines of what is noted of a file."""
+    return "".join(f"ffv1: {path}note {number} {text}\n" for number, text in sorted(notes.items()))
+
+
+def is_refused(order, notes):
+    """Whether a line asks for a status of 1 if anything is noted, and something is."""
+    return bool(order.choice.get("notes-as-faults") and notes)
 
 
 def perform_each(order, output, standard_input):
     """Does what a command line asks for with each of several files, up to a line that cannot be
     printed. It answers the exit status, and what is printed on standard error."""
-    told, path = [], ""
+    told, path, status = [], "", 0
     try:
         for path in order.files:
             is_line = order.choice.get("quiet") or order.choice.get("json")
             output("" if is_line else f"file {path}\n")
             try:
-                perform(order, path, output, standard_input)
+                notes = perform(order, path, output, standard_input)[1]
+                told.append(noted(notes, f"{path}: "))
+                status = max(status, is_refused(order, notes))
             except Fault as fault:
                 if fault.number == 57:
                     raise
-                told.append(f"ffv1: {path}: {fault}\n")
+                told.append(f"{noted(fault.notes, f'{path}: ')}ffv1: {path}: {fault}\n")
+                status = 1
     except Fault as fault:
         told.append(f"ffv1: {path}: {fault}\n")
-    return 1 if told else 0, "".join(told)
+        status = 1
+    return int(status), "".join(told)
 
 
 def run(line, output, standard_input=0):
@@ -385,7 +404,8 @@ def run(line, output, standard_input=0):
         order = words(line)
         if COMMANDS[order.command].most > 2 and len(order.files) > 1:
             return perform_each(order, output, standard_input)
-        return 0, perform(order, order.files[0], output, standard_input)
+        told, notes = perform(order, order.files[0], output, standard_input)
+        return int(is_refused(order, notes)), told + noted(notes)
     except Refused:
         return 2, None
     except Kept as kept:
@@ -393,7 +413,7 @@ def run(line, output, standard_input=0):
     except Help:
         return 0, None
     except Fault as fault:
-        return 1, getattr(fault, "told", "") + f"ffv1: {fault}\n"
+        return 1, getattr(fault, "told", "") + noted(fault.notes) + f"ffv1: {fault}\n"
 
 
 def refused_words(line):

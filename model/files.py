@@ -24,10 +24,11 @@ PIECE = 1 << 16
 class Source:
     """Bytes that are read from the left. `read` answers at most so many of them, and none at the
     end; a read that failed is 56. How many were read is counted, and how many stand before the
-    element or chunk that was begun last."""
+    element or chunk that was begun last. Notes are what leaves a doubt that no reader can settle, by
+    number."""
 
     def __init__(self, read):
-        self.read, self.position, self.begun = read, 0, 0
+        self.read, self.position, self.begun, self.notes = read, 0, 0, {}
 
     def mark(self):
         """An element or chunk begins here."""
@@ -454,6 +455,32 @@ def movi_frames(source, left, opening):
         yield get_chunk(source, size)
 
 
+EBML_ID = bytes.fromhex("1A45DFA3")
+
+
+def is_another(data):
+    """Whether another file begins with these bytes, as an RIFF that goes on with its file does not."""
+    return data[:4] == EBML_ID or data[:4] == b"RIFF" and data[8:] != b"AVIX"
+
+
+def behind_riff(source):
+    """The size of the next RIFF; none at the end of the file. Own: another file behind it is 88, and
+    for other bytes there is a note."""
+    begin, head = source.position, source.some(4)
+    if head == b"RIFF":
+        head += source.some(8)
+    if head[:4] == b"RIFF" and head[8:] == b"AVIX":
+        size = struct.unpack("<I", head[4:8])[0]
+        if size < 4:
+            raise Fault(50)
+        return size
+    if len(head) == 12 and is_another(head) or head[:4] == EBML_ID:
+        raise Fault(88)
+    if head:
+        source.notes[94] = f"After byte {begin}"
+    return None
+
+
 def movi_sizes(source, parts, opening, is_owed):
     """How many bytes each further movi has: of the RIFF of which these chunks are left, and of those
     after it, up to the end of the file, where no frame may be owed. Own: no frame stands in RIFF."""
@@ -467,17 +494,11 @@ def movi_sizes(source, parts, opening, is_owed):
             else:
                 source.skip(padded(size) - len(own), 52)
         source.mark()
-        riff = source.some(4)
-        if not riff and not is_owed():
+        size = behind_riff(source)
+        if size is None:
+            if is_owed():
+                raise Fault(52)
             return
-        if len(riff) < 4:
-            raise Fault(52)
-        if riff != b"RIFF":
-            raise Fault(50)
-        rest = source.exactly(8, 52)
-        size = struct.unpack("<I", rest[:4])[0]
-        if rest[4:] != b"AVIX" or size < 4:
-            raise Fault(50)
         parts = marked(source, size - 4)
 
 

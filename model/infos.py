@@ -25,6 +25,7 @@ RANGES = {1: "limited", 2: "full"}
 SITINGS = {(1, 2): "left", (2, 2): "centre", (1, 1): "topleft"}
 CONTEXTS = {666: "small", 365: "small", 7563: "large", 5063: "large", 16638: "large"}
 FIELDS = {1: "top field first", 2: "bottom field first", 3: "progressive"}
+CODERS = ["Golomb-Rice coder", "range coder, default table", "range coder, custom table"]
 CHROMAS = {(0, 0): "4:4:4", (1, 0): "4:2:2", (1, 1): "4:2:0", (2, 0): "4:1:1", (2, 2): "4:1:0",
            (0, 1): "4:4:0"}
 
@@ -88,7 +89,7 @@ def tell_record(config, facts):
         facts.pair("chroma", 2 ** chroma[0], ",", 2 ** chroma[1])
     facts.truth("transparency", config.extra)
     facts.pair("slices", config.columns, "x", config.rows)
-    facts.word("coder", f"range coder, {'default' if config.coder == 1 else 'custom'} table")
+    facts.word("coder", CODERS[config.coder])
     tell_contexts(facts, contexts)
     facts.truth("parity", config.ec)
     facts.truth("key_frames", config.intra)
@@ -147,12 +148,12 @@ def objectively(perform):
         met = None
         output(f'{{"path":{json.dumps(path, ensure_ascii=False)}')
         try:
-            perform(order, path, output, standard_input)
+            answer = perform(order, path, output, standard_input)
         except Fault as fault:
             met = fault
         first = json.dumps(met and told(met, {}), separators=(",", ":"))
         output(f',"fault":{first}}}\n')
         if met:
             raise met
-        return ""
+        return answer
     return performed

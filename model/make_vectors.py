@@ -154,14 +154,17 @@ def deltas_of(random):
             pass
 
 
-def config_of(random, depths=(8,)):
-    """A configuration of small pictures that is accepted, of any kind and of one of these depths;
-    of the wide profile where these are not 8 alone."""
+RANGE, RICE = (1, 1, 2), (0,)          # coder types: range coded samples, and Golomb-Rice coded ones
+
+
+def config_of(random, depths=(8,), coders=RANGE):
+    """A configuration of small pictures that is accepted, of any kind, of one of these depths and of
+    one of these coder types; of the wide profile where these are not 8 alone, or not range coded."""
     while True:
         kind = random.choice(["mono", "chroma", "chroma", "rct"])
         wide = random.random() < 0.1
         log2_h, log2_v = random.choice([(0, 0), (1, 0), (1, 1), (2, 0), (0, 2)]) if kind == "chroma" else (0, 0)
-        coder = random.choice([1, 1, 2])
+        coder = random.choice(coders)
         config = ffv1.Config(
             random.choice([32, 33, 40]) if wide else random.randrange(1, 12),
             random.choice([1, 2, 32]) if wide else random.randrange(1, 9),
@@ -170,7 +173,7 @@ def config_of(random, depths=(8,)):
             extra=kind != "mono" and random.random() < 0.4,
             columns=32 if wide else random.choice([1, 1, 2, 3, 4]),
             rows=random.choice([1, 1, 2, 3]), sets=[set_of(random) for _ in range(random.choice([1, 1, 2, 3]))],
-            ec=random.randrange(2), intra=random.randrange(2), wide=depths != (8,))
+            ec=random.randrange(2), intra=random.randrange(2), wide=depths != (8,) or coders != RANGE)
         config.depth = random.choice(depths) if config.wide else 8
         try:
             ffv1.check(config)
@@ -200,10 +203,10 @@ def planes_text(config, planes):
     return hexadecimal(files.bytes_of(samples, config.depth, "little"))
 
 
-def pictures(random, count, depths=(8,)):
+def pictures(random, count, depths=(8,), coders=RANGE):
     """A configuration, its picture, what is said of it, and the payload."""
     for _ in range(count):
-        config = config_of(random, depths)
+        config = config_of(random, depths, coders)
         planes, info = picture_of(random, config), info_of(random)
         yield config, planes, info, ffv1.encode_frame(config, planes, info)
 
@@ -272,6 +275,13 @@ def put_changed_head(random, encoder, config, slice, info):
         ffv1.put_number(encoder, "head", value)
 
 
+def other_bits(random):
+    """Bits of some samples: runs, numbers by few bits and whole ones, and of no sample at all."""
+    return "".join(random.choice(["1", "0", "01", "001", "1" * 5, "0" * 11 + "1", "0" * 12,
+                                  format(random.randrange(256), "08b")])
+                   for _ in range(random.randrange(12)))
+
+
 def changed_slice(random, config, slice, info):
     """A slice that is refused: by its start, by its head, or at some sample."""
     kind = random.randrange(5)
@@ -283,6 +293,8 @@ def changed_slice(random, config, slice, info):
         return encoder.sentinel() + bytes(random.randrange(256) for _ in range(random.randrange(9)))
     indexes = [0] * ffv1.index_count(config)
     ffv1.put_head(encoder, config, slice, indexes, *info)
+    if config.coder == 0:
+        return encoder.sentinel() + ffv1.packed(other_bits(random))
     for _ in range(random.choice([0, 0, 1, 3])):
         ffv1.put_number(encoder, ("sample", 0, 0), 0, signed=True)
     put_too_long(encoder, ("sample", 0, 0))
@@ -336,11 +348,11 @@ def decoded_in(config, payload, room):
             out.renormalisations, lines_text(config, out.lines)]
 
 
-def decoded(random, count, depths=(8,)):
+def decoded(random, count, depths=(8,), coders=RANGE):
     """width height record payload room fault slice plane line x structure num den ones zeros
     renormalisations lines"""
     lines = []
-    for config, _, info, payload in pictures(random, count, depths):
+    for config, _, info, payload in pictures(random, count, depths, coders):
         lines.append(decoded_line(random, config, payload))
         for _ in range(6):
             lines.append(decoded_line(random, config, other_payload(random, config, info, payload)))

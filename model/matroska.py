@@ -11,7 +11,7 @@ import struct
 import ebml
 from ebml import CRC_32, VOID, get_header, known
 from ffv1 import Fault
-from files import FRAME_LIMIT
+from files import EBML_ID, FRAME_LIMIT
 
 SEGMENT, SEEK_HEAD, INFO, TRACKS = 0x18538067, 0x114D9B74, 0x1549A966, 0x1654AE6B
 CLUSTER, CUES = 0x1F43B675, 0x1C53BB6B
@@ -159,7 +159,7 @@ class Segment:
     the Segment are those of a Cluster of unknown size, too."""
 
     def __init__(self, source, size):
-        self.source, self.is_open = source, size is None
+        self.source, self.is_open, self.size, self.cued = source, size is None, size, False
         self.left = OPEN if size is None else size
         self.cluster, self.group, self.begins, self.loose = 0, 0, False, False
         self.known = ()
@@ -177,7 +177,7 @@ class Segment:
 
     def enter(self, size):
         """A Cluster: of unknown size its elements are read as elements of the Segment."""
-        self.loose = size is None
+        self.loose, self.cued = size is None, False
         self.cluster, self.begins = size or 0, True
 
     def other(self, header):
@@ -186,7 +186,7 @@ class Segment:
         ident, size = known(header)
         if ident in JUDGED:
             ebml.pass_judged(self.source, size)
-            self.loose = False
+            self.loose, self.cued = False, self.cued or ident == CUES
         elif ident in PASSED or self.loose and ident in OF_CLUSTER:
             self.source.skip(size, 52)
         else:
@@ -278,6 +278,21 @@ class Segment:
             self.source.judge()
         return frame
 
+    def look_behind(self):
+        """What the end leaves to be said. Own: an open Segment that has no Cues behind its last
+        Cluster may have been cut; behind one of known size another file is 88, and for other bytes
+        there is a note."""
+        if self.size is None:
+            if not self.cued:
+                self.source.notes[90] = "Open"
+            return
+        self.source.mark()
+        begin, data = self.source.position, self.source.some(4)
+        if data in (EBML_ID, b"RIFF"):
+            raise Fault(88)
+        if data:
+            self.source.notes[94] = f"After byte {begin}"
+
     def frames(self, number):
         """The frames of a track, in turn."""
         while True:
@@ -286,7 +301,7 @@ class Segment:
             else:
                 header = self.header()
                 if header is None:
-                    return
+                    return self.look_behind()
                 frame = self.step(header, number)
             if frame is not None:
                 yield frame
@@ -317,10 +332,9 @@ def open_matroska(source, read=Segment.frames):
             segment.other(header)
     if head is None:
         raise Fault(82)
-    if header is None:
-        return head, size, iter(())
     segment.known = head.known
-    segment.enter(header[1])
+    if header:
+        segment.enter(header[1])
     return head, size, read(segment, head.number)
 
 

@@ -20,11 +20,13 @@ def after(data, read):
 
 def input_of(source):
     """The bytes of a file from its beginning, of which the first was looked at, and whether it is
-    Matroska. Own: what begins with the byte 1A is, and all else is an AVI, which is read to the end of
-    its last RIFF."""
+    Matroska. Own: what begins with the byte 1A is, and all else is an AVI. What is noted of it is noted
+    of the source."""
     first = source.some(1)
     read = after(first, source.read)
-    return (ebml.Input(read), True) if first == EBML else (files.Source(read), False)
+    data = ebml.Input(read) if first == EBML else files.Source(read)
+    data.notes = source.notes
+    return data, first == EBML
 
 
 def opened(source):

@@ -84,8 +84,8 @@ def quietly(perform):
             return perform(order, path, output, standard_input)
         lines, met = [], None
         try:
-            perform(Order(order.command, [path], {**order.choice, "place": True}), path,
-                    lines.append, standard_input)
+            answer = perform(Order(order.command, [path], {**order.choice, "place": True}),
+                             path, lines.append, standard_input)
         except Fault as fault:
             met = fault
         verdict = Verdict(lines, met, order.choice["all"])
@@ -94,5 +94,5 @@ def quietly(perform):
                else verdict.text("standard input" if path == "-" else path))
         if met:
             raise met
-        return ""
+        return answer
     return performed

@@ -9,7 +9,8 @@ FAULTS = {
     1: "StateTable", 3: "BadStart", 4: "SymbolTooLong", 5: "Runs", 6: "Contexts", 7: "Colour",
     8: "Overread", 9: "Ending", 10: "Size", 11: "Grid", 12: "ChromaEdge", 13: "Subsampling", 14: "Sets", 15: "Short", 16: "Parity",
     17: "Version", 18: "MicroVersion", 19: "Coder", 20: "ColourSpace", 21: "Depth",
-    22: "CodedStates", 23: "Ec", 24: "Intra", 25: "ExtraPlane", 30: "NotKey", 31: "Place",
+    22: "CodedStates", 23: "Ec", 24: "Intra", 25: "ExtraPlane", 27: "BitsEnd", 28: "BadCode",
+    29: "Padding", 30: "NotKey", 31: "Place",
     32: "SetIndex", 33: "Structure", 34: "Aspect", 35: "Footer", 36: "Leftover",
     37: "SliceParity", 38: "SliceStatus", 39: "Overlap", 40: "SliceTooLong", 41: "InfoDiffers",
     42: "Sink", 50: "NotAvi", 51: "NoFfv1", 52: "Truncated", 53: "ChunkTooLong", 54: "EmptyFrame",
@@ -17,17 +18,19 @@ FAULTS = {
     63: "FrameLine", 64: "FrameTruncated", 65: "SampleTooLarge", 66: "List", 70: "NoFrames",
     71: "FormatChanged", 72: "NoY4mName", 73: "NoPpm", 80: "NotMatroska", 81: "BadElement",
     82: "NoTracks", 83: "Encoded", 84: "Laced", 85: "Checksum", 86: "Rate", 87: "NotSame",
-    89: "Differs",
+    88: "Another", 89: "Differs",
 }
 
 
 class Fault(Exception):
     """Why something is refused, by its number; with the slice that it was met in, and in a frame with
-    the plane, the line and the column."""
+    the plane, the line and the column; and what is noted of a file that was read to its end, by
+    number."""
 
     def __init__(self, number, slice=0, plane=0, line=0, x=0):
         super().__init__(f"{number} {FAULTS[number]}")
         self.number, self.slice, self.plane, self.line, self.x = number, slice, plane, line, x
+        self.notes = {}
 
 
 # ------------------------------------------------------- state transition tables (3.8.1.4 to 3.8.1.6)
@@ -89,11 +92,11 @@ class Interval:
         if self.width < 256:
             self.low, self.width, self.count = 256 * self.low, 256 * self.width, self.count + 1
 
-    def ended(self):
-        """3.8.1.1.1: what one more decision 0 by the state 129 would leave."""
+    def ended(self, bit=0):
+        """3.8.1.1.1: what one more decision by the state 129, a 0, would leave."""
         end = Interval()
         end.low, end.width, end.count = self.low, self.width, self.count
-        end.narrow(129, 0)
+        end.narrow(129, bit)
         return end
 
 
@@ -156,6 +159,12 @@ class Decoder:
         self.interval.narrow(state, bit)
         self.history.append(slot, bit)
         return bit
+
+    def bits_place(self):
+        """3.8.2: where bits begin behind these decisions: after one more by the state 129, whichever it
+        is, with the last byte that was read."""
+        middle = self.interval.low + self.interval.width - self.interval.width * 129 // 256
+        return self.interval.ended(int(self.number(self.interval.count) >= middle)).count - 1
 
     def is_ended(self):
         """Whether the bytes are those of a list that the sentinel ends here."""

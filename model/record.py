@@ -77,6 +77,8 @@ def check(config):
     for side in [(c.width, c.columns, 2 ** c.log2_h), (c.height, c.rows, 2 ** c.log2_v)]:
         if not (is_reached(*side) if c.wide else are_multiples(*side)):
             raise Fault(12)
+    if c.coder == 0 and (not c.wide or c.depth != 8):
+        raise Fault(19)
 
 
 def are_multiples(size, count, factor):
@@ -172,7 +174,7 @@ def read_record(data, width, height, wide=False):
     d = Decoder(data[:-4])
     get_judged(d, [3], 17)
     get_judged(d, [4], 18)
-    coder = get_judged(d, [1, 2], 19)
+    coder = get_judged(d, [0, 1, 2] if wide else [1, 2], 19)
     deltas = [get_number(d, "record", signed=True) for _ in range(255)] if coder == 2 else None
     if deltas:
         table_of(deltas)

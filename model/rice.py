@@ -2,10 +2,11 @@
 """Golomb-Rice coded samples of version 3 (RFC 9043, 3.8.2): key frames of 8 bits.
 
 Behind its head a slice has bits, the high one of each byte first, and zeros up to a byte. They
-are a function of its samples alone, and a payload that has other ones is refused.
+are a function of its samples alone, and a payload that has other ones is refused. Here bits are made
+of samples, and samples are read of bits.
 """
-
-from ffv1 import Cell, bits_of, cell_of, class_of, context_of, lines_in, plane_count, predicted
+from cells import Cell, bits_of, cell_of, class_of, context_of, lines_in, plane_count, predicted
+from range_coder import Fault
 
 # 3.8.2.2.1: the binary logarithm of how many differences a 1 of a run stands for.
 LOG2_RUN = [0, 0, 0, 0, 1, 1, 1, 1, 2, 2, 2, 2, 3, 3, 3, 3, 4, 4, 5, 5, 6, 6, 7, 7, *range(8, 25)]
@@ -124,3 +125,127 @@ def packed(text):
     """Bits as bytes, with zeros up to the last one's end."""
     text += "0" * (-len(text) % 8)
     return bytes(int(text[k:k + 8], 2) for k in range(0, len(text), 8))
+
+
+# ------------------------------------------------------------------------------------------ reading
+
+class Bits:
+    """3.8.2: bytes as bits, the high one of each first, of which the first so many were read. Own: no
+    bit is read behind the last byte (27)."""
+
+    def __init__(self, data):
+        self.text = "".join(format(byte, "08b") for byte in data)
+        self.place = 0
+
+    def take(self, count, x):
+        """The number of the next so many bits, as a sample needs them."""
+        text = self.text[self.place:self.place + count]
+        if len(text) < count:
+            raise Fault(27, x=x)
+        self.place += count
+        return int(text, 2) if count else 0
+
+    def are_padding(self):
+        """Own: whether zeros are left, fewer than a byte has."""
+        left = self.text[self.place:]
+        return len(left) < 8 and "1" not in left
+
+
+def get_folded(reader, k, bits, x):
+    """3.8.2.1: a number. Own: 28 where it has more bits than a sample, or is written whole and need
+    not be."""
+    zeros = 0
+    while zeros < LIMIT and not reader.take(1, x):
+        zeros += 1
+    if zeros < LIMIT:
+        number = (zeros << k) + reader.take(k, x)
+    else:
+        number = reader.take(bits, x) + LIMIT - 1
+        if number >> k < LIMIT:
+            raise Fault(28, x=x)
+    if number >= 1 << bits:
+        raise Fault(28, x=x)
+    return number
+
+
+def get_scalar(reader, state, bits, behind_run, x):
+    """3.8.2.3: a difference by the state of its context. Own: 28 where one behind a run is none of so
+    many bits."""
+    number = get_folded(reader, state.parameter(), bits, x)
+    value = -(number + 1) // 2 if number % 2 else number // 2
+    value = -1 - value if state.turns() else value
+    difference = fold(value + state.bias, bits)
+    if behind_run and difference >= 0:
+        difference += 1
+        if difference == 1 << bits - 1:
+            raise Fault(28, x=x)
+    state.take(value)
+    return difference
+
+
+class Samples:
+    """3.8.2.2: the samples of a line, each predicted from those that are known, and its difference."""
+
+    def __init__(self, config, tables, cell):
+        self.config, self.tables, self.cell, self.y = config, tables, cell, len(cell.lines)
+        self.line = []
+        cell.lines.append(self.line)
+
+    def left(self):
+        return self.cell.width - len(self.line)
+
+    def context(self):
+        return context_of(self.tables, *self.cell.around(len(self.line), self.y))
+
+    def add(self, difference):
+        """The next sample, by its difference as it is coded."""
+        around = self.cell.around(len(self.line), self.y)
+        difference = -difference if self.context()[1] else difference
+        self.line.append((predicted(self.config, *around[:3]) + difference) % 2 ** bits_of(self.config))
+
+
+def get_run(reader, samples, run):
+    """3.8.2.2.1: a run, up to the difference that ends it or to the end of the line. Own: 28 where one
+    that ends before would leave the line."""
+    while samples.left() and reader.take(1, len(samples.line)):
+        length = 1 << LOG2_RUN[run.index]
+        if length <= samples.left():
+            run.index += 1
+        for _ in range(min(length, samples.left())):
+            samples.add(0)
+    if samples.left():
+        x = len(samples.line)
+        length = reader.take(LOG2_RUN[run.index], x)
+        if length >= samples.left():
+            raise Fault(28, x=x)
+        run.index = max(run.index - 1, 0)
+        for _ in range(length):
+            samples.add(0)
+
+
+def get_line(reader, config, tables, cell, states, run):
+    """3.8.2: the samples of the next line. Own: 27 and 28 at the first that has none."""
+    samples = Samples(config, tables, cell)
+    while samples.left():
+        behind_run = samples.context()[0] == 0
+        if behind_run:
+            get_run(reader, samples, run)
+        if samples.left():
+            state = states.setdefault(samples.context()[0], State())
+            samples.add(get_scalar(reader, state, bits_of(config), behind_run, len(samples.line)))
+
+
+class Reader:
+    """The bits of a slice as they are read: states by class, and how many bits of whole lines were
+    read."""
+
+    def __init__(self, config, data):
+        self.config, self.bits, self.states, self.runs = config, Bits(data), {}, {}
+        self.read = 0
+
+    def line(self, tables, plane, cell):
+        """The next line of a plane. Own: the run index is 0 at each plane of YCbCr, and at each slice
+        of RCT."""
+        run = self.runs.setdefault(0 if self.config.rct else plane, Line())
+        get_line(self.bits, self.config, tables, cell, self.states.setdefault(class_of(plane), {}), run)
+        self.read = self.bits.place

@@ -152,11 +152,13 @@ def rows():
         yield f"{count} more RIFFs", 1, EXAMPLE + count * MORE, SAID, one * (count + 1), 0, 0
     yield "the first movi alone", 0, EXAMPLE + 2 * MORE, SAID, one, 0, 76
     for n in range(1, 38):
-        yield f"{n} bytes of a RIFF", 1, EXAMPLE + MORE[:n], SAID, one, 52, None
-        yield f"{n} bytes of another", 1, EXAMPLE + MORE + MORE[:n], SAID, one * 2, 52, None
+        fault = 0 if n < 12 else 52
+        yield f"{n} bytes of a RIFF", 1, EXAMPLE + MORE[:n], SAID, one, fault, 0
+        yield f"{n} bytes of another", 1, EXAMPLE + MORE + MORE[:n], SAID, one * 2, fault, 0
     for after, count, fault in [
-            (bytes(4), 1, 50), (MORE + bytes(4), 2, 50), (MORE + bytes(3), 2, 52),
-            (b"RIFX" + MORE[4:], 1, 50), (MORE[:8] + b"AVI " + MORE[12:], 1, 50),
+            (bytes(4), 1, 0), (MORE + bytes(4), 2, 0), (MORE + bytes(99), 2, 0),
+            (b"RIFX" + MORE[4:], 1, 0), (MORE[:8] + b"AVI " + MORE[12:], 1, 88),
+            (bytes.fromhex("1A45DFA3"), 1, 88), (bytes.fromhex("1A45DF"), 1, 0),
             (b"RIFF\3\0\0\0" + MORE[8:], 1, 50), (b"RIFF\x1f\0\0\0" + MORE[8:], 2, 52),
             (b"RIFF\x1d\0\0\0" + MORE[8:], 1, 52)]:
         yield f"after: {after}", 1, EXAMPLE + after, SAID, one * count, fault, None

@@ -18,13 +18,14 @@ def fault_of(action):
 class Step:
     """One command line: its standard output, and the fault on standard error; or status 2, and
     clap's text there; or what is said there, as the count where standard output has what OUT
-    would."""
+    would; and behind that, before the fault, what is noted."""
 
-    def __init__(self, words, output="", fault="", status=None, errors=None):
+    def __init__(self, words, output="", fault="", status=None, errors=None, note=""):
         self.words, self.output = words, output
         self.status = status if status is not None else 1 if fault else 0
-        said = errors if errors is not None else ANY if status is not None else ""
-        self.errors = f"ffv1: {fault}\n" if fault else said
+        said = errors if errors is not None else ANY if status is not None and not note else ""
+        noted = f"ffv1: note {note}\n" if note else ""
+        self.errors = f"{noted}ffv1: {fault}\n" if fault else said + noted if note else said
 
 
 def kept(words, why):
@@ -108,6 +109,6 @@ def put_too_long(encoder, base):
         encoder.put((base, 1 + min(k, 9)), 1)
 
 
-def checked(name, file, output, fault=""):
+def checked(name, file, output, fault="", note=""):
     """A file that is checked."""
-    return Case(name, {"in": file}, [Step(["check", "in"], output, fault)], {"in": file})
+    return Case(name, {"in": file}, [Step(["check", "in"], output, fault, note=note)], {"in": file})

@@ -66,6 +66,8 @@ ROWS = [
      [FRAME, (157, "54 EmptyFrame"), FRAME]),
     ("cut in a frame", whole(C, C)[:180], [FRAME, (172, CUT)]),
     ("cut between Clusters", whole(C, C)[:157], [FRAME, (157, CUT)]),
+    ("another file after a Segment that ends in a Cluster", short(46) + H,
+     [FRAME, (157, CUT), FRAME, FRAME, (209, BAD)]),
 ]
 
 

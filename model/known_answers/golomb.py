@@ -88,9 +88,50 @@ PICTURES = [
 ]
 
 
+# The payload of each, in turn.
+PAYLOADS = [
+    "fc9b80000003", "fc9b50000003", "fc9b0007a0000005", "fc9bfc000003", "fc9b1254e0000005",
+    "fc9bffd040a0000006", "fc9bf8000003", "fc9bf114000004", "fc9b06040e000f2000d600146000000d",
+    "fc9b4da5a57d28000007", "f4d3060e08000f2000d400144000000d", "fc9b4de8003d0f90000008",
+    "fc9bff000003", "fd7100c000f43f54000008", "fc9b0001c4001f4400000009", "fc9bf0003e98feff000008",
+    "fd71c001f49fd8003e3000000a", "fc9b092400000400463da87b3e3d0921e00000050044cd0087",
+]
+
+# Payloads with other heads: name, width, height, payload, samples.
+HEADS = [
+    ("mono 1 by 1, 0, structure 3, aspect 9:3: the sentinel is read as 1",
+     1, 1, "fc253280000004", [0]),
+    ("mono 4 by 2, all 0, the head ended by one more than the least number",
+     4, 2, "fc9cfc000003", [0, 0, 0, 0, 0, 0, 0, 0]),
+]
+
+# Payloads that are refused: name, width, height, payload, fault, and where: slice, plane, line, column.
+REFUSED = [
+    ("mono 4 by 2, bits 111111, then padding of a 1",
+     4, 2, "fc9bfd000003", 29, (0, 0, 1, 0)),
+    ("the same and a byte 00 more",
+     4, 2, "fc9bfc00000004", 29, (0, 0, 1, 0)),
+    ("the same without its bits",
+     4, 2, "fc9b000002", 27, (0, 0, 0, 0)),
+    ("an escape of 11, which is 1 11 by k = 2",
+     4, 2, "fc9b000007e0000006", 28, (0, 0, 0, 0)),
+    ("an escape of 256",
+     4, 2, "fc9b0007aff8000006", 28, (0, 0, 0, 0)),
+    ("behind a run the number of 127, whose difference is 128",
+     4, 2, "fc9b00079ff8000006", 28, (0, 0, 0, 0)),
+    ("mono 5 by 1, bits 1111 0 1: a run of 1 that is broken, where one sample is left",
+     5, 1, "fc9bf4000003", 28, (0, 0, 0, 4)),
+]
+
+
+def config_of(width, height, options):
+    """A configuration of Golomb-Rice coded samples; with parity in slices side by side alone."""
+    return ffv1.Config(width, height, coder=0, ec=int("columns" in options), wide=True, **options)
+
+
 def slices_of(width, height, options, table_set, planes):
     """The bits of each slice of a picture by the model."""
-    config = ffv1.Config(width, height, coder=0, **options)
+    config = config_of(width, height, options)
     lines = []
     for plane, samples in enumerate(planes):
         long, high = ffv1.reduced(config, plane, width, height)
@@ -99,8 +140,26 @@ def slices_of(width, height, options, table_set, planes):
     return [rice.slice_bits(config, coded, slice, indexes) for slice in range(config.slices())]
 
 
+def decoded(config, payload):
+    """The samples of each plane by the model; or the fault and where it is."""
+    out = ffv1.decode_frame(config, bytes.fromhex(payload))
+    if out.fault:
+        fault = out.fault
+        return fault.number, (fault.slice, fault.plane, fault.line, fault.x)
+    planes = {}
+    for plane, _, samples in out.lines:
+        planes.setdefault(plane, []).extend(samples)
+    return [planes[plane] for plane in sorted(planes)]
+
+
 def checks():
     """What the model answers, beside what is known."""
     for name, *picture, bits in PICTURES:
         yield f"bits of {name}", slices_of(*picture), bits
+    for (name, width, height, options, _, planes, _), payload in zip(PICTURES, PAYLOADS):
+        yield f"the payload of {name}", decoded(config_of(width, height, options), payload), planes
+    for name, width, height, payload, samples in HEADS:
+        yield name, decoded(config_of(width, height, {}), payload), [samples]
+    for name, width, height, payload, fault, place in REFUSED:
+        yield name, decoded(config_of(width, height, {}), payload), (fault, place)
     yield "bits as bytes", rice.packed("000000000000011110100"), bytes.fromhex("0007A0")

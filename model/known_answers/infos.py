@@ -46,7 +46,7 @@ def facts():
     """Facts of an AVI, each group as far as the file is sound."""
     given = {"a": avi(one(), [FRAME] * 3), "b": avi(one(), [bytes(3), FRAME]),
              "c": avi(one(), [FRAME, bytes(3)])[:-1], "d": avi(one(), []), "e": b"", "f": b"no file",
-             "g": avi(one(coder=0), [FRAME])}
+             "g": avi(one(coder=0), [bytes.fromhex("FC9B80000003")])}
     rest = HEAD + RECORD + PICTURE
     whole_a = outline(3) + rest
     of_b = OBJECT.replace("0.120", "0.080").replace('"frames":3', '"frames":2')
@@ -70,7 +70,10 @@ def facts():
              f"file f\ncontainer           unknown\nfile no\nfile a\n{whole_a}", status=1,
              errors="ffv1: f: 52 Truncated\nffv1: no: 56 Read\n")], given)
     yield Case("info of Golomb-Rice", given, [
-        Step(["info", "g"], outline(1) + HEAD, "19 Coder")], given)
+        Step(["info", "g"], outline(1) + HEAD
+             + RECORD.replace("range coder, default table", "Golomb-Rice coder")
+             + PICTURE.replace("aspect       unknown", "aspect       1:1").replace("aspect      unknown", "aspect      1:1"))],
+               given)
 
 
 MATROSKA = """container           Matroska

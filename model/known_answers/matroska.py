@@ -120,7 +120,7 @@ HEADERS = [
     ("a size of eight bytes, of which seven are there", whole(C, "EC", UNKNOWN[:14]), 1, 52, 6),
     ("a size of two bytes, of which one is there", whole(C, "EC 40") + b"ab", 1, 52, 2),
     ("an element that passes by a byte", whole(C, "EC 83 0000") + b"abc", 1, 52, 5),
-    ("an element that suits", whole(C, "EC 83 000000") + b"abc", 1, 0, 3),
+    ("an element that suits", whole(C, "EC 83 000000") + b"abc", 1, 0, 0),
     ("Void of no bytes", whole(C, "EC 80", C), 2, 0, 0),
     ("Void of unknown size", whole(C, "EC FF", C), 1, 81, 26),
     ("Void of unknown size, in two bytes", whole(C, "EC 7FFF", C), 1, 81, 26),
@@ -234,7 +234,7 @@ SEGMENTS = [
     ("a cut size", H + spell("18538067 0100"), 0, 52, 0),
     ("open in one byte", H + spell("18538067 FF", T, C), 1, 0, 0),
     ("open in four bytes", H + spell("18538067 1FFFFFFF", T, C), 1, 0, 0),
-    *((f"a size of {k} bytes", H + element("18538067", T, C, length=k) + b"abc", 1, 0, 3)
+    *((f"a size of {k} bytes", H + element("18538067", T, C, length=k) + b"abcde", 1, 0, 1)
       for k in range(1, 9)),
     ("a Segment of no bytes", H + segment() + C, 0, 82, 26),
     ("an open one of no bytes", H + open_segment(), 0, 82, 0),
@@ -243,11 +243,11 @@ SEGMENTS = [
     ("a Cluster of unknown size before Tracks", H + segment(LOOSE, B, T), 0, 82, 90),
     ("a Cluster of no bytes before Tracks", H + segment(cluster(), T), 0, 82, 79),
     ("an open file without Cluster", opened(), 0, 0, 0),
-    ("two whole files", whole(C) + whole(C), 1, 0, 157),
+    ("two whole files", whole(C) + whole(C), 1, 88, 153),
     ("a byte after an open one", opened(C) + b"\xec", 1, 52, 0),
     ("a Segment that says more than there is", spell(whole(C)[:44], size(106), T, C), 1, 52, 0),
     ("a Segment that says less", spell(whole(C)[:44], size(104), T, C), 0, 52, 14),
-    ("a Segment that ends after Tracks", spell(whole(C)[:44], size(79), T, C), 0, 0, 26),
+    ("a Segment that ends after Tracks", spell(whole(C)[:44], size(79), T, C), 0, 0, 22),
     ("a second Tracks", whole(element("1654AE6B", "EC80"), C), 1, 0, 0),
     ("a second Tracks after a Cluster", whole(C, T, C), 2, 0, 0),
     ("a second Tracks with another track", whole(T.replace(b"\xd7\x81\x01", b"\xd7\x81\x02"), C), 1,
@@ -485,6 +485,15 @@ SUMS = [
 ROWS = [("", EXAMPLES), ("header: ", HEADERS), ("outside: ", GROWN), ("EBML: ", EBML),
         ("Segment: ", SEGMENTS), ("Segment: ", list(of_seven())), ("Cluster: ", CLUSTERS),
         ("Cluster of unknown size: ", LOOSE_CLUSTERS), ("block: ", BLOCKS), ("CRC-32 ", SUMS)]
+
+
+# what is noted of those that are read to their end
+OPEN = "90 Open"
+NOTED = {
+    "header: an element that suits": "94 After byte 162", "Segment: open in one byte": OPEN,
+    "Segment: open in four bytes": OPEN, "Cluster of unknown size: open, and cut between blocks": OPEN,
+    **{f"Segment: a size of {k} bytes": f"94 After byte {149 + k}" for k in range(1, 9)},
+}
 
 
 def files():

@@ -26,13 +26,13 @@ def text(count):
     return y4m("W1 H1 F0:0 I? A0:0 Cmono", *[b"\0"] * count) if count else b""
 
 
-def read(name, file, count, fault=""):
-    """A file of so many frames, and then a fault, or no more."""
+def read(name, file, count, fault="", note=""):
+    """A file of so many frames, and then a fault, or no more, and what is noted of it."""
     fault = fault or ("" if count else "70 NoFrames")
     ended = "" if fault else f"frames {count}\n"
     return Case(name, {"in": file}, [
-        Step(["check", "in"], lines(count) + ended, fault),
-        Step(["unpack", "in", "out"], ended, fault)], {"in": file, "out": text(count)})
+        Step(["check", "in"], lines(count) + ended, fault, note=note),
+        Step(["unpack", "in", "out"], ended, fault, note=note)], {"in": file, "out": text(count)})
 
 
 def of_segment(text, file):
@@ -57,7 +57,7 @@ def known_files():
     for name, file, count, number, _ in matroska.files():
         fault = f"{number} {ffv1.FAULTS[number]}" if number else ""
         if file.startswith(b"\x1a"):
-            yield read(f"Matroska: {name}", file, count, fault)
+            yield read(f"Matroska: {name}", file, count, fault, matroska.NOTED.get(name, ""))
 
 
 def said_of(answer):
@@ -82,20 +82,21 @@ def known_tracks():
 # ---------------------------------------------------------------------------------- the three forms
 
 BEGUN_EXAMPLE = OPEN_EXAMPLE[:BEGUN]
-FORMS = [("finished", EXAMPLE), ("open", OPEN_EXAMPLE), ("begun", BEGUN_EXAMPLE)]
+FORMS = [("finished", EXAMPLE, ""), ("open", OPEN_EXAMPLE, ""),
+         ("begun", BEGUN_EXAMPLE, "90 Open")]
 TRACKS_END, CLUSTER_BEGINS = 308, 320       # where Tracks end, and the Cluster's content begins
 
 
 def forms():
     """The smallest file in its three forms, by each command."""
-    for name, file in FORMS:
+    for name, file, note in FORMS:
         yield Case(f"the smallest file, {name}", {"in": file}, [
-            Step(["check", "in"], LINE + "frames 1\n"),
-            Step(["check", "--place", "in"], LINE + "frames 1\n"),
+            Step(["check", "in"], LINE + "frames 1\n", note=note),
+            Step(["check", "--place", "in"], LINE + "frames 1\n", note=note),
             Step(["show", "in"], of_segment(SHOWN_MONO, file)),
-            Step(["show", "--cost", "in"], of_segment(SHOWN_MONO + FIRST, file)),
-            Step(["unpack", "in", "out"], "frames 1\n"),
-            Step(["unpack", "in", "-"], MONO.decode("latin-1"), errors="frames 1\n"),
+            Step(["show", "--cost", "in"], of_segment(SHOWN_MONO + FIRST, file), note=note),
+            Step(["unpack", "in", "out"], "frames 1\n", note=note),
+            Step(["unpack", "in", "-"], MONO.decode("latin-1"), errors="frames 1\n", note=note),
         ], {"in": file, "out": MONO})
         yield Case(f"no text, {name}", {"in": file}, [
             Step(["pack", "in", "out"], "", "60 Header"), Step(["trial", "in"], "", "60 Header")],
@@ -109,11 +110,12 @@ def cut(name, file, length, ends):
     count = 1 if length >= BEGUN else 0
     is_open = length >= CLUSTER_BEGINS or length == TRACKS_END and length in ends
     ended = "" if fault else "frames 1\n"
+    note = "90 Open" if length == BEGUN and not fault else ""
     return Case(f"{length} bytes of {name}", {"in": file[:length]}, [
         Step(["show", "in"], of_segment(SHOWN_MONO, file) if is_open else "",
              "" if is_open else fault),
-        Step(["check", "in"], lines(count) + ended, fault),
-        Step(["unpack", "in", "out"], ended, fault)], {"out": text(count)})
+        Step(["check", "in"], lines(count) + ended, fault, note=note),
+        Step(["unpack", "in", "out"], ended, fault, note=note)], {"out": text(count)})
 
 
 def beginnings():
@@ -244,7 +246,7 @@ def others():
         element("1549A966", summed("EC80")), by_bitmap, cluster(laced, B, laced, B),
         element("1254C367")), 2)
     yield read("Matroska that is open, with Clusters of unknown size", H + open_segment(
-        by_bitmap, LOOSE, "E780", laced, B, LOOSE, "E780", element("A0", laced, "A1", B[1:])), 2)
+        by_bitmap, LOOSE, "E780", laced, B, LOOSE, "E780", element("A0", laced, "A1", B[1:])), 2, note="90 Open")
     encoded = element("6D80", element("6240", spell("5034 80")))
     yield read("Matroska that is compressed", mkv(one(), [FRAME], encoded), 0, "83 Encoded")
     yield read("Matroska without FFV1", H + segment(element("1654AE6B", sound), C), 0, "51 NoFfv1")

@@ -94,9 +94,9 @@ def ends():
         Step(["check", "--quiet", "--from", "2", "c"], "c: 52 Truncated at byte 264\n",
              "52 Truncated"),
         Step(["framemd5", "--from", "2", "c"], "", "52 Truncated"),
-        Step(["check", "d"], line(0), "50 NotAvi"),
+        Step(["check", "d"], line(0) + "frames 1\n", note="94 After byte 264"),
         Step(["check", "--frames", "1", "d"], line(0) + "frames 1\n"),
-        Step(["check", "--from", "1", "d"], "", "50 NotAvi"),
+        Step(["check", "--from", "1", "d"], "", "70 NoFrames"),
         Step(["unpack", "--frames", "1", "d", "out"], "frames 1\n")],
         {"out": picture("I? A0:0", 0)})
 

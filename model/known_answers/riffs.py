@@ -50,14 +50,25 @@ READ = [
     ("dmlh of 248 bytes", riff(streams(total=numbers(1) + bytes(244)), MOVI), 1),
     ("the first dmlh with a number counts", riff(FIRST_COUNTS, MOVI), 1),
 ]
+EBML, EDGES = bytes.fromhex("1A45DFA3"), [len(FIRST), len(FIRST + MORE)]
+NOTED = [
+    ("a byte", FIRST + b"x", 1, EDGES[0]),
+    ("three zero bytes", FIRST + bytes(3), 1, EDGES[0]),
+    ("four zero bytes after all", FIRST + MORE + bytes(4), 2, EDGES[1]),
+    ("a name alone", FIRST + b"RIFF", 1, EDGES[0]),
+    ("another name", FIRST + b"RIFX" + MORE[4:], 1, EDGES[0]),
+    ("eleven bytes of another form", FIRST + FIRST[:11], 1, EDGES[0]),
+    ("many zero bytes", FIRST + bytes(100000), 1, EDGES[0]),
+    ("three bytes of EBML", FIRST + EBML[:3], 1, EDGES[0]),
+]
 CUT = [
-    ("a byte", FIRST + b"x", 1, "52 Truncated"),
-    ("three zero bytes", FIRST + bytes(3), 1, "52 Truncated"),
-    ("four zero bytes", FIRST + bytes(4), 1, "50 NotAvi"),
-    ("four zero bytes after all", FIRST + MORE + bytes(4), 2, "50 NotAvi"),
-    ("a name alone", FIRST + b"RIFF", 1, "52 Truncated"),
-    ("another name", FIRST + b"RIFX" + MORE[4:], 1, "50 NotAvi"),
-    ("another form", FIRST + FIRST, 1, "50 NotAvi"),
+    ("another form", FIRST + FIRST, 1, "88 Another"),
+    ("another form after all", FIRST + MORE + FIRST, 2, "88 Another"),
+    ("twelve bytes of another form", FIRST + FIRST[:8] + b"WAVE", 1, "88 Another"),
+    ("four bytes of EBML", FIRST + EBML, 1, "88 Another"),
+    ("EBML", FIRST + EBML + bytes(9), 1, "88 Another"),
+    ("another file where a frame is owed", riff(streams(total=numbers(2)), MOVI) + FIRST, 1,
+     "88 Another"),
     ("a size of 3", FIRST + spelled(3, MORE), 1, "50 NotAvi"),
     ("a RIFF of odd size", FIRST + spelled(len(MORE) - 7, MORE) + bytes(2), 2, "52 Truncated"),
     ("a RIFF that is not whole", spelled(10 ** 6, FIRST), 1, "52 Truncated"),
@@ -76,13 +87,15 @@ def all_riffs():
     """The frames of all RIFFs, and why a file has none after them."""
     for name, file, count in READ:
         yield checked(name, file, whole(count))
+    for name, file, count, byte in NOTED:
+        yield checked(name, file, whole(count), note=f"94 After byte {byte}")
     for name, file, count, fault in CUT:
         yield checked(name, file, lines(count), fault)
 
 
 def cut_riffs():
     """A file of three RIFFs that is cut off: at the edge of a RIFF it reads as the frames before,
-    but where dmlh says how many there are."""
+    but where dmlh says how many there are, and then up to eleven bytes are no RIFF."""
     for total in [None, numbers(3)]:
         first = riff(streams(total=total), MOVI)
         file = first + MORE + MORE
@@ -91,6 +104,9 @@ def cut_riffs():
             frames, name = sum(edge <= length for edge in edges), f"{length} bytes of three RIFFs"
             if length in edges and (total is None or length == len(file)):
                 yield checked(name, file[:length], whole(frames))
+            elif total is None and any(edge < length < edge + 12 for edge in edges):
+                yield checked(name, file[:length], whole(frames),
+                              note=f"94 After byte {edges[frames - 1]}")
             else:
                 yield checked(name, file[:length], lines(frames), "52 Truncated")
 

@@ -10,9 +10,10 @@ use Rattle.ffv1_unpack.specs.declared.md5_list.ListFault.TheVariants as list_fau
 use Rattle.ffv1_video.specs.declared.fault.Fault.{Fault}
 use Rattle.ffv1_video.specs.declared.fault.Fault.TheVariants as fault
 use Rattle.ffv1_video.specs.declared.profile.Profile.TheVariants as profile
-use Rattle.ffv1_orders.specs.Looked.{Outcome}
+use Rattle.ffv1_orders.specs.Looked.{Outcome, Printed}
 use Rattle.ffv1_orders.specs.Telling.{IsUntold}
-use Rattle.ffv1.specs.Opened.{OfFile, unread}
+use Rattle.ffv1_orders.specs.Noted.{noted}
+use Rattle.ffv1.specs.Opened.{OfFile, unnoted, unread}
 use Rattle.ffv1_orders.specs.declared.comparing.Comparing.{Comparing}
 use Rattle.ffv1_orders.specs.declared.refusal.Refusal.{Refusal}
 use Rattle.ffv1_orders.specs.declared.refusal.Refusal.TheVariants as refusal
@@ -31,13 +32,13 @@ unlike_refusal (unlike.Differs frame) = refusal.Differs frame
 
 -- the pictures of a file are compared with these MD5s
 abbrev pub Compares : List ℕ → Passage → Outcome → Type 0
-Compares md5s input outcome = MatchResult outcome (λ _. Agrees profile.Wide md5s input)
+Compares md5s input outcome = MatchResult outcome (Agrees profile.Wide md5s input)
     (λ r. (u : Unlike) × ComparingStops profile.Wide md5s input u × (r ≡ unlike_refusal u))
 
 -- what prints what came of comparing a file with a list: the bytes of the path, in which way, of
 -- how many MD5s the list is, what came of comparing, and of printing
 abbrev pub Comparisons : Type 1
-Comparisons = List ℕ → Telling → ℕ → Outcome → Outcome → Type 0
+Comparisons = List ℕ → Telling → ℕ → Printed → Printed → Type 0
 
 -- by which readers are of the list that was opened, why it could not be, and what they give
 module _ {L : Type 0} (lists : L → Type 0) (lacks : Fault → Type 0)
@@ -68,10 +69,12 @@ module _ {L : Type 0} (lists : L → Type 0) (lacks : Fault → Type 0)
         ⊎ ((r : Refusal) × UnlistedIn r × (outcome ≡ Err r)
         × (path ≡ comparing.list.now) × (frames ≡ 0))
 
-    -- what comes of comparing is printed, and comes of the order; or why it is not printed does
+    -- what comes of comparing is printed, and comes of the order, if a note is a fault or if it is
+    -- none; or why it is not printed does
     abbrev pub TellsIn : Comparisons → Comparing → Outcome → Type 0
     TellsIn tells comparing outcome =
         (path : List ℕ) × (frames : ℕ) × (done : Outcome) × ComparesIn comparing path frames done
-        × ((tells path comparing.told frames done (Ok tt) × (outcome ≡ done))
-        ⊎ ((r : Refusal) × tells path comparing.told frames done (Err r) × IsUntold r
+        × ((tells path comparing.told frames (unnoted done) (Ok tt)
+        × (outcome ≡ noted comparing.notes_as_faults done))
+        ⊎ ((r : Refusal) × tells path comparing.told frames (unnoted done) (Err r) × IsUntold r
         × (outcome ≡ Err r)))

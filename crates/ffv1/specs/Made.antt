@@ -1,6 +1,6 @@
 -- What comes of a file that is made of another one, by what opens and makes files.
 use Rattle.std.specs.Prelude.{◌≡◌, ◌⊎◌, ℕ, Bool, true, false, List, Option, Result, Ok, Err}
-use Rattle.std.specs.Prelude.{IfErr, IfOk, MatchResult}
+use Rattle.std.specs.Prelude.{IfOk, MatchResult}
 use Rattle.ffv1_wire.specs.Passage.{Passage, passage}
 use Rattle.ffv1_wire.specs.Seeks.{Overwriting}
 use Rattle.ffv1_words.specs.declared.order.Choice.{Choice}
@@ -12,12 +12,16 @@ use Rattle.ffv1_pack.specs.declared.packing.Packed.{Packed}
 use Rattle.ffv1_unpack.specs.Unpack.{UnpackRangeDone, UnpackRangeStops}
 use Rattle.ffv1_unpack.specs.UnpackAll.{UnpackAllDone, UnpackAllStops}
 use Rattle.ffv1_unpack.specs.declared.judging.JudgedCounts.{JudgedCounts}
-use Rattle.ffv1.specs.Opened.{judged}
+use Rattle.ffv1.specs.Opened.{first_judged}
+use Rattle.ffv1_files.specs.declared.notes.Notes.{Notes}
 use Rattle.ffv1_video.specs.declared.profile.Profile.TheVariants as profile
 use Rattle.ffv1_orders.specs.Looked.{Outcome}
+use Rattle.ffv1_files.specs.Noted.{no_notes}
+use Rattle.ffv1_orders.specs.Noted.{noted}
 use Rattle.ffv1_orders.specs.Statuses.{IsFault}
 use Rattle.ffv1_orders.specs.Telling.{IsUntold}
 use Rattle.ffv1_orders.specs.declared.refusal.Refusal.{Refusal}
+use Rattle.ffv1_orders.specs.declared.unpacking.Unpacking.{Unpacking}
 use Rattle.ffv1.specs.declared.streams.Counts.{Counts}
 
 -- the counts of a file that was packed
@@ -64,27 +68,39 @@ module _ {W : Type 0} (contents : W → Option (List ℕ)) (failures : W → ℕ
   AsksInto false choice input begin end answer = Unit {0}
 
 -- frames of a file are unpacked into a text
-abbrev pub UnpacksInto : FrameRange → Passage → Passage → Result ℕ Refusal → Type 0
+abbrev pub UnpacksInto : FrameRange → Passage → Passage → Result (ℕ × Notes) Refusal → Type 0
 UnpacksInto range input output answer = MatchResult answer
-    (UnpackRangeDone profile.Wide range input output)
+    (λ answer. UnpackRangeDone profile.Wide range input output answer.0 answer.1)
     (IsFault (UnpackRangeStops profile.Wide range input output))
 
 -- all of a file that may be damaged is, with lines of its faults
-abbrev pub UnpacksAll : Passage → Passage → Passage → Result JudgedCounts Refusal → Type 0
+abbrev pub UnpacksAll : Passage → Passage → Passage → Result (JudgedCounts × Notes) Refusal →
+    Type 0
 UnpacksAll input lines output answer = MatchResult answer
-    (UnpackAllDone profile.Wide input lines output)
+    (λ answer. UnpackAllDone profile.Wide input lines output answer.0 answer.1)
     (IsFault (UnpackAllStops profile.Wide input lines output))
 
--- what was answered comes of it, unless a success is not told
+-- why it is not told how many frames there are comes of it
+abbrev pub IsUntoldOf : Outcome → Type 0
+IsUntoldOf outcome = (r : Refusal) × (outcome ≡ Err r) × IsUntold r
+
+-- what was answered of a video comes of it, and nothing is noted, unless a success is not told
 abbrev pub ToldOf : {A : Type 0} → Result A Refusal → Outcome → Type 0
-ToldOf (Ok done) outcome = IfErr outcome IsUntold
+ToldOf (Ok done) outcome = (outcome ≡ Ok no_notes) ⊎ IsUntoldOf outcome
 ToldOf (Err r) outcome = outcome ≡ Err r
 
--- the first fault comes of it, unless it is not told how many frames there are
-abbrev pub AllToldOf : Result JudgedCounts Refusal → Outcome → Type 0
-AllToldOf (Ok counts) outcome =
-    (outcome ≡ judged (Ok counts.first)) ⊎ ((r : Refusal) × (outcome ≡ Err r) × IsUntold r)
-AllToldOf (Err r) outcome = outcome ≡ Err r
+-- what is noted of the file comes of it, unless a success is not told
+abbrev pub UnpackedTold : Bool → Result (ℕ × Notes) Refusal → Outcome → Type 0
+UnpackedTold as_faults (Ok answer) outcome =
+    (outcome ≡ noted as_faults (Ok answer.1)) ⊎ IsUntoldOf outcome
+UnpackedTold as_faults (Err r) outcome = outcome ≡ Err r
+
+-- the first fault, and what is noted of the file, come of it, unless it is not told how many frames
+-- there are
+abbrev pub AllToldOf : Bool → Result (JudgedCounts × Notes) Refusal → Outcome → Type 0
+AllToldOf as_faults (Ok answer) outcome =
+    (outcome ≡ first_judged as_faults answer.0.first answer.1) ⊎ IsUntoldOf outcome
+AllToldOf as_faults (Err r) outcome = outcome ≡ Err r
 
 -- by which readers are of the file that was opened and which writers of the one that was made, why
 -- they could not be, and what readers give and writers hold
@@ -107,18 +123,21 @@ module _ {R W : Type 0} (opens : R → Type 0) (makes : W → Type 0) (refuses :
       × AsksInto contents writes_failed overwrites is_matroska choice input begin end answer
       × ToldOf answer outcome) outcome
 
-  abbrev pub UnpacksIn : FrameRange → Outcome → Type 0
-  UnpacksIn range outcome = OfFiles (λ input begin end. (answer : Result ℕ Refusal)
-      × UnpacksInto range input (passage contents writes_failed begin end) answer
-      × ToldOf answer outcome) outcome
+  abbrev pub UnpacksIn : Unpacking → Outcome → Type 0
+  UnpacksIn how outcome = OfFiles (λ input begin end. (answer : Result (ℕ × Notes) Refusal)
+      × UnpacksInto how.range input (passage contents writes_failed begin end) answer
+      × UnpackedTold how.notes_as_faults answer outcome) outcome
 
-  abbrev pub UnpacksAllIn : Outcome → Type 0
-  UnpacksAllIn outcome = OfFiles (λ input begin end. (lines : Passage)
-      × (answer : Result JudgedCounts Refusal)
+  abbrev pub UnpacksAllIn : Bool → Outcome → Type 0
+  UnpacksAllIn as_faults outcome = OfFiles (λ input begin end. (lines : Passage)
+      × (answer : Result (JudgedCounts × Notes) Refusal)
       × UnpacksAll input lines (passage contents writes_failed begin end) answer
-      × AllToldOf answer outcome) outcome
+      × AllToldOf as_faults answer outcome) outcome
 
   -- all of it, or frames of it
-  abbrev pub UnpacksBy : Bool → FrameRange → Outcome → Type 0
-  UnpacksBy true range = UnpacksAllIn
-  UnpacksBy false range = UnpacksIn range
+  abbrev pub UnpacksEither : Bool → Unpacking → Outcome → Type 0
+  UnpacksEither true how = UnpacksAllIn how.notes_as_faults
+  UnpacksEither false how = UnpacksIn how
+
+  abbrev pub UnpacksBy : Unpacking → Outcome → Type 0
+  UnpacksBy how = UnpacksEither how.all how

@@ -10,38 +10,62 @@ use Rattle.ffv1_words.specs.declared.order.FrameRange.{FrameRange}
 use Rattle.ffv1_video.specs.declared.fault.Fault.{Fault}
 use Rattle.ffv1_video.specs.declared.fault.Fault.TheVariants as fault
 use Rattle.ffv1.specs.Infos.{form_of}
-use Rattle.ffv1_orders.specs.Looked.{Outcome}
+use Rattle.ffv1_files.specs.declared.notes.Notes.{Notes}
+use Rattle.ffv1_orders.specs.Looked.{Outcome, Printed}
+use Rattle.ffv1_files.specs.Noted.{no_notes}
+use Rattle.ffv1_orders.specs.Noted.{noted}
 use Rattle.ffv1_orders.specs.Orders.{is_of_frames}
 use Rattle.ffv1_orders.specs.Telling.{Untold}
 use Rattle.ffv1.specs.Streams.{Checks, Informs, PrintsMd5s, Shows, Tries}
 use Rattle.ffv1_orders.specs.declared.checking.Checking.{Checking}
+use Rattle.ffv1_orders.specs.declared.hashing.Hashing.{Hashing}
 use Rattle.ffv1_orders.specs.declared.informing.Informing.{Informing}
 use Rattle.ffv1_orders.specs.declared.input.Again.{Again}
 use Rattle.ffv1_orders.specs.declared.orders.Looking.{Looking}
 use Rattle.ffv1_orders.specs.declared.orders.Looking.TheVariants as looking
+use Rattle.ffv1_orders.specs.declared.refusal.Refusal.{Refusal}
 use Rattle.ffv1_orders.specs.declared.refusal.Refusal.TheVariants as refusal
 use Rattle.ffv1_orders.specs.declared.telling.Telling.{Telling}
 use Rattle.ffv1_orders.specs.declared.telling.Telling.TheVariants as telling
 
--- the outcome if a file cannot be opened or read
-abbrev pub unread : Outcome
+-- what comes of it if a file cannot be opened or read
+abbrev pub unread : {A : Type 0} → Result A Refusal
 unread = Err (refusal.Fault fault.Read)
 
--- what comes of frames that were judged: the first fault of one that is refused, or why not all
--- were
-abbrev pub judged : Result (Option Fault) Fault → Outcome
-judged (Ok None) = Ok tt
-judged (Ok (Some f)) = Err (refusal.Fault f)
-judged (Err f) = Err (refusal.Fault f)
+-- what came of it, without what is noted of the file
+abbrev pub unnoted : Outcome → Printed
+unnoted (Ok notes) = Ok tt
+unnoted (Err r) = Err r
 
--- that is printed of what was done, which then comes of it; or it is not, and the outcome is why
-abbrev pub IfTold : (Outcome → Type 0) → Telling → Outcome → Outcome → Type 0
-IfTold prints how done outcome =
-    (prints (Ok tt) × (outcome ≡ done)) ⊎ (prints outcome × Untold how outcome)
+-- what comes of what was printed of a file, of which nothing is noted
+abbrev pub without_notes : Printed → Outcome
+without_notes (Ok done) = Ok no_notes
+without_notes (Err r) = Err r
+
+-- what comes of frames that were all judged, by the first fault and the notes of the file
+abbrev pub first_judged : Bool → Option Fault → Notes → Outcome
+first_judged as_faults None notes = noted as_faults (Ok notes)
+first_judged as_faults (Some f) notes = Err (refusal.Judged f notes)
+
+-- or why not all were
+abbrev pub judged : Bool → Result (Option Fault × Notes) Fault → Outcome
+judged as_faults (Ok answer) = first_judged as_faults answer.0 answer.1
+judged as_faults (Err f) = Err (refusal.Fault f)
+
+-- what a check answered, without what is noted of the file
+abbrev pub verdict_of : Result (Option Fault × Notes) Fault → Result (Option Fault) Fault
+verdict_of (Ok answer) = Ok answer.0
+verdict_of (Err f) = Err f
+
+-- that is printed of what was done, which then comes of it; or it is not, and why is what does
+abbrev pub IfTold : {A : Type 0} → (Printed → Type 0) → Telling → Result A Refusal →
+    Result A Refusal → Type 0
+IfTold prints how done outcome = (prints (Ok tt) × (outcome ≡ done))
+    ⊎ ((r : Refusal) × prints (Err r) × Untold how r × (outcome ≡ Err r))
 
 -- what prints what a check answered, in which way, and what came of printing it
 abbrev pub Verdicts : Type 1
-Verdicts = Telling → Result (Option Fault) Fault → Outcome → Type 0
+Verdicts = Telling → Result (Option Fault) Fault → Printed → Type 0
 
 -- the bytes of a reader of which the first one is given once more
 abbrev pub again : {R : Type 0} → (R → Option (List ℕ)) → Again R → Option (List ℕ)
@@ -57,7 +81,8 @@ module _ {R : Type 0} (opens : R → Type 0) (misses : Type 0) (bytes : R → Op
       ((first : R) × (last : R) × opens first × Says first last) ⊎ (misses × Shut)
 
   -- its frames are checked
-  abbrev pub ChecksFile : Bool → Bool → FrameRange → Passage → Result (Option Fault) Fault → Type 0
+  abbrev pub ChecksFile : Bool → Bool → FrameRange → Passage →
+      Result (Option Fault × Notes) Fault → Type 0
   ChecksFile all place range output answer =
       OfFile (λ first last. Checks all place range (passage bytes failures first last) output
       answer) (answer ≡ Err fault.Read)
@@ -65,14 +90,16 @@ module _ {R : Type 0} (opens : R → Type 0) (misses : Type 0) (bytes : R → Op
   -- and what that answered is what comes of it; one line of the file says this answer, and if it is
   -- not printed, that is what comes of it
   pub record ChecksIn (tells : Verdicts) (checking : Checking) (outcome : Outcome) : Type 0 where
-    pub answer : Result (Option Fault) Fault
+    pub answer : Result (Option Fault × Notes) Fault
     pub output : Passage
     pub place : Bool
     pub says_place : place ≡ (not (is_of_frames checking.told) || checking.place)
     pub checks : ChecksFile checking.all place checking.range output answer
-    pub by_frames : is_of_frames checking.told ≡ true → outcome ≡ judged answer
+    pub by_frames : is_of_frames checking.told ≡ true →
+        outcome ≡ judged checking.notes_as_faults answer
     pub by_line : is_of_frames checking.told ≡ false →
-        IfTold (tells checking.told answer) checking.told (judged answer) outcome
+        IfTold (tells checking.told (verdict_of answer)) checking.told
+        (judged checking.notes_as_faults answer) outcome
 
   -- it is shown
   abbrev pub ShowsIn : Bool → Outcome → Type 0
@@ -82,7 +109,7 @@ module _ {R : Type 0} (opens : R → Type 0) (misses : Type 0) (bytes : R → Op
       (outcome ≡ unread)
 
   -- its facts are written
-  abbrev pub FactsIn : Informing → Outcome → Type 0
+  abbrev pub FactsIn : Informing → Printed → Type 0
   FactsIn how outcome =
       (output : Passage)
       × (((first : R) × opens first
@@ -90,25 +117,27 @@ module _ {R : Type 0} (opens : R → Type 0) (misses : Type 0) (bytes : R → Op
       ⊎ (misses × (outcome ≡ unread)))
 
   -- they stand in an object of JSON, whose end says what came of them, unless it is not printed
-  abbrev pub ObjectIn : (Outcome → Type 0) → (Outcome → Outcome → Type 0) → Informing → Outcome →
+  abbrev pub ObjectIn : (Printed → Type 0) → (Printed → Printed → Type 0) → Informing → Printed →
       Type 0
   ObjectIn begins ends how outcome =
-      (begins outcome × Untold telling.Object outcome)
-      ⊎ ((done : Outcome) × begins (Ok tt) × FactsIn how done
+      ((r : Refusal) × begins (Err r) × Untold telling.Object r × (outcome ≡ Err r))
+      ⊎ ((done : Printed) × begins (Ok tt) × FactsIn how done
       × IfTold (ends done) telling.Object done outcome)
 
   -- they are lines, or an object
-  pub record InformsIn (begins : Outcome → Type 0) (ends : Outcome → Outcome → Type 0)
+  pub record InformsIn (begins : Printed → Type 0) (ends : Printed → Printed → Type 0)
       (how : Informing) (outcome : Outcome) : Type 0 where
-    pub lines : how.json ≡ false → FactsIn how outcome
-    pub object : how.json ≡ true → ObjectIn begins ends how outcome
+    pub printed : Printed
+    pub is : outcome ≡ without_notes printed
+    pub lines : how.json ≡ false → FactsIn how printed
+    pub object : how.json ≡ true → ObjectIn begins ends how printed
 
   -- its first picture is coded and decoded again
   abbrev pub TriesIn : Outcome → Type 0
   TriesIn outcome =
-      (output : Passage)
-      × OfFile (λ first last. Tries (passage bytes failures first last) output outcome)
-      (outcome ≡ unread)
+      (output : Passage) × (printed : Printed) × (outcome ≡ without_notes printed)
+      × OfFile (λ first last. Tries (passage bytes failures first last) output printed)
+      (printed ≡ unread)
 
   -- its first byte is read, and then all of it from that byte on
   pub record PrintsFrom (range : FrameRange) (start : R) (outcome : Outcome) : Type 0 where
@@ -124,17 +153,18 @@ module _ {R : Type 0} (opens : R → Type 0) (misses : Type 0) (bytes : R → Op
         (passage (again bytes) (λ s. failures s.inner) begin last) output outcome
 
   -- the MD5s of its pictures are printed
-  abbrev pub PrintsIn : FrameRange → Outcome → Type 0
-  PrintsIn range outcome =
-      OfFile (λ start last. PrintsFrom range start outcome
-      ⊎ ((failures last ≡ one_more (failures start)) × (outcome ≡ unread))) (outcome ≡ unread)
+  abbrev pub PrintsIn : Hashing → Outcome → Type 0
+  PrintsIn how outcome =
+      (done : Outcome) × (outcome ≡ noted how.notes_as_faults done)
+      × OfFile (λ start last. PrintsFrom how.range start done
+      ⊎ ((failures last ≡ one_more (failures start)) × (done ≡ unread))) (done ≡ unread)
 
   -- it is looked at in this way, and told by what prints a verdict, and an object's beginning and
   -- end
-  abbrev pub LooksIn : Verdicts → (Outcome → Type 0) → (Outcome → Outcome → Type 0) → Looking →
+  abbrev pub LooksIn : Verdicts → (Printed → Type 0) → (Printed → Printed → Type 0) → Looking →
       Outcome → Type 0
   LooksIn tells begins ends (looking.Check checking) outcome = ChecksIn tells checking outcome
   LooksIn tells begins ends (looking.Show cost) outcome = ShowsIn cost outcome
   LooksIn tells begins ends (looking.Info how) outcome = InformsIn begins ends how outcome
-  LooksIn tells begins ends (looking.FrameMd5 range) outcome = PrintsIn range outcome
+  LooksIn tells begins ends (looking.FrameMd5 how) outcome = PrintsIn how outcome
   LooksIn tells begins ends looking.Trial outcome = TriesIn outcome

@@ -15,53 +15,57 @@ use Rattle.ffv1_unpack.specs.Show.{ShowDone, ShowStops}
 use Rattle.ffv1_video.specs.Profiles.{greatest_depth}
 use Rattle.ffv1_video.specs.declared.fault.Fault.{Fault}
 use Rattle.ffv1_video.specs.declared.profile.Profile.TheVariants as profile
-use Rattle.ffv1_orders.specs.Looked.{Outcome}
+use Rattle.ffv1_files.specs.declared.notes.Notes.{Notes}
+use Rattle.ffv1_orders.specs.Looked.{Outcome, Printed}
+use Rattle.ffv1_files.specs.Noted.{no_notes}
 use Rattle.ffv1_orders.specs.Statuses.{IsFault}
 
--- all frames, also those after one that is refused, and the answer is the first fault; if none is
--- left out, also what comes after a fault of the file itself
+-- all frames, also those after one that is refused, and the answer is the first fault and what is
+-- noted of the file; if none is left out, also what comes after a fault of the file itself
 abbrev pub JudgesBy : Bool → Bool → FrameRange → Passage → Passage →
-    Result (Option Fault) Fault → Type 0
+    Result (Option Fault × Notes) Fault → Type 0
 JudgesBy false place range input output result = MatchResult result
-    (AllDone profile.Wide place input output) (AllStops profile.Wide place input output)
+    (λ answer. AllDone profile.Wide place input output answer.0 answer.1)
+    (AllStops profile.Wide place input output)
 JudgesBy true place range input output result = MatchResult result
-    (CheckAllRangeDone profile.Wide place range input output)
+    (λ answer. CheckAllRangeDone profile.Wide place range input output answer.0 answer.1)
     (CheckAllRangeStops profile.Wide place range input output)
 
 -- up to the first frame of the range that is refused; or all of them
 abbrev pub Checks : Bool → Bool → FrameRange → Passage → Passage →
-    Result (Option Fault) Fault → Type 0
+    Result (Option Fault × Notes) Fault → Type 0
 Checks false place range input output result = MatchResult result
-    (λ first. (first ≡ None) × CheckRangeDone profile.Wide place range input output)
+    (λ answer. (answer.0 ≡ None)
+    × CheckRangeDone profile.Wide place range input output answer.1)
     (CheckRangeStops profile.Wide place range input output)
 Checks true place range input output result =
     JudgesBy (leaves_out range) place range input output result
 
 -- it is shown
 pub record Shows (cost : Bool) (input output : Passage) (outcome : Outcome) : Type 0 where
-  pub is : MatchResult outcome (λ _. ShowDone profile.Wide input output cost)
+  pub is : MatchResult outcome (ShowDone profile.Wide input output cost)
       (IsFault (ShowStops profile.Wide input output cost))
 
 -- the facts of a file of these bytes, if they are known, are written
 pub record Informs (form : Form) (count : Bool) (file : Option (List ℕ)) (output : Passage)
-    (outcome : Outcome) : Type 0 where
+    (outcome : Printed) : Type 0 where
   pub is : MatchResult outcome (λ _. InfoDone profile.Wide form count file output)
       (IsFault (InfoStops profile.Wide form count file output))
 
 -- its first picture is coded and decoded again
-pub record Tries (input output : Passage) (outcome : Outcome) : Type 0 where
+pub record Tries (input output : Passage) (outcome : Printed) : Type 0 where
   pub is : MatchResult outcome (λ _. TrialDone input output) (IsFault (TrialRefused input output))
 
--- the text of the MD5s of its pictures is written
+-- the text of the MD5s of its pictures is written; nothing is noted of a text
 abbrev pub WritesMd5s : Passage → Passage → Outcome → Type 0
 WritesMd5s input output outcome = MatchResult outcome
-    (λ _. TextDone (greatest_depth profile.Wide) input output)
+    (λ notes. (notes ≡ no_notes) × TextDone (greatest_depth profile.Wide) input output)
     (IsFault (TextStops (greatest_depth profile.Wide) input output))
 
 -- the same of frames of a file
 abbrev pub WritesFrames : FrameRange → Passage → Passage → Outcome → Type 0
 WritesFrames range input output outcome = MatchResult outcome
-    (λ _. Md5RangeDone profile.Wide range input output)
+    (Md5RangeDone profile.Wide range input output)
     (IsFault (Md5RangeStops profile.Wide range input output))
 
 -- the MD5s of its pictures are printed: of a text, if its first byte is `P` or `Y` and none is left

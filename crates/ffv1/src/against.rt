@@ -3,13 +3,14 @@
 ghost use Rattle.std.specs.Prelude.{◌≡◌, IfErr, IfOk};
 ghost use Rattle.ffv1.specs.Against.{ComparesIn, Compares, ListsIn, TellsIn, UnlistedIn};
 ghost use Rattle.ffv1.specs.Against.{list_refusal, unlike_refusal};
-ghost use Rattle.ffv1.specs.Opened.{OfFile, unread};
+ghost use Rattle.ffv1.specs.Opened.{OfFile, unnoted, unread};
 ghost use Rattle.ffv1_orders.specs.Statuses.{IsComparingRefusal};
 ghost use Rattle.ffv1_wire.specs.Passage.{passage};
 
 use crate::BySystem;
 use ffv1_engine::{Fault, ListFault, Profile, Unlike, check_against, read_list};
-use ffv1_orders::{Comparing, Opens, Paths, Refusal, Tells};
+use ffv1_files::Notes;
+use ffv1_orders::{Comparing, Opens, Paths, Refusal, Tells, noted};
 use std::alloc::Global;
 
 /// Why an order is not done whose list is refused.
@@ -50,14 +51,24 @@ fn md5s_of<O: Opens>(alloc: Global, opener: &O, list: &str) -> Result<Vec<u128>,
     }
 }
 
-/// Compares all pictures of a file with these MD5s.
+/// What came of comparing, without what is noted of the file.
+fn unnoted(done: Result<Notes, Refusal>) -> Result<(), Refusal>
+    ensures { result ≡ unnoted done }
+{
+    match done {
+        Ok(_) => Ok(()),
+        Err(refusal) => Err(refusal),
+    }
+}
+
+/// Compares all pictures of a file with these MD5s. Answers what is noted of the file.
 fn compare<O: Opens>(
     alloc: Global,
     opener: &O,
     input: &str,
     progress: bool,
     md5s: &[u128],
-) -> Result<(), Refusal>
+) -> Result<Notes, Refusal>
     ensures compares { OfFile (O.opens opener.now input.now) (O.misses opener.now input.now)
         O.Reader.remaining O.Reader.failures (λ first last. Compares md5s.now
         (passage O.Reader.remaining O.Reader.failures first last) result) (result ≡ unread) }
@@ -65,7 +76,7 @@ fn compare<O: Opens>(
 {
     let mut reader = opener.open(input, progress)?;
     match check_against(alloc, Profile::Wide, &mut reader, md5s) {
-        Ok(()) => Ok(()),
+        Ok(notes) => Ok(notes),
         Err(unlike) => Err(unlike_refusal(unlike)),
     }
 }
@@ -75,7 +86,7 @@ fn compare<O: Opens>(
 fn read_and_compare<'a, R, O: Opens>(
     system: &BySystem<'_, R, O>,
     comparing: Comparing<'a>,
-) -> (&'a str, usize, Result<(), Refusal>)
+) -> (&'a str, usize, Result<Notes, Refusal>)
     ensures compares { ComparesIn (O.lists system.now.opener comparing.entry.list.now)
         (O.lacks system.now.opener comparing.entry.list.now) O.Lines.remaining O.Lines.failures
         (O.opens system.now.opener comparing.entry.input.now)
@@ -105,7 +116,7 @@ fn read_and_compare<'a, R, O: Opens>(
 pub fn run_against<'a, R: Print, O: Opens + Tells>(
     system: &BySystem<'_, R, O>,
     comparing: Comparing<'a>,
-) -> (Paths<'a>, Result<(), Refusal>)
+) -> (Paths<'a>, Result<Notes, Refusal>)
     ensures compares { TellsIn (O.lists system.now.opener comparing.entry.list.now)
         (O.lacks system.now.opener comparing.entry.list.now) O.Lines.remaining O.Lines.failures
         (O.opens system.now.opener comparing.entry.input.now)
@@ -117,9 +128,9 @@ pub fn run_against<'a, R: Print, O: Opens + Tells>(
     let (path, frames, done) = read_and_compare(system, comparing);
     match system
         .opener
-        .tell_comparison(system.alloc, path, told, frames, done)
+        .tell_comparison(system.alloc, path, told, frames, unnoted(done))
     {
-        Ok(()) => (Paths::looked(path), done),
+        Ok(()) => (Paths::looked(path), noted(comparing.notes_as_faults, done)),
         Err(refusal) => (Paths::looked(path), Err(refusal)),
     }
 }

@@ -2,15 +2,27 @@
 
 ghost use Rattle.std.specs.Prelude.{◌≡◌, IfErr};
 ghost use Rattle.ffv1.specs.Infos.{form_of};
-ghost use Rattle.ffv1.specs.Opened.{FactsIn, InformsIn, ObjectIn};
+ghost use Rattle.ffv1.specs.Opened.{FactsIn, InformsIn, ObjectIn, without_notes};
 ghost use Rattle.ffv1_orders.specs.Statuses.{IsAnyFault};
 
 use crate::streams::info_stream;
+use ffv1_files::Notes;
 use ffv1_orders::{Informing, Met, Noted, Opens, Refusal, Tells};
 use ffv1_outline::Form;
 use ffv1_wire::ToWrite;
 use std::alloc::Global;
 use std::io;
+
+/// What comes of what was printed of a file of which nothing is noted.
+pub(crate) fn without_notes(printed: Result<(), Refusal>) -> Result<Notes, Refusal>
+    ensures value { result ≡ without_notes printed }
+    ensures fault { IfErr printed IsAnyFault → IfErr result IsAnyFault }
+{
+    match printed {
+        Ok(()) => Ok(Notes::NONE),
+        Err(refusal) => Err(refusal),
+    }
+}
 
 /// How facts are written.
 fn form(is_json: bool) -> Form
@@ -67,14 +79,14 @@ pub fn run_info<O: Opens + Tells>(
     input: &str,
     how: Informing,
     met: &Met,
-) -> Result<(), Refusal>
+) -> Result<Notes, Refusal>
     ensures facts { InformsIn (O.opens opener.now input.now) (O.misses opener.now input.now)
         O.Reader.remaining O.Reader.failures (O.begins opener.now input.now) (O.ends opener.now)
         how result }
     ensures fault { IfErr result IsAnyFault }
 {
     if how.json {
-        return print_object(rt, alloc, opener, input, how, met);
+        return without_notes(print_object(rt, alloc, opener, input, how, met));
     }
-    print_facts(rt, alloc, opener, input, how, met)
+    without_notes(print_facts(rt, alloc, opener, input, how, met))
 }

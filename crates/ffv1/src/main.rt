@@ -9,7 +9,8 @@ ghost use Rattle.ffv1.specs.Against.{TellsIn};
 ghost use Rattle.ffv1.specs.Made.{PacksIn, UnpacksBy};
 ghost use Rattle.ffv1.specs.Opened.{LooksIn, PrintsIn, ShowsIn, TriesIn};
 ghost use Rattle.ffv1_orders.specs.Orders.{names_files};
-ghost use Rattle.ffv1_orders.specs.Statuses.{IsAnyFault, IsFault, IsStatus, makes_file};
+ghost use Rattle.ffv1_orders.specs.Statuses.{IsAnyFault, IsFault, IsLookingRefusal, IsStatus};
+ghost use Rattle.ffv1_orders.specs.Statuses.{makes_file};
 ghost use Rattle.ffv1_unpack.specs.Show.{IsShowFault};
 ghost use Rattle.ffv1_words.specs.Order.{is_matroska};
 ghost use Rattle.ffv1_video.specs.declared.profile.Profile.TheVariants as profile;
@@ -23,13 +24,14 @@ mod streams;
 use against::run_against;
 use checking::run_check;
 use ffv1_engine::Fault;
+use ffv1_files::Notes;
 use ffv1_orders::{
-    Again, Comparing, Doer, Looking, Making, Met, Noted, Opens, Paths, Refusal, SystemFiles, Tells,
-    command, looks, other_words, run_order,
+    Again, Comparing, Doer, Hashing, Looking, Making, Met, Noted, Opens, Paths, Refusal,
+    SystemFiles, Tells, Unpacking, command, looks, noted, other_words, run_order,
 };
 use ffv1_wire::{ToWrite, read_byte};
-use ffv1_words::{Choice, ContainerChoice, FrameRange, Order, words};
-use infos::run_info;
+use ffv1_words::{Choice, ContainerChoice, Order, words};
+use infos::{run_info, without_notes};
 use making::{run_pack, run_unpack, run_unpack_all};
 use std::alloc::Global;
 use std::io::Input;
@@ -47,7 +49,7 @@ fn run_show<O: Opens>(
     input: &str,
     cost: bool,
     met: &Met,
-) -> Result<(), Refusal>
+) -> Result<Notes, Refusal>
     ensures shows { ShowsIn (O.opens opener.now input.now) (O.misses opener.now input.now)
         O.Reader.remaining O.Reader.failures cost result }
     ensures fault { IfErr result IsAnyFault }
@@ -59,18 +61,18 @@ fn run_show<O: Opens>(
 }
 
 /// Prints the MD5 of each picture of a file, or of a text, which begins with `P` or `Y`. Only
-/// frames of a file are left out.
+/// frames of a file are left out. What becomes of it is what is noted of the file.
 fn run_framemd5<O: Opens>(
     rt: &impl Print,
     alloc: Global,
     opener: &O,
     input: &str,
-    range: FrameRange,
+    hashing: Hashing,
     met: &Met,
-) -> Result<(), Refusal>
+) -> Result<Notes, Refusal>
     ensures prints { PrintsIn (O.opens opener.now input.now) (O.misses opener.now input.now)
-        O.Reader.remaining O.Reader.failures range result }
-    ensures fault { IfErr result IsAnyFault }
+        O.Reader.remaining O.Reader.failures hashing result }
+    ensures fault { IfErr result IsLookingRefusal }
 {
     let mut source = opener.open(input, false)?;
     let Ok(first) = read_byte(&mut source) else {
@@ -78,7 +80,8 @@ fn run_framemd5<O: Opens>(
     };
     let mut reader = Again::new(first, source);
     let mut writer = ToWrite::new(Noted::new(met, io::writer(rt)));
-    framemd5_stream(alloc, first, &mut reader, &mut writer, range)
+    let done = framemd5_stream(alloc, first, &mut reader, &mut writer, hashing.range);
+    noted(hashing.notes_as_faults, done)
 }
 
 /// Codes and decodes the mono picture of a file, and prints what it found.
@@ -88,14 +91,14 @@ fn run_trial<O: Opens>(
     opener: &O,
     input: &str,
     met: &Met,
-) -> Result<(), Refusal>
+) -> Result<Notes, Refusal>
     ensures tries { TriesIn (O.opens opener.now input.now) (O.misses opener.now input.now)
         O.Reader.remaining O.Reader.failures result }
     ensures fault { IfErr result IsAnyFault }
 {
     let mut reader = opener.open(input, false)?;
     let mut writer = ToWrite::new(Noted::new(met, io::writer(rt)));
-    trial_stream(alloc, &mut reader, &mut writer)
+    without_notes(trial_stream(alloc, &mut reader, &mut writer))
 }
 
 /// Looks at one file.
@@ -106,18 +109,18 @@ fn look<O: Opens + Tells>(
     path: &str,
     looking: Looking,
     met: &Met,
-) -> Result<(), Refusal>
+) -> Result<Notes, Refusal>
     ensures looks { LooksIn (O.opens opener.now path.now) (O.misses opener.now path.now)
         O.Reader.remaining O.Reader.failures (O.tells opener.now path.now)
         (O.begins opener.now path.now) (O.ends opener.now) looking result }
-    ensures fault { IfErr result IsAnyFault }
+    ensures fault { IfErr result IsLookingRefusal }
 {
     met.clear();
     match looking {
         Looking::Check(checking) => run_check(rt, alloc, opener, path, checking, met),
         Looking::Show { cost } => run_show(rt, alloc, opener, path, cost, met),
         Looking::Info(informing) => run_info(rt, alloc, opener, path, informing, met),
-        Looking::FrameMd5(range) => run_framemd5(rt, alloc, opener, path, range, met),
+        Looking::FrameMd5(hashing) => run_framemd5(rt, alloc, opener, path, hashing, met),
         Looking::Trial => run_trial(rt, alloc, opener, path, met),
     }
 }
@@ -139,10 +142,10 @@ impl<R: Print + Eprint, O: Opens + Tells> Doer for BySystem<'_, R, O> {
         O.Writer.failures O.Writer.overwrites (is_matroska container files.output.now) choice
         outcome };
 
-    ghost unpacks = { λ s files range all outcome t. (t ≡ s)
+    ghost unpacks = { λ s files how outcome t. (t ≡ s)
         × UnpacksBy (O.opens s.opener files.input.now) (O.makes s.opener files.output.now)
         (O.refuses s.opener files) O.Reader.remaining O.Reader.failures O.Writer.contents
-        O.Writer.failures all range outcome };
+        O.Writer.failures how outcome };
 
     ghost compares = { λ s comparing outcome t. (t ≡ s)
         × TellsIn (O.lists s.opener comparing.list.now) (O.lacks s.opener comparing.list.now)
@@ -163,18 +166,18 @@ impl<R: Print + Eprint, O: Opens + Tells> Doer for BySystem<'_, R, O> {
         files: &Making<'_>,
         container: ContainerChoice,
         choice: &Choice,
-    ) -> Result<(), Refusal> {
+    ) -> Result<Notes, Refusal> {
         run_pack(&*self, files, container, choice)
     }
 
-    fn unpack(&mut self, files: &Making<'_>, range: FrameRange, all: bool) -> Result<(), Refusal> {
-        if all {
-            return run_unpack_all(&*self, files);
+    fn unpack(&mut self, files: &Making<'_>, how: Unpacking) -> Result<Notes, Refusal> {
+        if how.all {
+            return run_unpack_all(&*self, files, how.notes_as_faults);
         }
-        run_unpack(&*self, files, range)
+        run_unpack(&*self, files, how)
     }
 
-    fn compare<'a>(&mut self, comparing: Comparing<'a>) -> (Paths<'a>, Result<(), Refusal>) {
+    fn compare<'a>(&mut self, comparing: Comparing<'a>) -> (Paths<'a>, Result<Notes, Refusal>) {
         run_against(&*self, comparing)
     }
 
@@ -182,7 +185,7 @@ impl<R: Print + Eprint, O: Opens + Tells> Doer for BySystem<'_, R, O> {
         !looking.names_files() || self.met.printed(println!(self.rt; "file {path}")).is_ok()
     }
 
-    fn look(&mut self, looking: Looking, path: &str) -> Result<(), Refusal> {
+    fn look(&mut self, looking: Looking, path: &str) -> Result<Notes, Refusal> {
         look(self.rt, self.alloc, &self.opener, path, looking, self.met)
     }
 }

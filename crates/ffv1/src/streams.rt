@@ -19,6 +19,7 @@ use ffv1_engine::{
     Fault, JudgedCounts, Packed, PackedMatroska, Profile, check_all, check_all_range, check_range,
     framemd5_range, framemd5_text, pack, pack_matroska, show, trial, unpack_all, unpack_range,
 };
+use ffv1_files::Notes;
 use ffv1_info::info;
 use ffv1_orders::Refusal;
 use ffv1_outline::Form;
@@ -28,7 +29,8 @@ use std::alloc::Global;
 
 /// Decodes frames of a file, and writes what each took, and with `place` where one is refused; with
 /// `all` also those after one that is refused, and if no frame is left out also what is left of a
-/// Matroska file after a fault of its own. Answers the first fault of those.
+/// Matroska file after a fault of its own. Answers the first fault of those, and what is noted of
+/// the file.
 pub fn check_stream<R: ByteIn, W: ByteOut>(
     alloc: Global,
     input: &mut R,
@@ -36,15 +38,15 @@ pub fn check_stream<R: ByteIn, W: ByteOut>(
     all: bool,
     place: bool,
     range: FrameRange,
-) -> Result<Option<Fault>, Fault>
+) -> Result<(Option<Fault>, Notes), Fault>
     ensures checks { Checks all place range (passage R.remaining R.failures input.old input.new)
         (passage W.contents W.failures output.old output.new) result }
-    ensures none { all ≡ false → IfOk result (λ first. first ≡ None) }
+    ensures none { all ≡ false → IfOk result (λ answer. answer.0 ≡ None) }
     ensures own { IfErr result (IsCheckFault profile.Wide) }
 {
     if !all {
-        check_range(alloc, Profile::Wide, input, output, place, range)?;
-        return Ok(None);
+        let notes = check_range(alloc, Profile::Wide, input, output, place, range)?;
+        return Ok((None, notes));
     }
     if range.leaves_out() {
         return check_all_range(alloc, Profile::Wide, input, output, place, range);
@@ -52,20 +54,20 @@ pub fn check_stream<R: ByteIn, W: ByteOut>(
     check_all(alloc, Profile::Wide, input, output, place)
 }
 
-/// Writes what a file says, and with `cost` what its frames cost.
+/// Writes what a file says, and with `cost` what its frames cost. Answers what is noted of it.
 pub fn show_stream<R: ByteIn, W: ByteOut>(
     alloc: Global,
     input: &mut R,
     output: &mut W,
     cost: bool,
-) -> Result<(), Refusal>
+) -> Result<Notes, Refusal>
     ensures shows { Shows cost (passage R.remaining R.failures input.old input.new)
         (passage W.contents W.failures output.old output.new) result }
     ensures own { IfErr result (IsFault (IsShowFault profile.Wide cost)) }
     ensures fault { IfErr result IsAnyFault }
 {
     match show(alloc, Profile::Wide, input, output, cost) {
-        Ok(()) => Ok(()),
+        Ok(notes) => Ok(notes),
         Err(fault) => Err(Refusal::Fault(fault)),
     }
 }
@@ -105,14 +107,14 @@ pub fn trial_stream<R: ByteIn, W: ByteOut>(
 }
 
 /// Writes the MD5 of each picture of a file, or of a text, which begins with `P` or `Y`. Only
-/// frames of a file are left out.
+/// frames of a file are left out. Answers what is noted of a file; of a text nothing is.
 pub fn framemd5_stream<R: ByteIn, W: ByteOut>(
     alloc: Global,
     first: Option<u8>,
     input: &mut R,
     output: &mut W,
     range: FrameRange,
-) -> Result<(), Refusal>
+) -> Result<Notes, Refusal>
     ensures images { leaves_out range ≡ false → first ≡ Some 80 → WritesMd5s
         (passage R.remaining R.failures input.old input.new)
         (passage W.contents W.failures output.old output.new) result }
@@ -129,27 +131,28 @@ pub fn framemd5_stream<R: ByteIn, W: ByteOut>(
 {
     if !range.leaves_out() && (first == Some(b'P') || first == Some(b'Y')) {
         return match framemd5_text(alloc, Profile::Wide, input, output) {
-            Ok(()) => Ok(()),
+            Ok(()) => Ok(Notes::NONE),
             Err(fault) => Err(Refusal::Fault(fault)),
         };
     }
     match framemd5_range(alloc, Profile::Wide, input, output, range) {
-        Ok(()) => Ok(()),
+        Ok(notes) => Ok(notes),
         Err(fault) => Err(Refusal::Fault(fault)),
     }
 }
 
-/// Unpacks frames of a file into a text of their pictures. Answers the writer, and how many
-/// pictures there are.
+/// Unpacks frames of a file into a text of their pictures. Answers the writer, how many pictures
+/// there are, and what is noted of the file.
 pub fn unpack_stream<R: ByteIn, W: ByteOut>(
     alloc: Global,
     input: &mut R,
     output: W,
     range: FrameRange,
-) -> (W, Result<u64, Refusal>)
+) -> (W, Result<(u64, Notes), Refusal>)
     ensures unpacks { MatchResult result.1
-        (UnpackRangeDone profile.Wide range (passage R.remaining R.failures input.old input.new)
-        (passage W.contents W.failures output result.0))
+        (λ answer. UnpackRangeDone profile.Wide range
+        (passage R.remaining R.failures input.old input.new)
+        (passage W.contents W.failures output result.0) answer.0 answer.1)
         (IsFault (UnpackRangeStops profile.Wide range
         (passage R.remaining R.failures input.old input.new)
         (passage W.contents W.failures output result.0))) }
@@ -157,19 +160,20 @@ pub fn unpack_stream<R: ByteIn, W: ByteOut>(
 {
     let (output, answer) = unpack_range(alloc, Profile::Wide, input, output, range);
     match answer {
-        Ok(count) => (output, Ok(count)),
+        Ok(told) => (output, Ok(told)),
         Err(fault) => (output, Err(Refusal::Fault(fault))),
     }
 }
 
 /// Unpacks all of a file that may be damaged into a text of its pictures, and writes a line of each
-/// fault. Answers the writer, how many frames and faults there are, and the first fault.
+/// fault. Answers the writer, how many frames and faults there are, the first fault, and what is
+/// noted of the file.
 pub fn unpack_all_stream<R: ByteIn, L: ByteOut, W: ByteOut>(
     alloc: Global,
     input: &mut R,
     lines: &mut L,
     output: W,
-) -> (W, Result<JudgedCounts, Refusal>)
+) -> (W, Result<(JudgedCounts, Notes), Refusal>)
     ensures unpacks { UnpacksAll (passage R.remaining R.failures input.old input.new)
         (passage L.contents L.failures lines.old lines.new)
         (passage W.contents W.failures output result.0) result.1 }
@@ -177,7 +181,7 @@ pub fn unpack_all_stream<R: ByteIn, L: ByteOut, W: ByteOut>(
 {
     let (output, answer) = unpack_all(alloc, Profile::Wide, input, lines, output);
     match answer {
-        Ok(counts) => (output, Ok(counts)),
+        Ok(told) => (output, Ok(told)),
         Err(fault) => {
             let refusal = Refusal::Fault(fault);
             (output, Err(refusal))

@@ -7,15 +7,17 @@ use Rattle.ffv1_avi.specs.declared.place.Names.{Names}
 use Rattle.ffv1_avi.specs.declared.place.Names.TheVariants.{Closed}
 use Rattle.ffv1_avi.specs.declared.place.Place.{Place}
 use Rattle.ffv1_avi.specs.Chunks.{AreFrames, Chunk, chunks_text, first_of, header_chunks, streams, those}
+use Rattle.ffv1_avi.specs.Behind.{RiffFileThen, looked_past}
 use Rattle.ffv1_avi.specs.Edges.{frames_to}
 use Rattle.ffv1_avi.specs.Files.{file_read, frames_read, no_headers, open_read, owed}
 use Rattle.ffv1_reads.specs.Head.{Head}
 use Rattle.ffv1_avi.specs.Places.{most_input}
 use Rattle.ffv1_reads.specs.Reads.{Stop, given, read_on, ◌>>=◌}
 use Rattle.ffv1_avi.specs.Riffs.{AreRiffs, AreSections, Riff, RiffFile, Section, is_total, movis, names_of, riff_movis, riff_text, riffs_text, sections_text, total}
+use Rattle.ffv1_avi.proofs.BegunRiffs.{few_other}
 use Rattle.ffv1_avi.proofs.FrameLaws.{frames_after, movi_frames, placed}
 use Rattle.ffv1_avi.proofs.HeaderRuns.{Counts, Heads, counts_found, heads}
-use Rattle.ffv1_avi.proofs.LaterFrames.{Framed, after_end, behind_end, frames_behind, frames_both, frames_in, framed_apart, in_riff, preceded, preceded_both, riffs_read, sections_read}
+use Rattle.ffv1_avi.proofs.LaterFrames.{Framed, after_end, behind_over, frames_behind, frames_both, frames_in, framed_apart, in_riff, preceded, preceded_both, riffs_read, sections_read}
 use Rattle.ffv1_avi.proofs.OpenLaws.{open_complete}
 use Rattle.ffv1_avi.proofs.PartLaws.{parts_text}
 use Rattle.ffv1_avi.proofs.RiffLaws.{chunks_even}
@@ -147,15 +149,24 @@ file_to {head = head} is before after rest parted =
     ∙ ap (λ z. read_on z (λ p. (frames_read p.1 >>= λ frames. given (p.0, frames)))) (file_opened is (chunks_text is.chunks ++ (sections_text is.sections ++ (riffs_text before ++ rest))))
     ∙ ap (λ z. read_on z (λ frames. given (head, frames))) (place_read most_input n (total is.extended) is.chunks is.sections before rest is.sections_are known.0 known.1 known.2)
 
-pub every_complete : (file : List ℕ) (head : Head) (frames : List (List ℕ)) → RiffFile file head frames → file_read EveryRiff file ≡ Ok ((head, frames), [])
-every_complete file head frames is =
+-- a file and what stands behind it
+pub every_then : (file : List ℕ) (head : Head) (frames : List (List ℕ)) (rest : List ℕ) → RiffFileThen file head frames rest → file_read EveryRiff file ≡ Ok ((head, frames), rest)
+every_then file head frames rest h =
+    let is = h.is in
     let all = frames_to is is.riffs in
     let same : all ≡ frames = is.framed.those_of in
     let none : total is.extended - length all ≡ 0 = omega (arith, is.enough, ap length same) in
-    ap (file_read EveryRiff) (file_parts is ∙ ap (λ z. first_riff is ++ z) (sym (append-nil (riffs_text is.riffs))))
-    ∙ file_to is is.riffs [] [] (sym (append-nil is.riffs))
-    ∙ ap (λ z. read_on (preceded all z) (λ frames. given (head, frames))) (behind_end (most_input - length (riffs_text is.riffs)) (names_in is) (total is.extended - length all) none)
-    ∙ ap (λ z. Ok ((head, z), [])) (append-nil all ∙ same)
+    let parted : file ≡ first_riff is ++ (riffs_text is.riffs ++ h.behind) = h.bytes ∙ ap (λ z. z ++ h.behind) (file_parts is) ∙ append_assoc (first_riff is) (riffs_text is.riffs) h.behind in
+    ap (file_read EveryRiff) parted
+    ∙ file_to is is.riffs [] h.behind (sym (append-nil is.riffs))
+    ∙ ap (λ z. read_on (preceded all z) (λ frames. given (head, frames))) (behind_over (most_input - length (riffs_text is.riffs)) (names_in is) (total is.extended - length all) h.behind none h.other)
+    ∙ ap (λ z. Ok ((head, z), looked_past h.behind)) (append-nil all ∙ same)
+    ∙ ap (λ z. Ok ((head, frames), z)) (sym h.left)
+
+pub every_complete : (file : List ℕ) (head : Head) (frames : List (List ℕ)) → RiffFile file head frames → file_read EveryRiff file ≡ Ok ((head, frames), [])
+every_complete file head frames is =
+    let none = few_other [] (omega arith) in
+    every_then file head frames [] (record { whole = file; behind = []; bytes = sym (append-nil file); is = is; other = none.0; left = sym none.1 })
 
 -- a file has one head and one list of frames
 pub every_only : (file : List ℕ) (head other : Head) (frames others : List (List ℕ)) → RiffFile file head frames → RiffFile file other others → (head ≡ other) × (frames ≡ others)
@@ -164,3 +175,11 @@ every_only file head other frames others is also =
     let two : Head × List (List ℕ) = (other, others) in
     let same = ok_is (one, []) (two, []) (sym (every_complete file head frames is) ∙ every_complete file other others also) in
     (ap (λ (z : (Head × List (List ℕ)) × List ℕ). z.0.0) same, ap (λ (z : (Head × List (List ℕ)) × List ℕ). z.0.1) same)
+
+-- whatever stands behind it
+pub then_only : (file : List ℕ) (head other : Head) (frames others : List (List ℕ)) (rest more : List ℕ) → RiffFileThen file head frames rest → RiffFileThen file other others more → (head ≡ other) × (frames ≡ others) × (rest ≡ more)
+then_only file head other frames others rest more is also =
+    let one : Head × List (List ℕ) = (head, frames) in
+    let two : Head × List (List ℕ) = (other, others) in
+    let same = ok_is (one, rest) (two, more) (sym (every_then file head frames rest is) ∙ every_then file other others more also) in
+    (ap (λ (z : (Head × List (List ℕ)) × List ℕ). z.0.0) same, ap (λ (z : (Head × List (List ℕ)) × List ℕ). z.0.1) same, ap (λ (z : (Head × List (List ℕ)) × List ℕ). z.1) same)

@@ -8,7 +8,7 @@ use Rattle.ffv1_avi.specs.Chunks.{AreChunks, AreFrames, AreSized, Chunk, IsChunk
 use Rattle.ffv1_avi.specs.declared.place.Extent.{Extent}
 use Rattle.ffv1_avi.specs.declared.place.Extent.TheVariants.{FirstMovi, EveryRiff}
 use Rattle.ffv1_avi.specs.declared.place.Place.{Place}
-use Rattle.ffv1_avi.specs.Files.{found_or_on, found_read, frame_found, frame_read, frames_read, more_frames, moved, moved_by, movi_found, movi_or_riff, movi_sought, name_or_end, riff_begun, riff_named, sought_on, visit_movi}
+use Rattle.ffv1_avi.specs.Files.{found_or_on, found_read, frame_found, frame_read, frames_read, more_frames, moved, moved_by, movi_found, movi_or_riff, movi_sought, riff_begun, sought_on, visit_movi}
 use Rattle.ffv1_avi.specs.Places.{extent_of, first_place, frame_at}
 use Rattle.ffv1_reads.specs.Reads.{Kept, Reading, Stop, given, passed, read_on, ◌>>=◌}
 use Rattle.ffv1_avi.specs.Padding.{content, padded}
@@ -215,12 +215,7 @@ placed place movi owed = record { input = place.input; riff = place.riff; movi =
 -- what is after a movi does not depend on its bytes
 begun_same : (place : Place) (movi : ℕ) (text : List ℕ) → riff_begun place text ≡ riff_begun (placed place movi place.owed) text
 unfolding riff_begun
-begun_same place movi text = on_name (name_or_end place.owed text)
-  where
-    on_name : (z : Result (Option (List ℕ) × List ℕ) Stop) → read_on z (riff_named place) ≡ read_on z (riff_named (placed place movi place.owed))
-    on_name (Err why) = refl
-    on_name (Ok (None, rest)) = refl
-    on_name (Ok (Some name, rest)) = refl
+begun_same place movi text = refl
 
 moved_by_same : (extent : Extent) (place : Place) (movi : ℕ) (text : List ℕ) → moved_by extent place text ≡ moved_by extent (placed place movi place.owed) text
 moved_by_same FirstMovi place movi text = refl

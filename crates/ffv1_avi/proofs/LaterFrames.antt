@@ -1,21 +1,20 @@
 -- The frames after a movi: those of the other movis of its RIFF, and of further RIFFs.
-use Rattle.std.proofs.Common.{◌≡◌, ℕ, suc, zero, ◌+◌, ◌-◌, ◌≤◌, ◌<◌, nat_le, nat_lt, true, false, Option, Some, None, Result, Ok, Err, List, [], ◌∷◌, ◌++◌, length, drop, codes, map, ap, ◌∙◌, sym, subst, arith, refl, append_assoc, append-nil, length-append}
-use Rattle.std.proofs.lemmas.Bool.{le-leb, lt-ltb}
+use Rattle.std.proofs.Common.{◌≡◌, ℕ, ◌+◌, ◌-◌, ◌≤◌, ◌<◌, false, Option, Some, None, Result, Ok, Err, List, [], ◌∷◌, ◌++◌, length, codes, map, ap, ◌∙◌, sym, subst, arith, refl, append_assoc, append-nil, length-append}
 use Rattle.byteorder.specs.Endian.{little_number}
 use Rattle.ffv1_avi.specs.Names.{most_bytes}
 use Rattle.ffv1_avi.specs.declared.chunk.Entry.{Entry}
 use Rattle.ffv1_avi.specs.declared.place.Place.{Place}
 use Rattle.ffv1_avi.specs.Chunks.{AreChunks, AreFrames, AreSized, Chunk, IsChunk, chunk_text, chunks_text, is_list, those}
+use Rattle.ffv1_avi.specs.Behind.{begins_another, looked_past}
 use Rattle.ffv1_avi.specs.Edges.{bytes_framed}
-use Rattle.ffv1_avi.specs.Files.{frames_read, movi_or_riff, movi_sought, name_or_end, riff_begun, riff_judged, riff_list, riff_named, visit_riff}
+use Rattle.ffv1_avi.specs.Files.{frames_read, movi_or_riff, movi_sought, riff_begun, riff_list, visit_riff}
 use Rattle.ffv1_avi.specs.Places.{movi_at, riff_at}
 use Rattle.ffv1_reads.specs.Reads.{Reading, Stop, given, read_on, taken, ◌>>=◌}
 use Rattle.ffv1_avi.specs.Padding.{padded}
 use Rattle.ffv1_avi.specs.Riffs.{AreRiffs, AreSections, IsRiff, IsSection, Riff, Section, movi_chunks, movis, riff_movis, riff_text, riffs_text, section_text, sections_text}
 use Rattle.ffv1_avi.specs.Walk.{entry_read, resumed, visited, walk, walk_up_to}
-use Rattle.ffv1_avi.proofs.Contents.{number_taken}
+use Rattle.ffv1_avi.proofs.BegunRiffs.{over_there, riff_there}
 use Rattle.ffv1_avi.proofs.FrameLaws.{frames_after, frames_none, frames_on, movi_frames, those_both}
-use Rattle.ffv1_reads.proofs.Results.{cut_back, cut_front}
 use Rattle.ffv1_avi.proofs.ListWalks.{entry_complete, walk_complete}
 use Rattle.ffv1_avi.proofs.Moves.{moved_every, movi_empty}
 use Rattle.ffv1_reads.proofs.WantedBytes.{taken_complete}
@@ -99,12 +98,7 @@ sought_movi names left size rest sized named fits =
 -- what is after RIFF does not depend on its bytes
 begun_same : (input : ℕ) (names : Names) (riff other owed : ℕ) (text : List ℕ) → riff_begun (in_riff input names riff owed) text ≡ riff_begun (in_riff input names other owed) text
 unfolding riff_begun
-begun_same input names riff other owed text = on_name (name_or_end owed text)
-  where
-    on_name : (z : Result (Option (List ℕ) × List ℕ) Stop) → read_on z (riff_named (in_riff input names riff owed)) ≡ read_on z (riff_named (in_riff input names other owed))
-    on_name (Err why) = refl
-    on_name (Ok (None, rest)) = refl
-    on_name (Ok (Some name, rest)) = refl
+begun_same input names riff other owed text = refl
 
 pub riff_same : (input : ℕ) (names : Names) (riff other owed : ℕ) (z : Result (Option (ℕ × ℕ) × List ℕ) Stop) → read_on z (movi_or_riff (in_riff input names riff owed)) ≡ read_on z (movi_or_riff (in_riff input names other owed))
 riff_same input names riff other owed (Err why) = refl
@@ -216,32 +210,7 @@ after_end input names owed text some = after_is input names 0 owed text some
 -- the next RIFF is entered
 pub begun_riff : (input : ℕ) (names : Names) (owed : ℕ) (size rest : List ℕ) → length size ≡ 4 → 4 ≤ little_number 4 size → 8 + little_number 4 size < input →
     riff_begun (in_riff input names 0 owed) ((codes "RIFF" ++ size ++ codes "AVIX") ++ rest) ≡ Ok (Some (riff_at (in_riff input names 0 owed) (little_number 4 size)), rest)
-unfolding riff_begun name_or_end
-begun_riff input names owed size rest sized room fits =
-    let place = in_riff input names 0 owed in
-    let bytes = size ++ codes "AVIX" in
-    let behind = bytes ++ rest in
-    let whole : (codes "RIFF" ++ size ++ codes "AVIX") ++ rest ≡ codes "RIFF" ++ behind = regrouped (codes "RIFF") size (codes "AVIX") rest in
-    let eight : length bytes ≡ 8 = length-append size (codes "AVIX") ∙ (omega (arith, sized, spelled)) in
-    let form : drop 4 bytes ≡ codes "AVIX" = cut_back 4 size (codes "AVIX") sized in
-    let number : little_number 4 bytes ≡ little_number 4 size = sym (number_taken 4 bytes (omega arith)) ∙ ap (little_number 4) (cut_front 4 size (codes "AVIX") sized) in
-    let four : nat_le 4 (little_number 4 size) ≡ true = le-leb _ _ room in
-    let less : nat_lt (8 + little_number 4 size) input ≡ true = lt-ltb _ _ fits in
-    let judged : riff_judged place bytes rest ≡ Ok (Some (riff_at place (little_number 4 size)), rest) = rw (form, number, four, less) refl in
-    ap (λ z. read_on (name_or_end owed z) (riff_named place)) whole
-    ∙ ap (λ z. read_on z (riff_named place)) (named owed behind)
-    ∙ ap (λ z. read_on z (riff_judged place)) (taken_complete 8 bytes rest eight)
-    ∙ judged
-  where
-    spelled : length (codes "AVIX") ≡ 4
-    spelled = refl
-
-    regrouped : (a b c d : List ℕ) → ((a ++ b) ++ c) ++ d ≡ a ++ ((b ++ c) ++ d)
-    regrouped a b c d = simp append_assoc
-
-    named : (o : ℕ) (more : List ℕ) → name_or_end o (codes "RIFF" ++ more) ≡ Ok (Some (codes "RIFF"), more)
-    named zero more = ap (λ z. read_on z (λ name. given (Some name))) (taken_complete 4 (codes "RIFF") more refl)
-    named (suc n) more = ap (λ z. read_on z (λ name. given (Some name))) (taken_complete 4 (codes "RIFF") more refl)
+begun_riff input names owed size rest sized room fits = riff_there (in_riff input names 0 owed) size rest sized room fits
 
 -- an RIFF takes its header and its chunks
 pub riff_long : {names : Names} (r : Riff) → IsRiff names r → length (riff_text r) ≡ 8 + little_number 4 r.size
@@ -301,7 +270,6 @@ riffs_read (r ∷ rs) input names owed rest are fits framed =
     ∙ ap (λ n. preceded (fs ++ gs) (frames_behind (in_riff n names 0 (owed - length (fs ++ gs))) rest)) left
     ∙ ap (λ z. preceded z (frames_behind (in_riff (input - length (riffs_text (r ∷ rs))) names 0 (owed - length z)) rest)) both
 
--- the input may end if no frame is owed
-pub behind_end : (input : ℕ) (names : Names) (owed : ℕ) → owed ≡ 0 → frames_behind (in_riff input names 0 owed) [] ≡ Ok ([], [])
-unfolding riff_begun name_or_end
-behind_end input names owed none = ap (λ n. frames_behind (in_riff input names 0 n) []) none
+-- other bytes end the frames if none is owed
+pub behind_over : (input : ℕ) (names : Names) (owed : ℕ) (behind : List ℕ) → owed ≡ 0 → begins_another behind ≡ false → frames_behind (in_riff input names 0 owed) behind ≡ Ok ([], looked_past behind)
+behind_over input names owed behind none other = ap (λ z. read_on z frames_on) (over_there (in_riff input names 0 owed) behind none other)

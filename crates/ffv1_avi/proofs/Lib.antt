@@ -2,7 +2,10 @@ mod Sizes
 mod EndReadings
 mod Contents
 mod ChunkByChunk
+mod TakenBytes
+mod BegunRiffs
 mod Moves
+mod FirstFrames
 mod FrameTurns
 pub mod ListWalks
 mod ListedNames
@@ -30,6 +33,7 @@ pub mod EarlyEnds
 pub mod EarlyRiffs
 pub mod EdgeLaws
 pub mod AfterLaws
+pub mod BehindLaws
 pub mod RefusalLaws
 pub mod LongLaws
 pub mod RiffRefusals

@@ -1,14 +1,14 @@
 -- Chunks that do not fit in a movi, in what is after it in its RIFF, or in the next RIFF.
-use Rattle.std.proofs.Common.{◌≡◌, ℕ, ◌+◌, ◌<◌, Bool, true, false, Option, Some, None, Result, Ok, Err, List, [], ◌∷◌, ◌++◌, length, codes, ap, ◌∙◌, arith, refl}
+use Rattle.std.proofs.Common.{◌≡◌, ℕ, ◌+◌, ◌<◌, Bool, true, false, Some, None, Ok, Err, List, [], ◌∷◌, ◌++◌, length, codes, ap, ◌∙◌, arith, refl}
 use Rattle.byteorder.specs.Endian.{little_number}
 use Rattle.ffv1_reads.specs.declared.fault.FileFault.TheVariants as fault
 use Rattle.ffv1_avi.specs.declared.place.Extent.TheVariants.{EveryRiff}
 use Rattle.ffv1_avi.specs.declared.place.Extent.{Extent}
 use Rattle.ffv1_avi.specs.declared.place.Place.{Place}
 use Rattle.ffv1_avi.specs.Chunks.{AreChunks, Chunk, Passes, chunks_text, is_list, those}
-use Rattle.ffv1_avi.specs.Files.{found_or_on, found_read, frame_found, frame_read, moved, moved_by, movi_found, movi_or_riff, movi_sought, name_or_end, riff_begun, riff_named, sought_on, visit_movi, visit_riff}
+use Rattle.ffv1_avi.specs.Files.{found_or_on, found_read, frame_found, frame_read, moved, moved_by, movi_found, movi_or_riff, movi_sought, riff_begun, sought_on, visit_movi, visit_riff}
 use Rattle.ffv1_avi.specs.Places.{extent_of, riff_at}
-use Rattle.ffv1_reads.specs.Reads.{Met, Stop, given, read_on}
+use Rattle.ffv1_reads.specs.Reads.{Met, given, read_on}
 use Rattle.ffv1_avi.specs.Names.{bars}
 use Rattle.ffv1_avi.specs.Walk.{visited, walk, walk_in, walk_up_to}
 use Rattle.ffv1_avi.proofs.FrameLaws.{TakesMovi, movi_complete, movi_stands}
@@ -86,12 +86,7 @@ after_long_at place chunks left name size rest every none room each movis frames
 -- the next RIFF is looked for by three of a position's numbers
 begun_in : (place : Place) (text : List ℕ) → riff_begun place text ≡ riff_begun (in_riff place.input place.names 0 place.owed) text
 unfolding riff_begun
-begun_in place text = on_name (name_or_end place.owed text)
-  where
-    on_name : (z : Result (Option (List ℕ) × List ℕ) Stop) → read_on z (riff_named place) ≡ read_on z (riff_named (in_riff place.input place.names 0 place.owed))
-    on_name (Err why) = refl
-    on_name (Ok (None, rest)) = refl
-    on_name (Ok (Some name, rest)) = refl
+begun_in place text = refl
 
 pub next_long_at : (place : Place) (riff_size : List ℕ) (chunks : List Chunk) (left : ℕ) (name size rest : List ℕ) → extent_of place ≡ EveryRiff → place.movi ≡ 0 → place.riff ≡ 0 → length riff_size ≡ 4 → little_number 4 riff_size ≡ 4 + length (chunks_text chunks) + left →
     8 + little_number 4 riff_size < place.input → AreChunks chunks → those (is_list (codes "movi")) chunks ≡ [] → those (frame_in place.names) chunks ≡ [] → Passes left name size →

@@ -1,15 +1,15 @@
 -- Where frames are looked for after a movi.
-use Rattle.std.proofs.Common.{◌≡◌, ℕ, suc, zero, ◌+◌, ◌-◌, ◌≤◌, ◌<◌, ◌==◌, nat_le, nat_lt, Bool, true, false, Option, Some, None, Result, Ok, Err, List, codes, drop, ap, ◌∙◌, sym, subst, arith, refl}
-use Rattle.std.proofs.lemmas.Bool.{eqb-false, eqb-true, leb-true, ltb-true, ne_eqb}
-use Rattle.byteorder.specs.Endian.{little_number}
+use Rattle.std.proofs.Common.{◌≡◌, ℕ, suc, zero, ◌+◌, ◌-◌, ◌≤◌, ◌<◌, ◌==◌, nat_lt, Bool, true, false, Option, Some, None, Result, Ok, Err, List, codes, ap, ◌∙◌, sym, subst, arith, refl}
+use Rattle.std.proofs.lemmas.Bool.{eqb-false, eqb-true, ne_eqb}
 use Rattle.ffv1_avi.specs.declared.chunk.Entry.{Entry}
 use Rattle.ffv1_avi.specs.declared.place.Extent.TheVariants.{FirstMovi, EveryRiff}
 use Rattle.ffv1_avi.specs.declared.place.Place.{Place}
-use Rattle.ffv1_avi.specs.Files.{found_read, frame_found, frame_found_up_to, frame_read, found_or_on, moved, moved_by, movi_found, movi_or_riff, movi_sought, name_or_end, riff_begun, riff_judged, riff_list, riff_named, sought_on, visit_movi, visit_riff}
-use Rattle.ffv1_avi.specs.Places.{amount, extent_of, frame_at, movi_at, riff_at}
+use Rattle.ffv1_avi.specs.Files.{found_read, frame_found, frame_found_up_to, frame_read, found_or_on, moved, moved_by, movi_found, movi_or_riff, movi_sought, riff_begun, riff_list, sought_on, visit_movi, visit_riff}
+use Rattle.ffv1_avi.specs.Places.{amount, extent_of, frame_at, movi_at}
 use Rattle.ffv1_reads.specs.Reads.{Stop, given, passed, read_on, taken, ◌>>=◌}
 use Rattle.ffv1_avi.specs.Padding.{padded}
 use Rattle.ffv1_avi.specs.Walk.{Visit, bars_none, entry_in, is_name, resumed, visited, walk_in, walk_up_to}
+use Rattle.ffv1_avi.proofs.BegunRiffs.{begun_sound}
 use Rattle.ffv1_avi.proofs.ListWalks.{entry_sound}
 use Rattle.ffv1_reads.proofs.Results.{read_on_ok}
 use Rattle.ffv1_reads.proofs.Results.{ok_is, some_is}
@@ -98,36 +98,10 @@ sought_less names left text y rest h =
 
 -- the next RIFF is counted
 begun_less : (place next : Place) (text rest : List ℕ) → riff_begun place text ≡ Ok (Some next, rest) → (amount next < place.input) × (0 < next.input) × (next.names ≡ place.names)
-unfolding riff_begun
 begun_less place next text rest h =
-    let first = read_on_ok (name_or_end place.owed text) (riff_named place) (Some next, rest) h in
-    on_name first.0.0 first.0.1 first.2
-  where
-    Goal : Type 0
-    Goal = (amount next < place.input) × (0 < next.input) × (next.names ≡ place.names)
-
-    on_head : (bytes more : List ℕ) (a b c : Bool) → is_name (drop 4 bytes) (codes "AVIX") ≡ a → nat_le 4 (little_number 4 bytes) ≡ b → nat_lt (8 + little_number 4 bytes) place.input ≡ c → riff_judged place bytes more ≡ Ok (Some next, rest) → Goal
-    on_head bytes more false b c p q r k = absurd (cc (rw p at k))
-    on_head bytes more true false c p q r k = absurd (cc (rw (p, q) at k))
-    on_head bytes more true true false p q r k = absurd (cc (rw (p, q, r) at k))
-    on_head bytes more true true true p q r k =
-        let made = riff_at place (little_number 4 bytes) in
-        let same : made ≡ next = some_is made next (ap (λ (z : Option Place × List ℕ). z.0) (ok_is (Some made, more) (Some next, rest) (rw (p, q, r) at k))) in
-        let room : 4 ≤ little_number 4 bytes = leb-true _ _ q in
-        let fits : 8 + little_number 4 bytes < place.input = ltb-true _ _ r in
-        let P : Place → Type 0 = λ z. (amount z < place.input) × (0 < z.input) × (z.names ≡ place.names) in
-        subst P same (omega (arith, room, fits), omega (arith, fits), refl)
-
-    on_riff : (name more : List ℕ) (a : Bool) → is_name name (codes "RIFF") ≡ a → riff_named place (Some name) more ≡ Ok (Some next, rest) → Goal
-    on_riff name more false p k = absurd (cc (rw p at k))
-    on_riff name more true p k =
-        let second = read_on_ok (taken 8 more) (riff_judged place) (Some next, rest) (rw p at k) in
-        let bytes = second.0.0 in
-        on_head bytes second.0.1 (is_name (drop 4 bytes) (codes "AVIX")) (nat_le 4 (little_number 4 bytes)) (nat_lt (8 + little_number 4 bytes) place.input) refl refl refl second.2
-
-    on_name : (o : Option (List ℕ)) (more : List ℕ) → riff_named place o more ≡ Ok (Some next, rest) → Goal
-    on_name None more k = absurd (no_some next (sym (ap (λ (z : Option Place × List ℕ). z.0) (ok_is (None, more) (Some next, rest) k))))
-    on_name (Some name) more k = on_riff name more (is_name name (codes "RIFF")) refl k
+    let found = begun_sound place text (Some next, rest) h in
+    let P : Place → Type 0 = λ z. (amount z < place.input) × (0 < z.input) × (z.names ≡ place.names) in
+    subst P (sym found.place_is) (omega (arith, found.room, found.fits), omega (arith, found.fits), refl)
 
 -- the extent of a position, by what it has left of the input
 pub extent_first : (place : Place) → place.input ≡ 0 → extent_of place ≡ FirstMovi

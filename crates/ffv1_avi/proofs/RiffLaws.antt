@@ -1,8 +1,6 @@
 -- The RIFFs of a file after its first movi.
-use Rattle.std.proofs.Common.{◌≡◌, ℕ, suc, zero, ◌+◌, ◌-◌, ◌%◌, ◌≤◌, ◌<◌, ◌/◌, ◌&&◌, ◌||◌, nat_eq, nat_le, nat_lt, Bool, true, false, Option, Some, None, Ok, List, [], ◌∷◌, ◌++◌, length, take, drop, codes, map, ap, ◌∙◌, sym, subst, arith, refl, append_assoc, length-append, length-take}
-use Rattle.std.proofs.lemmas.Bool.{leb-true, ltb-true}
+use Rattle.std.proofs.Common.{◌≡◌, ℕ, suc, zero, ◌+◌, ◌-◌, ◌%◌, ◌≤◌, ◌<◌, ◌/◌, ◌&&◌, ◌||◌, nat_eq, Bool, true, false, Option, Some, None, Ok, List, [], ◌∷◌, ◌++◌, length, take, codes, map, ap, ◌∙◌, sym, subst, arith, refl, append_assoc, length-append}
 use Rattle.std.proofs.lemmas.Grind.{flat_map-append}
-use Rattle.std.proofs.lemmas.List.{take-append-drop}
 use Rattle.std.specs.Cmp.Lexicographic.{same_text}
 use Rattle.byteorder.specs.Endian.{little_number}
 use Rattle.ffv1_avi.specs.declared.chunk.Entry.{Entry}
@@ -11,13 +9,14 @@ use Rattle.ffv1_avi.specs.declared.place.Names.TheVariants.{Any, Closed}
 use Rattle.ffv1_avi.specs.Names.{bitmap_name, frame_name, is_frame, is_stream_frame, most_bytes}
 use Rattle.ffv1_avi.specs.declared.place.Place.{Place}
 use Rattle.ffv1_avi.specs.Chunks.{AreChunks, AreFrames, AreSized, Chunk, chunk_text, chunks_text, those}
-use Rattle.ffv1_avi.specs.Files.{frames_read, moved, movi_or_riff, movi_sought, name_or_end, riff_begun, riff_judged, riff_list, riff_named, visit_riff}
+use Rattle.ffv1_avi.specs.Behind.{begins_another, looked_past}
+use Rattle.ffv1_avi.specs.Files.{frames_read, moved, movi_or_riff, movi_sought, riff_list, visit_riff}
 use Rattle.ffv1_avi.specs.Places.{amount, movi_at, riff_at}
-use Rattle.ffv1_reads.specs.Reads.{given, passed, read_on, taken, ◌>>=◌}
+use Rattle.ffv1_reads.specs.Reads.{given, passed, read_on, taken}
 use Rattle.ffv1_avi.specs.Padding.{padded}
 use Rattle.ffv1_avi.specs.Riffs.{AreRiffs, AreSections, IsRiff, IsSection, Riff, Section, movi_chunks, movis, riff_movis, riff_text, riffs_text, section_text, sections_text}
 use Rattle.ffv1_avi.specs.Walk.{is_name, walk}
-use Rattle.ffv1_avi.proofs.Contents.{number_taken}
+use Rattle.ffv1_avi.proofs.BegunRiffs.{Begun, begun_sound}
 use Rattle.ffv1_avi.proofs.Fields.{skipped_passed}
 use Rattle.ffv1_avi.proofs.FrameLaws.{MoviPart, chunks_both, frames_after, frames_none, frames_on, movi_part, placed, those_both}
 use Rattle.ffv1_avi.proofs.InnerLists.{list_skip_complete, list_skip_sound, own_taken}
@@ -195,87 +194,6 @@ sought_sound names left text w h =
         let all : length (chunks_text chunks) + (8 + padded (little_number 4 entry.size)) + y.1 ≡ left = rw entry.counted (omega (arith, long, entry.fits, movi.left)) in
         record { chunks = chunks; size = entry.size; text_is = here; sized = entry.sized; named = size; long = all; sections = others_are names chunks each run }
 
--- the next RIFF, or the end
-pub record FoundRiff (place : Place) (text : List ℕ) (q : Place) (rest : List ℕ) : Type 0 where
-  pub size : List ℕ
-  pub text_is : text ≡ (codes "RIFF" ++ size ++ codes "AVIX") ++ rest
-  pub sized : length size ≡ 4
-  pub room : 4 ≤ little_number 4 size
-  pub fits : 8 + little_number 4 size < place.input
-  pub place_is : q ≡ riff_at place (little_number 4 size)
-
-abbrev Begun : Place → List ℕ → Option Place × List ℕ → Type 0
-Begun place text (None, rest) = (place.owed ≡ 0) × (text ≡ []) × (rest ≡ [])
-Begun place text (Some q, rest) = FoundRiff place text q rest
-
-named_sound : (owed : ℕ) (text : List ℕ) (name rest : List ℕ) → (taken 4 >>= λ name. given (Some name)) text ≡ Ok (Some name, rest) → (text ≡ name ++ rest) × (length name ≡ 4)
-named_sound owed text name rest h =
-    let first = read_on_ok (taken 4 text) (λ name. given (Some name)) (Some name, rest) h in
-    let own = taken_sound 4 text first.0 first.1 in
-    let both = ok_is (Some first.0.0, first.0.1) (Some name, rest) first.2 in
-    let same : first.0.0 ≡ name = some_is first.0.0 name (ap (λ (z : Option (List ℕ) × List ℕ). z.0) both) in
-    let P : List ℕ → Type 0 = λ z. (text ≡ z ++ rest) × (length z ≡ 4) in
-    subst P same (own.0 ∙ ap (λ z. first.0.0 ++ z) (ap (λ (z : Option (List ℕ) × List ℕ). z.1) both), own.1)
-
-never_none : (text rest : List ℕ) → (taken 4 >>= λ name. given (Some name)) text ≡ Ok (None, rest) → ⊥
-never_none text rest h =
-    let first = read_on_ok (taken 4 text) (λ name. given (Some name)) (None, rest) h in
-    no_some first.0.0 (ap (λ (z : Option (List ℕ) × List ℕ). z.0) (ok_is (Some first.0.0, first.0.1) (None, rest) first.2))
-
-name_sound : (owed : ℕ) (text : List ℕ) (name rest : List ℕ) → name_or_end owed text ≡ Ok (Some name, rest) → (text ≡ name ++ rest) × (length name ≡ 4)
-unfolding name_or_end
-name_sound zero [] name rest h = absurd (no_some name (sym (ap (λ (z : Option (List ℕ) × List ℕ). z.0) (ok_is (None, []) (Some name, rest) h))))
-name_sound zero (b ∷ bs) name rest h = named_sound 0 (b ∷ bs) name rest h
-name_sound (suc n) text name rest h = named_sound (suc n) text name rest h
-
-end_sound : (owed : ℕ) (text rest : List ℕ) → name_or_end owed text ≡ Ok (None, rest) → (owed ≡ 0) × (text ≡ []) × (rest ≡ [])
-unfolding name_or_end
-end_sound zero [] rest h = (refl, refl, sym (ap (λ (z : Option (List ℕ) × List ℕ). z.1) (ok_is (None, []) (None, rest) h)))
-end_sound zero (b ∷ bs) rest h = absurd (never_none (b ∷ bs) rest h)
-end_sound (suc n) text rest h = absurd (never_none text rest h)
-
-begun_sound : (place : Place) (text : List ℕ) (w : Option Place × List ℕ) → riff_begun place text ≡ Ok w → Begun place text w
-unfolding riff_begun
-begun_sound place text w h =
-    let first = read_on_ok (name_or_end place.owed text) (riff_named place) w h in
-    on_name first.0.0 first.0.1 first.1 first.2
-  where
-    P : Option Place × List ℕ → Type 0
-    P z = Begun place text z
-
-    on_head : (bytes more : List ℕ) (a b c : Bool) → text ≡ codes "RIFF" ++ (bytes ++ more) → length bytes ≡ 8 → is_name (drop 4 bytes) (codes "AVIX") ≡ a → nat_le 4 (little_number 4 bytes) ≡ b → nat_lt (8 + little_number 4 bytes) place.input ≡ c → riff_judged place bytes more ≡ Ok w → P w
-    on_head bytes more false b c whole long p q r k = absurd (cc (rw p at k))
-    on_head bytes more true false c whole long p q r k = absurd (cc (rw (p, q) at k))
-    on_head bytes more true true false whole long p q r k = absurd (cc (rw (p, q, r) at k))
-    on_head bytes more true true true whole long p q r k =
-        let size = take 4 bytes in
-        let sized : length size ≡ 4 = length-take 4 bytes ∙ (omega (arith, long)) in
-        let number : little_number 4 size ≡ little_number 4 bytes = number_taken 4 bytes (omega arith) in
-        let named : drop 4 bytes ≡ codes "AVIX" = same_text (drop 4 bytes) (codes "AVIX") (sym p) in
-        let apart : bytes ≡ size ++ codes "AVIX" = sym (take-append-drop 4 bytes) ∙ ap (λ z. size ++ z) named in
-        let here : text ≡ (codes "RIFF" ++ size ++ codes "AVIX") ++ more = whole ∙ ap (λ z. codes "RIFF" ++ (z ++ more)) apart ∙ regrouped (codes "RIFF") size (codes "AVIX") more in
-        let room : 4 ≤ little_number 4 size = rw number (leb-true _ _ q) in
-        let fits : 8 + little_number 4 size < place.input = rw number (ltb-true _ _ r) in
-        let made = riff_at place (little_number 4 bytes) in
-        let found : FoundRiff place text made more = record { size = size; text_is = here; sized = sized; room = room; fits = fits; place_is = ap (riff_at place) (sym number) } in
-        subst P (ok_is (Some made, more) w (rw (p, q, r) at k)) found
-      where
-        regrouped : (a b c d : List ℕ) → a ++ ((b ++ c) ++ d) ≡ ((a ++ b) ++ c) ++ d
-        regrouped a b c d = simp append_assoc
-
-    on_riff : (name more : List ℕ) (a : Bool) → text ≡ name ++ more → is_name name (codes "RIFF") ≡ a → riff_named place (Some name) more ≡ Ok w → P w
-    on_riff name more false whole p k = absurd (cc (rw p at k))
-    on_riff name more true whole p k =
-        let named : name ≡ codes "RIFF" = same_text name (codes "RIFF") (sym p) in
-        let second = read_on_ok (taken 8 more) (riff_judged place) w (rw p at k) in
-        let own = taken_sound 8 more second.0 second.1 in
-        let bytes = second.0.0 in
-        on_head bytes second.0.1 (is_name (drop 4 bytes) (codes "AVIX")) (nat_le 4 (little_number 4 bytes)) (nat_lt (8 + little_number 4 bytes) place.input) (whole ∙ ap (λ z. z ++ more) named ∙ ap (λ z. codes "RIFF" ++ z) own.0) own.1 refl refl refl second.2
-
-    on_name : (o : Option (List ℕ)) (more : List ℕ) → name_or_end place.owed text ≡ Ok (o, more) → riff_named place o more ≡ Ok w → P w
-    on_name None more is k = subst P (ok_is (None, more) w k) (end_sound place.owed text more is)
-    on_name (Some name) more is k = on_riff name more (is_name name (codes "RIFF")) (name_sound place.owed text name more is).0 refl k
-
 -- chunks take an even number of bytes
 pub chunks_even : (cs : List Chunk) → AreChunks cs → length (chunks_text cs) % 2 ≡ 0
 chunks_even [] each = refl
@@ -302,25 +220,27 @@ framed_both names xs ys fs gs h k =
     ap (map (λ (c : Chunk). c.bytes)) (those_both (frame_in names) xs ys) ∙ map_both (those (frame_in names) xs) (those (frame_in names) ys) ∙ ap (λ z. z ++ map (λ (c : Chunk). c.bytes) (those (frame_in names) ys)) h.those_of ∙ ap (λ z. fs ++ z) k.those_of in
     record { each = chunks_both xs ys h.each k.each; none_barred = lists; those_of = all; sized = sized_both (most_bytes names) fs gs h.sized k.sized }
 
--- what RIFF has after a movi, and the RIFFs after it, to the end of the input
+-- what RIFF has after a movi, the RIFFs after it, and what stands behind the last one
 pub record RiffRest (place : Place) (text : List ℕ) (frames : List (List ℕ)) (rest : List ℕ) : Type 0 where
   pub sections : List Section
   pub riffs : List Riff
-  pub text_is : text ≡ sections_text sections ++ riffs_text riffs
+  pub behind : List ℕ
+  pub text_is : text ≡ sections_text sections ++ (riffs_text riffs ++ behind)
   pub long : length (sections_text sections) ≡ place.riff
   pub sections_are : AreSections place.names sections
   pub riffs_are : AreRiffs place.names riffs
   pub bounded : length (riffs_text riffs) < place.input
   pub framed : AreFrames place.names (movis sections ++ riff_movis riffs) frames
   pub enough : place.owed ≤ length frames
-  pub over : rest ≡ []
+  pub other : begins_another behind ≡ false
+  pub left : rest ≡ looked_past behind
 
-rest_end : (place : Place) (text more : List ℕ) → (place.input ≡ 0 → ⊥) → FoundEnd place.names place.riff text more → place.owed ≡ 0 → more ≡ [] → RiffRest place text [] []
-rest_end place text more some end owed none =
-    let whole : text ≡ sections_text (others_of end.chunks) ++ [] = end.text_is ∙ ap (λ z. chunks_text end.chunks ++ z) none ∙ ap (λ z. z ++ []) (sym (others_text end.chunks)) in
+rest_end : (place : Place) (text more rest : List ℕ) → (place.input ≡ 0 → ⊥) → FoundEnd place.names place.riff text more → (place.owed ≡ 0) × (begins_another more ≡ false) × (rest ≡ looked_past more) → RiffRest place text [] rest
+rest_end place text more rest some end (owed, other, left) =
+    let whole : text ≡ sections_text (others_of end.chunks) ++ more = end.text_is ∙ ap (λ z. z ++ more) (sym (others_text end.chunks)) in
     let nothing : AreFrames place.names [] [] = record { each = tt; none_barred = refl; those_of = refl; sized = tt } in
     let P : List Chunk → Type 0 = λ z. AreFrames place.names (z ++ []) [] in
-    record { sections = others_of end.chunks; riffs = []; text_is = whole; long = ap length (others_text end.chunks) ∙ end.long; sections_are = end.sections; riffs_are = tt; bounded = above place.input some; framed = subst P (sym (others_movis end.chunks)) nothing; enough = omega (arith, owed); over = refl }
+    record { sections = others_of end.chunks; riffs = []; behind = more; text_is = whole; long = ap length (others_text end.chunks) ∙ end.long; sections_are = end.sections; riffs_are = tt; bounded = above place.input some; framed = subst P (sym (others_movis end.chunks)) nothing; enough = omega (arith, owed); other = other; left = left }
   where
     above : (n : ℕ) → (n ≡ 0 → ⊥) → 0 < n
     above zero some = absurd (some refl)
@@ -330,19 +250,22 @@ rest_riff : (place : Place) (text more behind : List ℕ) (size : List ℕ) (fra
     RiffRest (riff_at place (little_number 4 size)) behind frames rest → RiffRest place text frames rest
 rest_riff place text more behind size frames rest end riff sized room fits part =
     let r : Riff = record { size = size; sections = part.sections } in
-    let whole : text ≡ sections_text (others_of end.chunks) ++ riffs_text (r ∷ part.riffs) =
+    let whole : text ≡ sections_text (others_of end.chunks) ++ (riffs_text (r ∷ part.riffs) ++ part.behind) =
     end.text_is
-    ∙ ap (λ z. chunks_text end.chunks ++ z) (riff ∙ ap (λ z. (codes "RIFF" ++ size ++ codes "AVIX") ++ z) part.text_is ∙ sym (append_assoc (codes "RIFF" ++ size ++ codes "AVIX") (sections_text part.sections) (riffs_text part.riffs)))
-    ∙ ap (λ z. z ++ riffs_text (r ∷ part.riffs)) (sym (others_text end.chunks)) in
+    ∙ ap (λ z. chunks_text end.chunks ++ z) (riff ∙ ap (λ z. (codes "RIFF" ++ size ++ codes "AVIX") ++ z) part.text_is ∙ regrouped (codes "RIFF" ++ size ++ codes "AVIX") (sections_text part.sections) (riffs_text part.riffs) part.behind)
+    ∙ ap (λ z. z ++ (riffs_text (r ∷ part.riffs) ++ part.behind)) (sym (others_text end.chunks)) in
     let is : IsRiff place.names r = record { sized = sized; counted = omega (arith, part.long, room); each = part.sections_are } in
     let front : length (codes "RIFF" ++ size ++ codes "AVIX") ≡ 12 = length-append (codes "RIFF" ++ size) (codes "AVIX") ∙ ap (λ n. n + length (codes "AVIX")) (length-append (codes "RIFF") size) ∙ (omega (arith, sized, spelled)) in
     let long : length (riff_text r ++ riffs_text part.riffs) ≡ 12 + length (sections_text part.sections) + length (riffs_text part.riffs) = length-append (riff_text r) (riffs_text part.riffs) ∙ ap (λ n. n + length (riffs_text part.riffs)) (length-append (codes "RIFF" ++ size ++ codes "AVIX") (sections_text part.sections) ∙ ap (λ n. n + length (sections_text part.sections)) front) in
     let framed : AreFrames place.names ([] ++ riff_movis (r ∷ part.riffs)) frames = part.framed in
     let P : List Chunk → Type 0 = λ z. AreFrames place.names (z ++ riff_movis (r ∷ part.riffs)) frames in
-    record { sections = others_of end.chunks; riffs = r ∷ part.riffs; text_is = whole; long = ap length (others_text end.chunks) ∙ end.long; sections_are = end.sections; riffs_are = (is, part.riffs_are); bounded = omega (arith, long, part.bounded, part.long, room, fits); framed = subst P (sym (others_movis end.chunks)) framed; enough = part.enough; over = part.over }
+    record { sections = others_of end.chunks; riffs = r ∷ part.riffs; behind = part.behind; text_is = whole; long = ap length (others_text end.chunks) ∙ end.long; sections_are = end.sections; riffs_are = (is, part.riffs_are); bounded = omega (arith, long, part.bounded, part.long, room, fits); framed = subst P (sym (others_movis end.chunks)) framed; enough = part.enough; other = part.other; left = part.left }
   where
     spelled : (length (codes "RIFF") ≡ 4) × (length (codes "AVIX") ≡ 4)
     spelled = (refl, refl)
+
+    regrouped : (a b c d : List ℕ) → a ++ (b ++ (c ++ d)) ≡ ((a ++ b) ++ c) ++ d
+    regrouped a b c d = simp append_assoc
 
 rest_movi : (place : Place) (text more : List ℕ) (y : ℕ × ℕ) (frames : List (List ℕ)) (rest : List ℕ) → FoundMovi place.names place.riff text y more → (part : MoviPart (movi_at place y) more frames rest) →
     RiffRest (placed (movi_at place y) 0 (place.owed - length part.here)) part.more part.later rest → RiffRest place text frames rest
@@ -351,11 +274,11 @@ rest_movi place text more y frames rest found part after =
     let sections = others_of found.chunks ++ s ∷ after.sections in
     let front = codes "LIST" ++ found.size ++ codes "movi" in
     let apart : sections_text sections ≡ chunks_text found.chunks ++ ((front ++ chunks_text part.chunks) ++ sections_text after.sections) = flat_map-append section_text (others_of found.chunks) (s ∷ after.sections) ∙ ap (λ z. z ++ ((front ++ chunks_text part.chunks) ++ sections_text after.sections)) (others_text found.chunks) in
-    let whole : text ≡ sections_text sections ++ riffs_text after.riffs =
+    let whole : text ≡ sections_text sections ++ (riffs_text after.riffs ++ after.behind) =
     found.text_is
     ∙ ap (λ z. chunks_text found.chunks ++ (front ++ z)) (part.text_is ∙ ap (λ z. chunks_text part.chunks ++ z) after.text_is)
-    ∙ regrouped (chunks_text found.chunks) front (chunks_text part.chunks) (sections_text after.sections) (riffs_text after.riffs)
-    ∙ ap (λ z. z ++ riffs_text after.riffs) (sym apart) in
+    ∙ regrouped (chunks_text found.chunks) front (chunks_text part.chunks) (sections_text after.sections) (riffs_text after.riffs ++ after.behind)
+    ∙ ap (λ z. z ++ (riffs_text after.riffs ++ after.behind)) (sym apart) in
     let twelve : length front ≡ 12 = length-append (codes "LIST" ++ found.size) (codes "movi") ∙ ap (λ n. n + length (codes "movi")) (length-append (codes "LIST") found.size) ∙ (omega (arith, found.sized, spelled)) in
     let even : length (chunks_text part.chunks) % 2 ≡ 0 = chunks_even part.chunks part.framed.each in
     let size : length (sections_text sections) ≡ length (chunks_text found.chunks) + (12 + length (chunks_text part.chunks) + length (sections_text after.sections)) =
@@ -369,7 +292,7 @@ rest_movi place text more y frames rest found part after =
     let P : List Chunk → Type 0 = λ z. AreFrames place.names z (part.here ++ part.later) in
     let Q : List (List ℕ) → Type 0 = λ z. AreFrames place.names (movis sections ++ riff_movis after.riffs) z in
     let count : length frames ≡ length part.here + length part.later = ap length part.parted ∙ length-append part.here part.later in
-    record { sections = sections; riffs = after.riffs; text_is = whole; long = long; sections_are = sections_both place.names (others_of found.chunks) (s ∷ after.sections) found.sections (is, after.sections_are); riffs_are = after.riffs_are; bounded = after.bounded; framed = subst Q (sym part.parted) (subst P (sym all) both); enough = omega (arith, count, after.enough); over = after.over }
+    record { sections = sections; riffs = after.riffs; behind = after.behind; text_is = whole; long = long; sections_are = sections_both place.names (others_of found.chunks) (s ∷ after.sections) found.sections (is, after.sections_are); riffs_are = after.riffs_are; bounded = after.bounded; framed = subst Q (sym part.parted) (subst P (sym all) both); enough = omega (arith, count, after.enough); other = after.other; left = after.left }
   where
     spelled : (length (codes "LIST") ≡ 4) × (length (codes "movi") ≡ 4)
     spelled = (refl, refl)
@@ -390,10 +313,7 @@ after_step place text w some again h =
     P z = RiffRest place text z.0 z.1
 
     on_begun : (more : List ℕ) → FoundEnd place.names place.riff text more → (o : Option Place) (behind : List ℕ) → Begun place more (o, behind) → frames_on o behind ≡ Ok w → P w
-    on_begun more end None behind begun k = subst P (ok_is ([], behind) w k) (over (rest_end place text more some end begun.0 begun.1) begun.2)
-      where
-        over : RiffRest place text [] [] → behind ≡ [] → P ([], behind)
-        over r none = let Q : List ℕ → Type 0 = λ z. RiffRest place text [] z in subst Q (sym none) r
+    on_begun more end None behind begun k = subst P (ok_is ([], behind) w k) (rest_end place text more behind some end begun)
     on_begun more end (Some q) behind begun k =
         let n = little_number 4 begun.size in
         let next = riff_at place n in

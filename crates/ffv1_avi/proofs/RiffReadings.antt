@@ -1,32 +1,33 @@
 -- Chunks of RIFF after movi, and the next RIFF, by the calls of which the reading of each is made.
-use Rattle.std.proofs.Common.{◌≡◌, ◌+◌, ◌-◌, ◌%◌, ◌^◌, ◌==◌, ◌<◌, ◌≤◌, min, ℕ, suc, zero, true, false, Option, Some, None, Result, Ok, Err, List, [], ◌∷◌, ◌&&◌, nat_le, nat_lt, length, drop, codes, refl, sym, ap, ◌∙◌, subst, inl, inr, arith}
+use Rattle.std.proofs.Common.{◌≡◌, ◌+◌, ◌-◌, ◌%◌, ◌^◌, ◌==◌, ◌<◌, ◌≤◌, min, ℕ, true, false, Option, Some, None, Result, Ok, Err, IfOk, List, [], ◌++◌, length, length-append, codes, refl, sym, ap, ◌∙◌, subst, inl, inr, arith}
 use Rattle.std.proofs.lemmas.Bool.{ne_eqb}
-use Rattle.byteorder.specs.Endian.{little_number}
 use Rattle.ffv1_reads.specs.declared.fault.FileFault.{FileFault}
 use Rattle.ffv1_reads.specs.declared.fault.FileFault.TheVariants as fault
 use Rattle.ffv1_reads.specs.Ends.{RefusedOrEnds}
 use Rattle.ffv1_reads.specs.Ends.{RefusedOrNone as RefusedOrOver}
 use Rattle.ffv1_reads.specs.Offsets.{ReadsCounted}
-use Rattle.ffv1_reads.specs.Reads.{Kept, Looked, Read, Reading, Refused, Stop, given, read_on, passed, refused, taken, wanted, ◌>>=◌}
+use Rattle.ffv1_reads.specs.Reads.{Kept, Looked, Read, Reading, Refused, given, read_on, passed, refused, taken, wanted, ◌>>=◌}
 use Rattle.ffv1_reads.proofs.EndRefusals.{ends_refused, ends_refused_none}
 use Rattle.ffv1_reads.proofs.OffsetLaws.{counted_given, counted_same, counted_then, counts_more, reads_counted, reads_none, reads_then, stops_after}
 use Rattle.ffv1_reads.proofs.Reading.{Goes, goes_none, goes_read, goes_same}
-use Rattle.ffv1_reads.proofs.Results.{ok_is}
-use Rattle.ffv1_reads.proofs.Taking.{Any, Takes, takes_given, takes_if, takes_passed, takes_refused, takes_same, takes_then, takes_wanted}
+use Rattle.ffv1_reads.proofs.Taking.{Takes, takes_given, takes_if, takes_passed, takes_refused, takes_same, takes_then, takes_wanted}
 use Rattle.ffv1_avi.specs.declared.chunk.Entry.{Entry}
 use Rattle.ffv1_avi.specs.declared.place.Extent.{Extent}
 use Rattle.ffv1_avi.specs.declared.place.Extent.TheVariants.{FirstMovi, EveryRiff}
 use Rattle.ffv1_avi.specs.declared.place.Names.{Names}
 use Rattle.ffv1_avi.specs.declared.place.Place.{Place}
-use Rattle.ffv1_avi.specs.Files.{name_or_end, riff_begun, riff_entered, riff_list, riff_named, visit_riff}
-use Rattle.ffv1_avi.specs.Internal.Ending.{RefusedOrNone}
+use Rattle.ffv1_avi.specs.Behind.{EndsBehind, StandAfter}
+use Rattle.ffv1_avi.specs.Files.{riff_begun, riff_list, visit_riff}
+use Rattle.ffv1_avi.specs.Internal.Ending.{AnswersOrNone, ReadOrNone, RefusedOrNone}
 use Rattle.ffv1_avi.specs.Offsets.{Counts, ReadsTo, ReadsUpTo, StopsIn, chunk_taken, movi_entered, riff_left, riff_next, riff_taken}
-use Rattle.ffv1_avi.specs.Internal.Offsets.{FrameBegins, MovesTo}
+use Rattle.ffv1_avi.specs.Internal.Offsets.{FrameBegins, MovesTo, TellsBehind}
 use Rattle.ffv1_avi.specs.Names.{is_frame}
 use Rattle.ffv1_avi.specs.Padding.{padded}
-use Rattle.ffv1_avi.specs.Places.{frame_at, movi_at, riff_at}
+use Rattle.ffv1_avi.specs.Places.{ended, extent_of, frame_at, movi_at}
 use Rattle.ffv1_avi.specs.Walk.{bars_none, entry_in, entry_read, is_name}
+use Rattle.ffv1_avi.proofs.BegunRiffs.{begun_sound}
 use Rattle.ffv1_avi.proofs.ChunkReadings.{chunk_framed, entry_counted}
+use Rattle.ffv1_avi.proofs.Moves.{extent_every}
 
 -- if movi has nothing left, and more RIFFs are read, a chunk of RIFF comes next
 riff_chunk : (place : Place) (left : ℕ) → 0 < place.input → (text : List ℕ) → chunk_taken (riff_left place left) text ≡ (entry_read left >>= riff_taken (riff_left place left)) text
@@ -84,65 +85,29 @@ module _ (place : Place) (left : ℕ) (more : 0 < place.input) where
       ends_refused (visit_riff place.names tt e) (λ p. movi_entered here e.left p.1) new after f (goes_read (entry_read left) (riff_taken here) mid between (Some e) (reached old before) header) why
 
 -- the next RIFF
-named_same : (place : Place) (o : Option (List ℕ)) (text : List ℕ) → riff_named (riff_left place 0) o text ≡ riff_named place o text
-named_same place None text = refl
-named_same place (Some name) text = refl
-
 begun_same : (place : Place) (text : List ℕ) → riff_begun (riff_left place 0) text ≡ riff_begun place text
 unfolding riff_begun
-begun_same place text = on_name (name_or_end place.owed text)
-  where
-    on_name : (r : Result (Option (List ℕ) × List ℕ) Stop) → read_on r (riff_named (riff_left place 0)) ≡ read_on r (riff_named place)
-    on_name (Ok p) = named_same place p.0 p.1
-    on_name (Err why) = refl
+begun_same place text = refl
 
-riff_next_chunk : (place : Place) → 0 < place.input → (text : List ℕ) → chunk_taken (riff_left place 0) text ≡ (riff_begun place >>= riff_next (riff_left place 0)) text
+riff_next_chunk : (place : Place) → 0 < place.input → (text : List ℕ) → chunk_taken (riff_left place 0) text ≡ (riff_begun place >>= riff_next) text
 unfolding entry_in
-riff_next_chunk place more text = riff_chunk place 0 more text ∙ ap (λ z. read_on z (riff_next (riff_left place 0))) (begun_same place text)
+riff_next_chunk place more text = riff_chunk place 0 more text ∙ ap (λ z. read_on z riff_next) (begun_same place text)
 
-abbrev name_left : Option (List ℕ) → ℕ
-name_left None = 12
-name_left (Some name) = 8
-
-abbrev riff_over : Option Place → ℕ
-riff_over None = 12
-riff_over (Some next) = 0
-
-four_takes : Takes Any 12 name_left (taken 4 >>= λ name. given (Some name))
-four_takes = takes_then (taken 4) _ (takes_wanted Looked 4 8) (λ name _. takes_given (Some name) tt refl)
-
-name_takes : (owed : ℕ) → Takes Any 12 name_left (name_or_end owed)
-unfolding name_or_end
-name_takes owed = record { only = λ text rest o h. on_text owed text rest o h }
+begun_counted : (place next : Place) {a b : Option (List ℕ)} → Read (riff_begun place) a b (Some next) → ReadsCounted (riff_begun place) a b (Some next) 12
+begun_counted place next read =
+    let found = begun_sound place (read.bytes ++ []) (Some next, []) (read.is []) in
+    let front = codes "RIFF" ++ found.size ++ codes "AVIX" in
+    let long : length front ≡ 12 = length-append (codes "RIFF" ++ found.size) (codes "AVIX") ∙ ap (λ n. n + length (codes "AVIX")) (length-append (codes "RIFF") found.size) ∙ (omega (arith, found.sized, spelled)) in
+    let count : length read.bytes ≡ 12 = omega (arith, ap length found.text_is, length-append read.bytes [], length-append front [], long) in
+    record { bytes = read.bytes; consumed = read.consumed; is = read.is; counted = count }
   where
-    on_text : (owed : ℕ) (text rest : List ℕ) (o : Option (List ℕ)) → name_or_end owed text ≡ Ok (o, rest) → Unit {0} × (length text + name_left o ≡ length rest + 12)
-    on_text zero [] rest o h =
-        let both = ok_is (None, []) (o, rest) h in
-        let none : None ≡ o = ap (λ (z : Option (List ℕ) × List ℕ). z.0) both in
-        let left : [] ≡ rest = ap (λ (z : Option (List ℕ) × List ℕ). z.1) both in
-        (tt, rw (← none, ← left) refl)
-    on_text zero (b ∷ bs) rest o h = four_takes.only (b ∷ bs) rest o h
-    on_text (suc n) text rest o h = four_takes.only text rest o h
-
-entered_takes : (place : Place) → Takes Any 8 riff_over (riff_entered place)
-entered_takes place =
-    takes_then (taken 8) _ (takes_wanted Looked 8 0) (λ bytes _.
-    takes_if (is_name (drop 4 bytes) (codes "AVIX") && nat_le 4 (little_number 4 bytes)) _ (refused fault.NotAvi)
-    (λ _. takes_if (nat_lt (8 + little_number 4 bytes) place.input) (given (Some (riff_at place (little_number 4 bytes)))) (refused fault.Truncated) (λ _. takes_given _ tt refl) (λ _. takes_refused fault.Truncated))
-    (λ _. takes_refused fault.NotAvi))
-
-begun_takes : (place : Place) → Takes Any 12 riff_over (riff_begun place)
-unfolding riff_begun
-begun_takes place = takes_then (name_or_end place.owed) (riff_named place) (name_takes place.owed) (λ o _. on_name o)
-  where
-    on_name : (o : Option (List ℕ)) → Takes Any (name_left o) riff_over (riff_named place o)
-    on_name None = takes_given None tt refl
-    on_name (Some name) = takes_if (is_name name (codes "RIFF")) (riff_entered place) (refused fault.NotAvi) (λ _. entered_takes place) (λ _. takes_refused fault.NotAvi)
+    spelled : (length (codes "RIFF") ≡ 4) × (length (codes "AVIX") ≡ 4)
+    spelled = (refl, refl)
 
 next_counted : (place next : Place) {a b : Option (List ℕ)} → 0 < place.input → Read (riff_begun place) a b (Some next) → ReadsCounted (chunk_taken (riff_left place 0)) a b next (12 + 0)
 next_counted place next {b = b} more read =
-    counted_same (riff_begun place >>= riff_next (riff_left place 0)) _ (λ text. sym (riff_next_chunk place more text))
-    (counted_then (riff_begun place) (riff_next (riff_left place 0)) (reads_counted 12 (begun_takes place) refl read) (counted_given next b))
+    counted_same (riff_begun place >>= riff_next) _ (λ text. sym (riff_next_chunk place more text))
+    (counted_then (riff_begun place) riff_next (begun_counted place next read) (counted_given next b))
 
 pub next_reached : (place next : Place) {a b : Option (List ℕ)} {before after : ℕ} → 0 < place.input → Read (riff_begun place) a b (Some next) → after ≡ min (before + 12) (2 ^ 64 - 1) → ReadsUpTo (riff_left place 0) a b next before after
 next_reached place next {a = a} {before = before} {after = after} more read is =
@@ -163,8 +128,8 @@ over extent reading old new before after f why = why
 
 pub next_refused : (place : Place) (old new : Option (List ℕ)) (before after : ℕ) (f : FileFault) → 0 < place.input → RefusedOrNone EveryRiff (riff_begun place) old new before after f → RefusedOrEnds (chunk_taken (riff_left place 0)) old new before after f
 next_refused place old new before after f more why =
-    ends_refused_none (riff_begun place) (riff_next (riff_left place 0)) (riff_left place 0) new after f (λ text. refl)
-    (goes_same (chunk_taken (riff_left place 0)) (riff_begun place >>= riff_next (riff_left place 0)) (riff_next_chunk place more) (goes_none (chunk_taken (riff_left place 0)) old before))
+    ends_refused_none (riff_begun place) riff_next ended new after f (λ text. refl)
+    (goes_same (chunk_taken (riff_left place 0)) (riff_begun place >>= riff_next) (riff_next_chunk place more) (goes_none (chunk_taken (riff_left place 0)) old before))
     (over EveryRiff (riff_begun place) old new before after f why)
 
 -- up to a position, and on from there
@@ -221,3 +186,27 @@ pub frame_next : {from : Place} {a b c d e : Option (List ℕ)} {first mid last 
     ReadsUpTo from a e (frame_at to left) first last
 frame_next {first = first} {mid = mid} {last = last} to size left bytes h found read pad is =
     (h.0 + (8 + (0 + (size + (size % 2 + 0) + 0))), counts_more h.1 (chunk_framed to found.entry size left bytes found.header found.visit read pad), counts_more_by first mid last h.0 (8 + (0 + (size + (size % 2 + 0) + 0))) (8 + padded size) h.2 is (omega arith))
+
+-- the frames end with an RIFF, after chunks that were read whole
+pub ends_behind : {from : Place} {a b c : Option (List ℕ)} {first mid : ℕ} {after : Option ℕ} (place : Place) → 0 < place.input → ReadsUpTo from a b (riff_left place 0) first mid → ReadOrNone EveryRiff (riff_begun place) b c None → StandAfter b c mid after → EndsBehind from a c first after
+unfolding riff_begun
+ends_behind {b = b} {mid = mid} place some chunks over told = record { to = riff_left place 0; between = b; end = mid; chunks = chunks; movi = refl; riff = refl; every = extent_every (riff_left place 0) (λ e. omega (arith, e, some)); over = over; told = told }
+
+pub behind_then : {from place : Place} {a b c : Option (List ℕ)} {first mid : ℕ} {after : Option ℕ} → ReadsUpTo from a b place first mid → EndsBehind place b c mid after → EndsBehind from a c first after
+behind_then chunks h = record { to = h.to; between = h.between; end = h.end; chunks = up_to_then chunks h.chunks; movi = h.movi; riff = h.riff; every = h.every; over = h.over; told = h.told }
+
+pub tells_then : {from place : Place} {a b : Option (List ℕ)} {first mid : ℕ} (c : Option (List ℕ)) (after : Option ℕ) (extent : Extent) → ReadsUpTo from a b place first mid → TellsBehind extent place b c mid after → TellsBehind extent from a c first after
+tells_then c after FirstMovi chunks h = h
+tells_then c after EveryRiff chunks h = behind_then chunks h
+
+-- the same of an extent that is equal
+pub tells_same : (from : Place) (a b : Option (List ℕ)) (first : ℕ) (after : Option ℕ) (d e : Extent) → d ≡ e → TellsBehind d from a b first after → TellsBehind e from a b first after
+tells_same from a b first after d e same h = let P : Extent → Type 0 = λ z. TellsBehind z from a b first after in subst P same h
+
+-- after the end of a movi
+pub moves_behind : {a b : Option (List ℕ)} {first mid : ℕ} (c : Option (List ℕ)) (before last : ℕ) (after : Option ℕ) (place : Place) (result : Result (Option Place) FileFault) → 0 < place.input → ReadsUpTo (riff_left place place.riff) a b (riff_left place 0) first mid →
+    AnswersOrNone EveryRiff (λ (q : Option Place). q) (riff_begun place) (record { old = b; new = c; before = before; after = last }) result → IfOk result (λ o. o ≡ None → StandAfter b c mid after) →
+    IfOk result (λ o. o ≡ None → TellsBehind (extent_of place) (riff_left place place.riff) a c first after)
+moves_behind c before last after place (Ok None) some chunks answer told = λ none. rw (extent_every place (λ e. omega (arith, e, some))) (ends_behind place some chunks answer.1 (told refl))
+moves_behind c before last after place (Ok (Some next)) some chunks answer told = λ none. absurd (cc)
+moves_behind c before last after place (Err f) some chunks answer told = tt

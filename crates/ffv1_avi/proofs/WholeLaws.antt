@@ -1,11 +1,12 @@
 -- A whole file, of which every RIFF is read.
-use Rattle.std.proofs.Common.{◌≡◌, ℕ, ◌+◌, ◌-◌, ◌%◌, ◌≤◌, ◌<◌, ◌&&◌, nat_le, nat_lt, Bool, true, false, Option, Some, None, Ok, List, [], ◌∷◌, ◌++◌, length, take, codes, flat_map, ap, ◌∙◌, sym, subst, arith, refl, length-append, min, zero-add}
+use Rattle.std.proofs.Common.{◌≡◌, ℕ, ◌+◌, ◌-◌, ◌%◌, ◌≤◌, ◌<◌, ◌&&◌, nat_le, nat_lt, Bool, true, false, Option, Some, None, Ok, List, [], ◌∷◌, ◌++◌, length, take, codes, flat_map, ap, ◌∙◌, sym, subst, arith, refl, append_assoc, length-append, min, zero-add}
 use Rattle.std.proofs.lemmas.Bool.{le-ltb, leb-false, leb-true, lt-ltb}
 use Rattle.byteorder.specs.Endian.{little_number}
 use Rattle.ffv1_avi.specs.declared.place.Extent.TheVariants.{EveryRiff}
 use Rattle.ffv1_avi.specs.declared.place.Names.{Names}
 use Rattle.ffv1_avi.specs.declared.place.Names.TheVariants.{Closed}
 use Rattle.ffv1_avi.specs.declared.place.Place.{Place}
+use Rattle.ffv1_avi.specs.Behind.{RiffFileThen}
 use Rattle.ffv1_avi.specs.Chunks.{AreChunks, AreFrames, Chunk, chunks_text, first_of, header_chunks, is_list, is_named, streams, those, total_next}
 use Rattle.ffv1_avi.specs.Files.{Headers, file_read, frames_read, no_headers, open_read, owed, stream_came, stream_known}
 use Rattle.ffv1_reads.specs.Head.{Head}
@@ -119,7 +120,7 @@ pub owed_total : (c : Option Chunk) → owed (total_after None c) ≡ total_of c
 owed_total None = refl
 owed_total (Some c) = refl
 
-pub whole_sound : (file : List ℕ) (w : (Head × List (List ℕ)) × List ℕ) → file_read EveryRiff file ≡ Ok w → RiffFile file w.0.0 w.0.1 × (w.1 ≡ [])
+pub whole_sound : (file : List ℕ) (w : (Head × List (List ℕ)) × List ℕ) → file_read EveryRiff file ≡ Ok w → RiffFileThen file w.0.0 w.0.1 w.1
 whole_sound file w h =
     let first = read_on_ok (open_read EveryRiff file) (λ p. (frames_read p.1 >>= λ frames. given (p.0, frames))) w h in
     let head = first.0.0.0 in
@@ -137,8 +138,12 @@ whole_sound file w h =
     let found = run_streams EveryRiff cs no_headers known head refl top.head top.run in
     let extended = run_extended cs no_headers known top.run in
     let owes : owed known.frames ≡ total extended.inners = ap owed extended.says ∙ owed_total (first_of (those is_total (all_of extended.inners))) in
-    let text : file ≡ (codes "RIFF" ++ opening.riff_size ++ codes "AVI ") ++ (parts_text top.parts ++ ((codes "LIST" ++ top.movi_size ++ codes "movi") ++ (chunks_text part.chunks ++ (sections_text after.sections ++ riffs_text after.riffs)))) =
-    opening.text_is ∙ ap (λ z. (codes "RIFF" ++ opening.riff_size ++ codes "AVI ") ++ z) (top.text_is ∙ ap (λ z. parts_text top.parts ++ ((codes "LIST" ++ top.movi_size ++ codes "movi") ++ z)) (part.text_is ∙ ap (λ z. chunks_text part.chunks ++ z) after.text_is)) in
+    let front = codes "RIFF" ++ opening.riff_size ++ codes "AVI " in
+    let movi = codes "LIST" ++ top.movi_size ++ codes "movi" in
+    let all : List ℕ = front ++ (parts_text top.parts ++ (movi ++ (chunks_text part.chunks ++ (sections_text after.sections ++ riffs_text after.riffs)))) in
+    let text : file ≡ all ++ after.behind =
+    opening.text_is ∙ ap (λ z. (codes "RIFF" ++ opening.riff_size ++ codes "AVI ") ++ z) (top.text_is ∙ ap (λ z. parts_text top.parts ++ ((codes "LIST" ++ top.movi_size ++ codes "movi") ++ z)) (part.text_is ∙ ap (λ z. chunks_text part.chunks ++ z) after.text_is))
+    ∙ regrouped front (parts_text top.parts) movi (chunks_text part.chunks) (sections_text after.sections) (riffs_text after.riffs) after.behind in
     let even : length (chunks_text part.chunks) % 2 ≡ 0 = chunks_even part.chunks part.framed.each in
     let counted : size ≡ 4 + length (chunks_text part.chunks) = omega (arith, part.long, top.movi_named) in
     let filled : little_number 4 opening.riff_size ≡ 4 + length (parts_text top.parts) + (8 + size) + length (sections_text after.sections) = omega (arith, top.counted, opening.riff_named, counted, even, after.long) in
@@ -152,10 +157,13 @@ whole_sound file w h =
     let S : Names → Type 0 = λ z. AreSections z after.sections in
     let T : Names → Type 0 = λ z. AreRiffs z after.riffs in
     let count : length frames ≡ length part.here + length part.later = ap length part.parted ∙ length-append part.here part.later in
-    let here : RiffFile file head frames = record { riff_size = opening.riff_size; parts = top.parts; movi_size = top.movi_size; chunks = part.chunks; sections = after.sections; riffs = after.riffs; before = found.before; stream = found.stream; after = found.after; extended = extended.inners; bytes = text; riff_sized = opening.riff_sized; movi_sized = top.movi_sized; counted = counted; filled = filled; each = top.each; sections_are = subst S names after.sections_are; riffs_are = subst T names after.riffs_are; bounded = after.bounded; streams_are = found.parted; others = found.others; few = omega (arith, found.few, number); says = found.is; extended_are = extended.are; framed = subst Q names (subst P (sym part.parted) both); enough = omega (arith, after.enough, owes, count) } in
-    let R : (Head × List (List ℕ)) × List ℕ → Type 0 = λ z. RiffFile file z.0.0 z.0.1 × (z.1 ≡ []) in
+    let here : RiffFile all head frames = record { riff_size = opening.riff_size; parts = top.parts; movi_size = top.movi_size; chunks = part.chunks; sections = after.sections; riffs = after.riffs; before = found.before; stream = found.stream; after = found.after; extended = extended.inners; bytes = refl; riff_sized = opening.riff_sized; movi_sized = top.movi_sized; counted = counted; filled = filled; each = top.each; sections_are = subst S names after.sections_are; riffs_are = subst T names after.riffs_are; bounded = after.bounded; streams_are = found.parted; others = found.others; few = omega (arith, found.few, number); says = found.is; extended_are = extended.are; framed = subst Q names (subst P (sym part.parted) both); enough = omega (arith, after.enough, owes, count) } in
+    let R : (Head × List (List ℕ)) × List ℕ → Type 0 = λ z. RiffFileThen file z.0.0 z.0.1 z.1 in
     let pair : Head × List (List ℕ) = (head, frames) in
-    subst R (ok_is (pair, second.0.1) w second.2) (here, after.over)
+    subst R (ok_is (pair, second.0.1) w second.2) (record { whole = all; behind = after.behind; bytes = text; is = here; other = after.other; left = after.left })
+  where
+    regrouped : (a b c d e f g : List ℕ) → a ++ (b ++ (c ++ (d ++ (e ++ (f ++ g))))) ≡ (a ++ (b ++ (c ++ (d ++ (e ++ f))))) ++ g
+    regrouped a b c d e f g = simp append_assoc
 
-pub whole : (file : List ℕ) (head : Head) (frames : List (List ℕ)) (rest : List ℕ) → file_read EveryRiff file ≡ Ok ((head, frames), rest) → RiffFile file head frames × (rest ≡ [])
+pub whole : (file : List ℕ) (head : Head) (frames : List (List ℕ)) (rest : List ℕ) → file_read EveryRiff file ≡ Ok ((head, frames), rest) → RiffFileThen file head frames rest
 whole file head frames rest h = whole_sound file ((head, frames), rest) h

@@ -1,5 +1,5 @@
 -- Files of several RIFFs, up to the edge of one of them.
-use Rattle.std.specs.Prelude.{◌≡◌, ℕ, List, [], ◌∷◌, ◌++◌, map, Some, Ok, Err}
+use Rattle.std.specs.Prelude.{◌≡◌, ◌<◌, ℕ, List, [], ◌∷◌, ◌++◌, length, map, Some, Ok, Err}
 use Rattle.ffv1_avi.specs.declared.place.Extent.TheVariants.{EveryRiff}
 use Rattle.ffv1_avi.specs.declared.place.Place.{Place}
 use Rattle.ffv1_avi.specs.declared.place.Names.{Names}
@@ -13,10 +13,12 @@ use Rattle.ffv1_avi.specs.Riffs.{Riff, RiffFile, movis, names_of, riff_movis, ri
 abbrev pub bytes_framed : Names → List Chunk → List (List ℕ)
 bytes_framed names chunks = map (λ (c : Chunk). c.bytes) (those (frame_in names) chunks)
 
--- these bytes are the last ones of some RIFFs, from the edge of one of them on
-abbrev pub IsAtEdge : List Riff → List ℕ → Type 0
-IsAtEdge riffs bytes =
-    (before after : List Riff) × (riffs ≡ before ++ after) × (bytes ≡ riffs_text after)
+-- these bytes are the last ones of some RIFFs, from the edge of one of them on, or from one of its
+-- first twelve bytes on
+abbrev pub IsNearEdge : List Riff → List ℕ → Type 0
+IsNearEdge riffs bytes =
+    (before after : List Riff) × (some : List ℕ) × (riffs ≡ before ++ after)
+    × (riffs_text after ≡ some ++ bytes) × (length some < 12)
 
 -- the frames of a file's first RIFF and of some after it
 abbrev pub frames_to : {file : List ℕ} {head : Head} {frames : List (List ℕ)} →

@@ -1,7 +1,7 @@
 -- Reading a file: its head up to the first movi, and the frames, one after the other.
 use Rattle.std.specs.Prelude.{ℕ, suc, zero, ◌+◌, ◌-◌, ◌%◌, ◌==◌, ◌&&◌, Bool}
-use Rattle.std.specs.Prelude.{min, if◌then◌else◌, nat_lt, nat_le, List, [], ◌∷◌, take, drop, codes}
-use Rattle.std.specs.Prelude.{Option, Some, None, Ok}
+use Rattle.std.specs.Prelude.{min, if◌then◌else◌, nat_lt, nat_le, List, [], ◌∷◌, length, take, drop}
+use Rattle.std.specs.Prelude.{codes, Option, Some, None, Ok}
 use Rattle.byteorder.specs.Endian.{little_number}
 use Rattle.ffv1_reads.specs.declared.fault.FileFault.TheVariants as fault
 use Rattle.ffv1_avi.specs.declared.place.Extent.{Extent}
@@ -9,6 +9,7 @@ use Rattle.ffv1_avi.specs.declared.place.Extent.TheVariants.{FirstMovi, EveryRif
 use Rattle.ffv1_avi.specs.declared.place.Names.{Names}
 use Rattle.ffv1_avi.specs.declared.place.Names.TheVariants.{Closed}
 use Rattle.ffv1_avi.specs.declared.place.Place.{Place}
+use Rattle.ffv1_reads.specs.Behind.{begins_file}
 use Rattle.ffv1_reads.specs.Head.{Head}
 use Rattle.ffv1_avi.specs.Places.{amount, extent_of, first_place, frame_at, movi_at, riff_at}
 use Rattle.ffv1_reads.specs.Reads.{Kept, Reading, given, refused, taken, passed}
@@ -199,30 +200,42 @@ visit_riff names s e =
 unfoldable pub movi_sought : Names → ℕ → Reading (Option (ℕ × ℕ))
 movi_sought names left = walk (visit_riff names) left tt >>= λ p. given p.1
 
--- four bytes; or, if no frame is owed, the end of the input
-unfoldable pub name_or_end : ℕ → Reading (Option (List ℕ))
-name_or_end zero [] = Ok (None, [])
-name_or_end owes text = (taken 4 >>= λ name. given (Some name)) text
+-- so many bytes; or the end of the input, if no frame is owed and fewer are left
+unfoldable pub taken_or_end : ℕ → ℕ → Reading (Option (List ℕ))
+taken_or_end n owes text =
+    if nat_lt (length text) n && owes == 0 then Ok (None, [])
+    else (taken n >>= λ bytes. given (Some bytes)) text
 
--- the size and the form of an RIFF after the first
+-- what is made of them; nothing more at the end
+abbrev pub or_end : {X : Type 0} → (List ℕ → Reading (Option X)) → Option (List ℕ) →
+    Reading (Option X)
+or_end next None = given None
+or_end next (Some bytes) = next bytes
+
+-- the size and the form of an RIFF after the first; one of another form begins another file
 abbrev pub riff_judged : Place → List ℕ → Reading (Option Place)
 riff_judged place bytes =
-    if is_name (drop 4 bytes) (codes "AVIX") && nat_le 4 (little_number 4 bytes)
+    if is_name (drop 4 bytes) (codes "AVIX")
+    then (if nat_le 4 (little_number 4 bytes)
     then (if nat_lt (8 + little_number 4 bytes) place.input
     then given (Some (riff_at place (little_number 4 bytes))) else refused fault.Truncated)
-    else refused fault.NotAvi
+    else refused fault.NotAvi)
+    else refused fault.Another
 
 abbrev pub riff_entered : Place → Reading (Option Place)
-riff_entered place = taken 8 >>= riff_judged place
+riff_entered place = taken_or_end 8 place.owed >>= or_end (riff_judged place)
 
-abbrev pub riff_named : Place → Option (List ℕ) → Reading (Option Place)
-riff_named place None = given None
-riff_named place (Some name) =
-    if is_name name (codes "RIFF") then riff_entered place else refused fault.NotAvi
+-- after four bytes: an RIFF, or another file; with other bytes the frames end, if none is owed
+abbrev pub riff_named : Place → List ℕ → Reading (Option Place)
+riff_named place name =
+    if is_name name (codes "RIFF") then riff_entered place
+    else if begins_file name then refused fault.Another
+    else if place.owed == 0 then given None
+    else refused fault.Truncated
 
--- the next RIFF, or the end of the input
+-- the next RIFF; none at the end of the input, or of the frames
 unfoldable pub riff_begun : Place → Reading (Option Place)
-riff_begun place = name_or_end place.owed >>= riff_named place
+riff_begun place = taken_or_end 4 place.owed >>= or_end (riff_named place)
 
 -- the next movi of RIFF, or else the next RIFF
 abbrev pub movi_or_riff : Place → Option (ℕ × ℕ) → Reading (Option Place)

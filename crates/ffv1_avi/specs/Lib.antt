@@ -14,4 +14,5 @@ pub mod Counted
 pub mod Writes
 pub mod Readers
 pub mod Offsets
+pub mod Behind
 pub mod Internal

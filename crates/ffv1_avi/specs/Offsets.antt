@@ -1,7 +1,7 @@
 -- Where in a file a fault is: in the chunk, of those one after the other, that could not be read.
 -- Of a list movi the chunk is its header and its own name, since its chunks come next; the same
--- holds of an RIFF. If a frame that `dmlh` says is not there, the fault is where the next RIFF
--- would begin.
+-- holds of an RIFF. If a frame that `dmlh` says is not there, or another file stands behind the
+-- last RIFF, the fault is where the next RIFF would begin.
 use Rattle.std.specs.Prelude.{◌≡◌, ℕ, ◌+◌, ◌-◌, ◌^◌, ◌==◌, min, Bool, true, false, if◌then◌else◌}
 use Rattle.std.specs.Prelude.{List, drop, Option, Some, None, Result, Ok, Err}
 use Rattle.byteorder.specs.Endian.{little_number}
@@ -17,7 +17,7 @@ use Rattle.ffv1_avi.specs.declared.place.Place.{Place}
 use Rattle.ffv1_avi.specs.Files.{Headers, begins, no_headers, riff_begun, visit_movi, visit_riff}
 use Rattle.ffv1_avi.specs.Files.{visit_top}
 use Rattle.ffv1_avi.specs.Padding.{content}
-use Rattle.ffv1_avi.specs.Places.{frame_at, movi_at}
+use Rattle.ffv1_avi.specs.Places.{ended, frame_at, movi_at}
 use Rattle.ffv1_avi.specs.Readers.{Standing}
 use Rattle.ffv1_avi.specs.Names.{bars}
 use Rattle.ffv1_avi.specs.Walk.{entry_in, entry_read}
@@ -54,14 +54,15 @@ abbrev pub movi_entered : Place → ℕ → Option (ℕ × ℕ) → Reading Plac
 movi_entered place left None = given (riff_left place left)
 movi_entered place left (Some p) = given (movi_at place p)
 
-abbrev pub riff_next : Place → Option Place → Reading Place
-riff_next place None = given place
-riff_next place (Some next) = given next
+-- the next RIFF is entered; with other bytes after the last one the frames end
+abbrev pub riff_next : Option Place → Reading Place
+riff_next None = given ended
+riff_next (Some next) = given next
 
 -- after movi a chunk of RIFF, of which a list movi is entered; or the beginning of the next RIFF
 abbrev pub riff_taken : Place → Option Entry → Reading Place
 riff_taken place (Some e) = visit_riff place.names tt e >>= λ p. movi_entered place e.left p.1
-riff_taken place None = riff_begun place >>= riff_next place
+riff_taken place None = riff_begun place >>= riff_next
 
 abbrev pub movi_taken : Place → Option Entry → Reading Place
 movi_taken place (Some e) = visit_movi place.names tt e >>= λ p. frame_taken place e.left p.1

@@ -5,16 +5,20 @@ use Rattle.ffv1_reads.specs.declared.fault.FileFault.{FileFault}
 use Rattle.ffv1_reads.specs.declared.fault.FileFault.TheVariants as fault
 use Rattle.ffv1_avi.specs.Files.{frame_found}
 use Rattle.ffv1_reads.specs.Head.{Head}
+use Rattle.ffv1_avi.specs.declared.place.Extent.{Extent}
+use Rattle.ffv1_avi.specs.declared.place.Extent.TheVariants.{FirstMovi, EveryRiff}
 use Rattle.ffv1_avi.specs.declared.place.Place.{Place}
 
 -- the head of its file, the place in that, the fault that it has met, for how many bytes its record
--- has room, and the bytes before that place
+-- has room, the bytes before that place, and after the end the bytes before others that stand
+-- behind the last RIFF
 pub record Standing : Type 0 where
   pub head : Head
   pub place : Place
   pub fault : Option FileFault
   pub room : ℕ
   pub offset : ℕ
+  pub after : Option ℕ
 
 abbrev pub opened_at : Standing → Head × Place
 opened_at r = (r.head, r.place)
@@ -60,12 +64,18 @@ is_opening_fault fault.ChunkTooLong = true
 is_opening_fault fault.Read = true
 is_opening_fault f = false
 
+-- another file is met only if every RIFF is read
+abbrev pub reads_on : Extent → Bool
+reads_on FirstMovi = false
+reads_on EveryRiff = true
+
 -- and those that reading a frame has
-abbrev pub is_frame_fault : FileFault → Bool
-is_frame_fault fault.OutOfMemory = true
-is_frame_fault fault.NotAvi = true
-is_frame_fault fault.Truncated = true
-is_frame_fault fault.ChunkTooLong = true
-is_frame_fault fault.EmptyFrame = true
-is_frame_fault fault.Read = true
-is_frame_fault f = false
+abbrev pub is_frame_fault : Extent → FileFault → Bool
+is_frame_fault extent fault.OutOfMemory = true
+is_frame_fault extent fault.NotAvi = true
+is_frame_fault extent fault.Truncated = true
+is_frame_fault extent fault.ChunkTooLong = true
+is_frame_fault extent fault.EmptyFrame = true
+is_frame_fault extent fault.Another = reads_on extent
+is_frame_fault extent fault.Read = true
+is_frame_fault extent f = false

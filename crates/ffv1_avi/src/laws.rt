@@ -1,8 +1,8 @@
 //! Laws of files: what is read is a file by its chunks, a file by its chunks is read, and what was
 //! written is read back.
 
-ghost use Rattle.std.specs.Prelude.{◌≡◌, ◌<◌, ◌≤◌, ◌+◌, ◌++◌, ◌&&◌, ℕ, List, codes, length, []};
-ghost use Rattle.std.specs.Prelude.{false, flat_map, nat_le, take, true, Option, Some, None};
+ghost use Rattle.std.specs.Prelude.{◌≡◌, ◌<◌, ◌≤◌, ◌+◌, ◌++◌, ℕ, List, codes, length, []};
+ghost use Rattle.std.specs.Prelude.{false, flat_map, take, true, Option, Some, None};
 ghost use Rattle.std.specs.Prelude.{Ok, Err};
 ghost use Rattle.byteorder.specs.Endian.{little_number};
 ghost use Rattle.ffv1_avi.specs.Chunks.{AreChunks, AreOthers, AviFile, Chunk, IsWritable};
@@ -12,15 +12,18 @@ ghost use Rattle.ffv1_avi.specs.Chunks.{streams, those};
 ghost use Rattle.ffv1_avi.specs.Begun.{AreReadable, HasShortFormat, HeaderBegins, RiffBegins};
 ghost use Rattle.ffv1_avi.specs.Begun.{StreamBegins, streams_of};
 ghost use Rattle.ffv1_avi.specs.Files.{file_read, open_read, frame_read, frames_read, more_frames};
+ghost use Rattle.ffv1_avi.specs.Behind.{EndsBehind, RiffFileThen};
+ghost use Rattle.ffv1_reads.specs.Behind.{begins_file};
 ghost use Rattle.ffv1_reads.specs.Ends.{Ends, Stops};
 ghost use Rattle.ffv1_reads.specs.Head.{Head, without_colour};
 ghost use Rattle.ffv1_avi.specs.Names.{IsFrameName, IsListed, bars, is_barred, is_frame};
+ghost use Rattle.ffv1_avi.specs.Offsets.{ReadsUpTo};
 ghost use Rattle.ffv1_avi.specs.Padding.{padded};
 ghost use Rattle.ffv1_avi.specs.Places.{ended, extent_of, first_place};
 ghost use Rattle.ffv1_reads.specs.Reads.{EndsEarly, Faults, Lacks, Met, Read, Reading, Short, Want};
 ghost use Rattle.ffv1_reads.specs.Reads.{Looked, Stop, read_on};
 ghost use Rattle.ffv1_avi.specs.Counted.{AreCounted, ExtendedBegins, HasExtended};
-ghost use Rattle.ffv1_avi.specs.Edges.{GivesThen, IsAtEdge, frames_to};
+ghost use Rattle.ffv1_avi.specs.Edges.{GivesThen, IsNearEdge, frames_to};
 ghost use Rattle.ffv1_avi.specs.Riffs.{Riff, RiffFile, riffs_text, total};
 ghost use Rattle.ffv1_avi.specs.Walk.{is_name};
 ghost use Rattle.ffv1_avi.specs.Written.{file_of};
@@ -43,13 +46,13 @@ pub fn what_is_read_is_a_file()
         file_read FirstMovi file ≡ Ok ((head, frames), rest) → AviFile file head frames }
 {}
 
-/// If every RIFF is read and the frames come to an end, nothing is left of the input, and it is a
-/// file of that head and those frames. Each chunk of the stream's frames, in every movi of every
-/// RIFF, was given, in order.
+/// If every RIFF is read and the frames come to an end, the input begins with a file of that head
+/// and those frames, and behind it stand bytes with which neither an RIFF nor another file begins,
+/// or none. Each chunk of the stream's frames, in every movi of every RIFF, was given, in order.
 pub fn every_riff_is_read_whole()
     ensures { (file : List ℕ) (head : Head) (frames : List (List ℕ)) (rest : List ℕ) →
         file_read EveryRiff file ≡ Ok ((head, frames), rest) →
-        RiffFile file head frames × (rest ≡ []) }
+        RiffFileThen file head frames rest }
 {}
 
 /// A beginning of a file that is read, up to the end of `movi`, ends when more bytes are wanted.
@@ -60,47 +63,81 @@ pub fn shorter_file_wants_more_bytes()
 {}
 
 /// A beginning of a file of which every RIFF is read ends when more bytes are wanted, except at the
-/// edge of an RIFF. There the frames of the RIFFs before it are read, if they are not fewer than
-/// `dmlh` says. Otherwise they are given, one by one, and then more bytes are wanted.
+/// edge of an RIFF, or after fewer than twelve bytes of it. There the frames of the RIFFs before it
+/// are read, if they are not fewer than `dmlh` says. Otherwise they are given, one by one, and then
+/// more bytes are wanted.
 pub fn shorter_riffs_want_more_bytes()
     ensures within { (file : List ℕ) (head : Head) (frames : List (List ℕ))
         (is : RiffFile file head frames) (beginning more : List ℕ) → file ≡ beginning ++ more →
-        (IsAtEdge is.riffs more → ⊥) → EndsEarly (file_read EveryRiff) beginning }
+        (IsNearEdge is.riffs more → ⊥) → EndsEarly (file_read EveryRiff) beginning }
     ensures edge { (file : List ℕ) (head : Head) (frames : List (List ℕ))
         (is : RiffFile file head frames) (before after : List Riff) (beginning : List ℕ) →
         is.riffs ≡ before ++ after → file ≡ beginning ++ riffs_text after →
         total is.extended ≤ length (frames_to is before) →
         file_read EveryRiff beginning ≡ Ok ((head, frames_to is before), []) }
+    ensures near { (file : List ℕ) (head : Head) (frames : List (List ℕ))
+        (is : RiffFile file head frames) (before after : List Riff)
+        (beginning some more : List ℕ) →
+        is.riffs ≡ before ++ after → file ≡ (beginning ++ some) ++ more →
+        riffs_text after ≡ some ++ more → length some < 12 →
+        total is.extended ≤ length (frames_to is before) →
+        file_read EveryRiff (beginning ++ some) ≡ Ok ((head, frames_to is before), []) }
     ensures owed { (file : List ℕ) (head : Head) (frames : List (List ℕ))
         (is : RiffFile file head frames) (before after : List Riff) (beginning : List ℕ) →
         is.riffs ≡ before ++ after → file ≡ beginning ++ riffs_text after →
         length (frames_to is before) < total is.extended →
         GivesThen beginning head (frames_to is before) (Short Looked) }
+    ensures owed_near { (file : List ℕ) (head : Head) (frames : List (List ℕ))
+        (is : RiffFile file head frames) (before after : List Riff)
+        (beginning some more : List ℕ) →
+        is.riffs ≡ before ++ after → file ≡ (beginning ++ some) ++ more →
+        riffs_text after ≡ some ++ more → length some < 12 →
+        length (frames_to is before) < total is.extended →
+        GivesThen (beginning ++ some) head (frames_to is before) (Short Looked) }
 {}
 
-/// After the last RIFF nothing but an RIFF may come. All frames are given, one by one, and then
-/// four bytes that are another name are refused. So is an RIFF that is no `AVIX`, or too small for
-/// its form. If fewer bytes than a header has are left, more are wanted. A file that is so refused
-/// is not read as a whole file.
+/// Behind the last RIFF no other file may begin. All frames are given, one by one, and then the ID
+/// of EBML is refused, and so is an RIFF of another form than `AVIX`, or one too small for it. If
+/// fewer frames came than `dmlh` says, any other four bytes are refused after them. A file that is
+/// so refused is not read as a whole file.
 pub fn only_riffs_follow_riffs()
-    ensures name { (file : List ℕ) (head : Head) (frames : List (List ℕ)) →
-        RiffFile file head frames → (name rest : List ℕ) → length name ≡ 4 →
-        is_name name (codes "RIFF") ≡ false →
-        GivesThen (file ++ (name ++ rest)) head frames (Met fault.NotAvi rest) }
+    ensures file { (file : List ℕ) (head : Head) (frames : List (List ℕ)) →
+        RiffFile file head frames → (name rest : List ℕ) →
+        is_name name (codes "RIFF") ≡ false → begins_file name ≡ true →
+        GivesThen (file ++ (name ++ rest)) head frames (Met fault.Another rest) }
     ensures form { (file : List ℕ) (head : Head) (frames : List (List ℕ)) →
         RiffFile file head frames → (size form rest : List ℕ) → length size ≡ 4 →
-        length form ≡ 4 →
-        (is_name form (codes "AVIX") && nat_le 4 (little_number 4 size)) ≡ false →
+        length form ≡ 4 → is_name form (codes "AVIX") ≡ false →
         GivesThen (file ++ ((codes "RIFF" ++ size ++ form) ++ rest)) head frames
+        (Met fault.Another rest) }
+    ensures small { (file : List ℕ) (head : Head) (frames : List (List ℕ)) →
+        RiffFile file head frames → (size rest : List ℕ) → length size ≡ 4 →
+        little_number 4 size < 4 →
+        GivesThen (file ++ ((codes "RIFF" ++ size ++ codes "AVIX") ++ rest)) head frames
         (Met fault.NotAvi rest) }
-    ensures short_name { (file : List ℕ) (head : Head) (frames : List (List ℕ)) →
-        RiffFile file head frames → (bytes : List ℕ) → 0 < length bytes → length bytes < 4 →
-        GivesThen (file ++ bytes) head frames (Short Looked) }
-    ensures short_form { (file : List ℕ) (head : Head) (frames : List (List ℕ)) →
-        RiffFile file head frames → (bytes : List ℕ) → length bytes < 8 →
-        GivesThen (file ++ (codes "RIFF" ++ bytes)) head frames (Short Looked) }
+    ensures owed { (file : List ℕ) (head : Head) (frames : List (List ℕ))
+        (is : RiffFile file head frames) (before after : List Riff)
+        (beginning name rest : List ℕ) →
+        is.riffs ≡ before ++ after → file ≡ beginning ++ riffs_text after →
+        length (frames_to is before) < total is.extended → length name ≡ 4 →
+        is_name name (codes "RIFF") ≡ false → begins_file name ≡ false →
+        GivesThen (beginning ++ (name ++ rest)) head (frames_to is before)
+        (Met fault.Truncated rest) }
     ensures refused { (file : List ℕ) (head : Head) (frames : List (List ℕ)) (why : Stop) →
         GivesThen file head frames why → file_read EveryRiff file ≡ Err why }
+{}
+
+/// If a reader came to the end and tells no bytes behind the last RIFF, none stand there: whole
+/// chunks lead from where it stood to the end of the input, which is that of an RIFF.
+pub fn no_bytes_told_are_none()
+    ensures none { (from : Place) (text : List ℕ) (new : Option (List ℕ)) (before : ℕ) →
+        EndsBehind from (Some text) new before None →
+        (new ≡ Some []) × (to : Place) × (end : ℕ) × (to.movi ≡ 0) × (to.riff ≡ 0)
+        × ReadsUpTo from (Some text) (Some []) to before end }
+    ensures told { (from : Place) (text : List ℕ) (new : Option (List ℕ)) (before after : ℕ) →
+        EndsBehind from (Some text) new before (Some after) →
+        (behind : List ℕ) × (to : Place) × (0 < length behind) × (to.movi ≡ 0) × (to.riff ≡ 0)
+        × ReadsUpTo from (Some text) (Some behind) to before after }
 {}
 
 /// When `movi` comes after no stream, the file has no FFV1, and nothing after the name of `movi`
@@ -201,7 +238,8 @@ pub fn long_chunk_in_riffs_is_truncated()
 {}
 
 /// A file of a head and frames, by its chunks, is read as that head and those frames, and it has no
-/// others. If every RIFF is read, nothing is left of it.
+/// others. If every RIFF is read, nothing is left of it; it is read so also if bytes stand behind
+/// it with which neither an RIFF nor another file begins.
 pub fn file_is_read_as_its_frames()
     ensures read { (file : List ℕ) (head : Head) (frames : List (List ℕ))
         (is : AviFile file head frames) → file_read FirstMovi file ≡ Ok ((head, frames), is.rest) }
@@ -209,9 +247,15 @@ pub fn file_is_read_as_its_frames()
         AviFile file head frames → AviFile file other others → (head ≡ other) × (frames ≡ others) }
     ensures every { (file : List ℕ) (head : Head) (frames : List (List ℕ)) →
         RiffFile file head frames → file_read EveryRiff file ≡ Ok ((head, frames), []) }
+    ensures every_then { (file : List ℕ) (head : Head) (frames : List (List ℕ)) (rest : List ℕ) →
+        RiffFileThen file head frames rest → file_read EveryRiff file ≡ Ok ((head, frames), rest) }
     ensures every_only { (file : List ℕ) (head other : Head) (frames others : List (List ℕ)) →
         RiffFile file head frames → RiffFile file other others →
         (head ≡ other) × (frames ≡ others) }
+    ensures then_only { (file : List ℕ) (head other : Head) (frames others : List (List ℕ))
+        (rest more : List ℕ) →
+        RiffFileThen file head frames rest → RiffFileThen file other others more →
+        (head ≡ other) × (frames ≡ others) × (rest ≡ more) }
 {}
 
 /// If every RIFF is read, a movi holds only what a name lists: a name of four bytes may stand there

@@ -4,6 +4,7 @@ ghost use Rattle.std.specs.Prelude.{◌≡◌, ◌<◌, length, true, IfSome, On
 ghost use Rattle.std.specs.Prelude.{List, [], false, Option, None, Some, IfErr, IfOk, OnErr, Ok};
 ghost use Rattle.std.specs.Prelude.{Err};
 ghost use Rattle.std.specs.Vec.{vec_capacity};
+ghost use Rattle.ffv1_avi.specs.Behind.{BehindAfter};
 ghost use Rattle.ffv1_avi.specs.Extents.{AnswersFrom};
 ghost use Rattle.ffv1_avi.specs.Files.{frame_found, frame_read, movi_found};
 ghost use Rattle.ffv1_avi.specs.Files.{open_read, visit_movi};
@@ -12,7 +13,7 @@ ghost use Rattle.ffv1_reads.specs.Head.{Head, head_of};
 ghost use Rattle.ffv1_wire.specs.Passage.{passage};
 ghost use Rattle.ffv1_avi.specs.Internal.Ending.{AnswersOrNone};
 ghost use Rattle.ffv1_avi.specs.Offsets.{OffsetAfter};
-ghost use Rattle.ffv1_avi.specs.Internal.Offsets.{FindsFrom, FindsInMovi, MovesTo};
+ghost use Rattle.ffv1_avi.specs.Internal.Offsets.{FindsFrom, FindsInMovi, MovesTo, TellsBehind};
 ghost use Rattle.ffv1_avi.specs.Names.{most_bytes, most_in};
 ghost use Rattle.ffv1_avi.specs.Offsets.{OffsetOpened};
 ghost use Rattle.ffv1_avi.specs.Places.{amount, ended, extent_of, frame_at};
@@ -101,24 +102,28 @@ fn frame_at(place: Place, left: u32) -> Place
 }
 
 /// The size of the next frame, and the place after its header; None at the end. The chunks before
-/// its own are counted.
+/// its own are counted, and at the end it is said where other bytes stand behind the last RIFF, if
+/// any do.
 fn find_frame<R: ByteIn>(
     input: &mut R,
     place: Place,
     offset: &mut u64,
+    after: &mut Option<u64>,
 ) -> Result<Option<(u32, Place)>, FileFault>
     ensures sized { IfOk result (λ o. IfSome o (λ p. (0 < p.0) × (p.0 ≤ most_bytes place.names))) }
     ensures answer { AnswersOrNone (extent_of place) (λ (p : Option (ℕ × Place)). p)
         (frame_found place) (passage R.remaining R.failures input.old input.new) result }
     ensures from { FindsFrom place (passage R.remaining R.failures input.old input.new) result
         offset.old offset.new }
+    ensures behind { IfOk result (λ o. o ≡ None → TellsBehind (extent_of place) place
+        (R.remaining input.old) (R.remaining input.new) offset.old after.new) }
 {
     let mut place = place;
     loop {
         if let Some((size, left)) = find_in_movi(input, place, offset)? {
             return Ok(Some((size, frame_at(place, left))));
         }
-        let Some(next) = move_on(input, place, offset)? else {
+        let Some(next) = move_on(input, place, offset, after)? else {
             return Ok(None);
         };
         place = next;
@@ -126,11 +131,13 @@ fn find_frame<R: ByteIn>(
 }
 
 /// The next frame in place of what the vector has, and the place after it; None at the end. The
-/// chunks before its own are counted, and its own if there is no fault.
+/// chunks before its own are counted, and its own if there is no fault; at the end it is said where
+/// other bytes stand behind the last RIFF, if any do.
 fn read_frame<R: ByteIn, A: Allocator>(
     input: &mut R,
     place: Place,
     offset: &mut u64,
+    behind: &mut Option<u64>,
     frame: &mut Vec<u8, A>,
 ) -> Result<Option<Place>, FileFault>
     ensures answer { AnswersFrom place (λ (after : Option Place). next_with frame.new.items after)
@@ -147,9 +154,11 @@ fn read_frame<R: ByteIn, A: Allocator>(
         (length frame.new.items) result }
     ensures from { MovesTo place (passage R.remaining R.failures input.old input.new) result
         offset.old offset.new }
+    ensures behind { IfOk result (λ after. after ≡ None → TellsBehind (extent_of place) place
+        (R.remaining input.old) (R.remaining input.new) offset.old behind.new) }
 {
     frame.clear();
-    let Some((size, after)) = find_frame(input, place, offset)? else {
+    let Some((size, after)) = find_frame(input, place, offset, behind)? else {
         return Ok(None);
     };
     fill(input, size as usize, frame)?;
@@ -168,6 +177,7 @@ pub struct AviReader<A: Allocator = Global> {
     place: Place,
     fault: Option<FileFault>,
     offset: u64,
+    after: Option<u64>,
 }
 
 impl<A: Allocator> Model for AviReader<A> {
@@ -179,6 +189,7 @@ impl<A: Allocator> Model for AviReader<A> {
       fault = r.fault;
       room = vec_capacity r.head.config_record;
       offset = r.offset;
+      after = r.after;
     } };
 }
 
@@ -199,6 +210,7 @@ impl<A: Allocator> AviReader<A> {
         ensures own { IfErr result (λ f. is_opening_fault f ≡ true) }
         ensures room { IfOk result (λ r. RoomRead (R.remaining input.old)
             (R.remaining input.new) 0 r.room) }
+        ensures none { IfOk result (λ r. r.after ≡ None) }
     {
         let mut offset = 0;
         AviReader::open_located(alloc, Extent::FirstMovi, None, input, &mut offset)
@@ -224,6 +236,7 @@ impl<A: Allocator> AviReader<A> {
         ensures own { IfErr result (λ f. is_opening_fault f ≡ true) }
         ensures room { IfOk result (λ r. RoomRead (R.remaining input.old)
             (R.remaining input.new) 0 r.room) }
+        ensures none { IfOk result (λ r. r.after ≡ None) }
     {
         let mut offset = 0;
         AviReader::open_located(alloc, Extent::EveryRiff, None, input, &mut offset)
@@ -242,6 +255,7 @@ impl<A: Allocator> AviReader<A> {
         ensures own { IfErr result (λ f. is_opening_fault f ≡ true) }
         ensures room { IfOk result (λ r. RoomRead (bytes_with first (R.remaining input.old))
             (R.remaining input.new) 0 r.room) }
+        ensures none { IfOk result (λ r. r.after ≡ None) }
     {
         let mut offset = 0;
         AviReader::open_located(alloc, Extent::EveryRiff, first, input, &mut offset)
@@ -269,6 +283,7 @@ impl<A: Allocator> AviReader<A> {
             (R.remaining input.new) 0 r.room) }
         ensures offset { OffsetOpened extent (passage_with first R.remaining R.failures input.old
             input.new) result offset.new }
+        ensures none { IfOk result (λ r. r.after ≡ None) }
     {
         let mut config = Vec::new(alloc);
         let (sizes, place) = read_opening(first, input, extent, offset, &mut config)?;
@@ -284,6 +299,7 @@ impl<A: Allocator> AviReader<A> {
             place,
             fault: None,
             offset: *offset,
+            after: None,
         })
     }
 
@@ -294,6 +310,15 @@ impl<A: Allocator> AviReader<A> {
         ensures { result ≡ self.now.offset }
     {
         self.offset
+    }
+
+    /// The number of bytes of the file before others that stand behind its last RIFF, if any do:
+    /// known once `next_frame` has answered false, of a reader that `open_all` made. No greater
+    /// than 2^64 - 1.
+    pub fn after(&self) -> Option<u64>
+        ensures { result ≡ self.now.after }
+    {
+        self.after
     }
 
     /// The head of the file.
@@ -307,19 +332,23 @@ impl<A: Allocator> AviReader<A> {
     /// Reads the next frame in place of what the vector has, and answers true; or false at the end.
     /// The vector is then empty. Each further call answers false again, and reads nothing. Of a
     /// reader that `open` made the end is that of `movi`, and the bytes after it are left unread;
-    /// of one that `open_all` made it is the end of the input, after a whole RIFF.
+    /// of one that `open_all` made it is that of the last RIFF. Behind that at most twelve bytes
+    /// are looked at, and `after` says where they stand: four, or as many as there are, and after
+    /// RIFF eight more.
     ///
     /// The input has to be the one that the reader was opened on. `Truncated` if a chunk does not
-    /// fit in its list or the input ends inside it, or before as many frames as `dmlh` says.
-    /// `NotAvi` if a list stands in `movi`, a list has no room for its own name, or no RIFF `AVIX`
-    /// comes after a RIFF. If `open_all` made the reader, `NotAvi` also, after its header, if a
-    /// chunk stands in `movi` that is no frame `NNdc` or `NNdb` of the stream, its `NNpc`, a chunk
-    /// of another of the streams, `ixNN` or `JUNK`, whatever its size; or a frame in RIFF after
-    /// a `movi`; `ChunkTooLong` for a frame above 1073741824 bytes, or 67108864 of a reader that
-    /// `open` made, of which no byte is read, `EmptyFrame` for one of none, `Read` if a read
-    /// failed, `OutOfMemory`. After a fault the vector holds a beginning of the frame, and each
-    /// further call answers the fault again, empties the vector and reads nothing. The vector has
-    /// room as `ffv1_reads::fill` says; it keeps its room in a call that reads nothing.
+    /// fit in its list or the input ends inside it, or before as many frames as `dmlh` says: then
+    /// also if other bytes stand behind the last RIFF. `NotAvi` if a list stands in `movi`, a list
+    /// has no room for its own name, or an RIFF `AVIX` has none for its form. If `open_all` made
+    /// the reader, `Another` if another file begins behind the last RIFF, with the ID of EBML or as
+    /// an RIFF of another form; and `NotAvi` also, after its header, if a chunk stands in `movi`
+    /// that is no frame `NNdc` or `NNdb` of the stream, its `NNpc`, a chunk of another of the
+    /// streams, `ixNN` or `JUNK`, whatever its size; or a frame in RIFF after a `movi`.
+    /// `ChunkTooLong` for a frame above 1073741824 bytes, or 67108864 of a reader that `open` made,
+    /// of which no byte is read, `EmptyFrame` for one of none, `Read` if a read failed,
+    /// `OutOfMemory`. After a fault the vector holds a beginning of the frame, and each further
+    /// call answers the fault again, empties the vector and reads nothing. The vector has room as
+    /// `ffv1_reads::fill` says; it keeps its room in a call that reads nothing.
     pub fn next_frame<R: ByteIn>(
         &mut self,
         input: &mut R,
@@ -339,7 +368,8 @@ impl<A: Allocator> AviReader<A> {
         ensures same { IfOk result
             (λ more. more ≡ true → extent_of self.new.place ≡ extent_of self.old.place) }
         ensures most { most_bytes self.new.place.names ≤ most_bytes self.old.place.names }
-        ensures own { self.old.fault ≡ None → IfErr result (λ f. is_frame_fault f ≡ true) }
+        ensures own { self.old.fault ≡ None →
+            IfErr result (λ f. is_frame_fault (extent_of self.old.place) f ≡ true) }
         ensures err { OnErr result (Leaves self.old.place (R.remaining input.old) frame.new.items) }
         ensures room { HasRoom (vec_capacity frame.old) (vec_capacity frame.new)
             (length frame.new.items) result }
@@ -355,6 +385,9 @@ impl<A: Allocator> AviReader<A> {
         ensures kept { self.new.room ≡ self.old.room }
         ensures offset { self.old.fault ≡ None → OffsetAfter self.old
             (passage R.remaining R.failures input.old input.new) result self.new }
+        ensures behind { self.old.fault ≡ None → BehindAfter self.old.place self.old.offset
+            self.old.after (passage R.remaining R.failures input.old input.new) result
+            self.new.after }
     {
         frame.clear();
         if let Some(fault) = self.fault {
@@ -365,7 +398,8 @@ impl<A: Allocator> AviReader<A> {
             return Ok(false);
         }
         let mut offset = self.offset;
-        match read_frame(input, self.place, &mut offset, frame) {
+        let mut after = None;
+        match read_frame(input, self.place, &mut offset, &mut after, frame) {
             Ok(Some(place)) => {
                 self.offset = offset;
                 self.place = place;
@@ -373,6 +407,7 @@ impl<A: Allocator> AviReader<A> {
             }
             Ok(None) => {
                 self.place = ended();
+                self.after = after;
                 Ok(false)
             }
             Err(fault) => {

@@ -1,11 +1,13 @@
 //! What follows a movi: the next one in its RIFF, or the next RIFF.
 
-ghost use Rattle.std.specs.Prelude.{◌≡◌, ◌+◌, ◌<◌, ◌≤◌, ℕ, List, Option, Some, codes, true};
-ghost use Rattle.ffv1_avi.specs.Files.{moved, movi_sought, name_or_end, riff_begun, riff_entered};
+ghost use Rattle.std.specs.Prelude.{◌≡◌, ◌+◌, ◌<◌, ◌≤◌, ℕ, List, Option, Some, None, codes, true};
+ghost use Rattle.std.specs.Prelude.{IfOk, if◌then◌else◌, length, nat_lt};
+ghost use Rattle.ffv1_avi.specs.Behind.{Stand, StandAfter};
+ghost use Rattle.ffv1_avi.specs.Files.{moved, movi_sought, riff_begun, riff_entered, taken_or_end};
 ghost use Rattle.ffv1_avi.specs.Files.{visit_riff};
-ghost use Rattle.ffv1_avi.specs.Internal.Ending.{AnswersOrNone, byte_or_end};
+ghost use Rattle.ffv1_avi.specs.Internal.Ending.{AnswersOrNone, all_of};
 ghost use Rattle.ffv1_avi.specs.Offsets.{movi_left, riff_left};
-ghost use Rattle.ffv1_avi.specs.Internal.Offsets.{MovesTo, SeeksMovi};
+ghost use Rattle.ffv1_avi.specs.Internal.Offsets.{MovesTo, SeeksMovi, TellsBehind};
 ghost use Rattle.ffv1_avi.specs.Places.{extent_of};
 ghost use Rattle.ffv1_reads.specs.Reads.{Answers};
 ghost use Rattle.ffv1_avi.specs.Walk.{is_name};
@@ -18,8 +20,8 @@ use crate::names::is_frame;
 use crate::open::own_name;
 use crate::place::{Names, Place};
 use byteorder::{ByteOrder, LittleEndian};
-use ffv1_reads::{FileFault, pass, take};
-use ffv1_wire::{ByteIn, read_byte};
+use ffv1_reads::{FileFault, begins_file, pass};
+use ffv1_wire::{ByteIn, read_full};
 
 /// A chunk of RIFF after a movi: the bytes of the next movi, or None if it was passed. None is a
 /// frame.
@@ -73,110 +75,149 @@ fn seek_movi<R: ByteIn>(
     Ok(None)
 }
 
-/// The next byte, or None at the end of the input.
-fn first_byte<R: ByteIn>(input: &mut R) -> Result<Option<u8>, FileFault>
-    ensures { AnswersOrNone EveryRiff (λ (b : Option ℕ). b) byte_or_end
+/// Fills the bytes, at least one, and answers how many stand at their front: fewer only if no frame
+/// is owed, and the input ends after them.
+fn take_some<R: ByteIn>(input: &mut R, owed: u32, bytes: &mut [u8]) -> Result<usize, FileFault>
+    requires { 0 < length bytes.old }
+    ensures answer { AnswersOrNone EveryRiff (λ (n : ℕ). all_of (length bytes.old) n bytes.new)
+        (taken_or_end (length bytes.old) owed)
         (passage R.remaining R.failures input.old input.new) result }
+    ensures stand { IfOk result (λ n. Stand (R.remaining input.old) (R.remaining input.new)
+        (nat_lt 0 n)) }
 {
-    match read_byte(input) {
-        Ok(byte) => Ok(byte),
-        Err(_) => Err(FileFault::Read),
-    }
-}
-
-/// The next four bytes; or None at the end of the input, if no frame is owed.
-fn name_or_end<R: ByteIn>(input: &mut R, owed: u32) -> Result<Option<[u8; 4]>, FileFault>
-    ensures { AnswersOrNone EveryRiff (λ (name : Option (List ℕ)). name) (name_or_end owed)
-        (passage R.remaining R.failures input.old input.new) result }
-{
-    if owed > 0 {
-        return Ok(Some(own_name(input)?));
-    }
-    let Some(first) = first_byte(input)? else {
-        return Ok(None);
+    let Ok(n) = read_full(input, bytes) else {
+        return Err(FileFault::Read);
     };
-    let mut others = [0u8; 3];
-    take(input, &mut others)?;
-    Ok(Some([first, others[0], others[1], others[2]]))
+    if n == bytes.len() {
+        return Ok(n);
+    }
+    if owed > 0 {
+        return Err(FileFault::Truncated);
+    }
+    Ok(n)
 }
 
-/// The size and the form of an RIFF after the first, after its name.
-fn enter_riff<R: ByteIn>(input: &mut R, place: Place) -> Result<Place, FileFault>
-    ensures { Answers (λ (p : Place). Some p) (riff_entered place)
+/// The size and the form of an RIFF after the first, after its name; or None if no frame is owed,
+/// and the input ends before.
+fn enter_riff<R: ByteIn>(input: &mut R, place: Place) -> Result<Option<Place>, FileFault>
+    ensures { AnswersOrNone EveryRiff (λ (p : Option Place). p) (riff_entered place)
         (passage R.remaining R.failures input.old input.new) result }
 {
     let mut head = [0u8; 8];
-    take(input, &mut head)?;
+    let n = take_some(input, place.owed, &mut head)?;
+    if n < 8 {
+        return Ok(None);
+    }
+    if !is_name(&head[4..], b"AVIX") {
+        return Err(FileFault::Another);
+    }
     let size = LittleEndian::read_u32(&head);
-    if !is_name(&head[4..], b"AVIX") || size < 4 {
+    if size < 4 {
         return Err(FileFault::NotAvi);
     }
     let whole = 8 + u64::from(size);
     if place.input <= whole {
         return Err(FileFault::Truncated);
     }
-    Ok(Place {
+    Ok(Some(Place {
         input: place.input - whole,
         riff: size - 4,
         movi: 0,
         names: place.names,
         owed: place.owed,
-    })
+    }))
 }
 
-/// The next RIFF, or None at the end of the input.
-#[tactic(auto, unfolding(crate::specs::Files::riff_begun))]
-fn begin_riff<R: ByteIn>(input: &mut R, place: Place) -> Result<Option<Place>, FileFault>
-    ensures { AnswersOrNone EveryRiff (λ (p : Option Place). p) (riff_begun place)
+/// The next RIFF, or None if the frames end: whether bytes stand there is then said.
+fn begin_riff<R: ByteIn>(
+    input: &mut R,
+    place: Place,
+    some: &mut bool,
+) -> Result<Option<Place>, FileFault>
+    ensures answer { AnswersOrNone EveryRiff (λ (p : Option Place). p) (riff_begun place)
         (passage R.remaining R.failures input.old input.new) result }
+    ensures told { IfOk result (λ o. o ≡ None →
+        Stand (R.remaining input.old) (R.remaining input.new) some.new) }
 {
-    let Some(name) = name_or_end(input, place.owed)? else {
+    let mut name = [0u8; 4];
+    let n = take_some(input, place.owed, &mut name)?;
+    *some = n > 0;
+    if n < 4 {
         return Ok(None);
-    };
-    if !is_name(&name, b"RIFF") {
-        return Err(FileFault::NotAvi);
     }
-    Ok(Some(enter_riff(input, place)?))
+    if is_name(&name, b"RIFF") {
+        return enter_riff(input, place);
+    }
+    if begins_file(&name) {
+        return Err(FileFault::Another);
+    }
+    if place.owed > 0 {
+        return Err(FileFault::Truncated);
+    }
+    Ok(None)
 }
 
-/// The same, which counts its first twelve bytes if there is one.
+/// Where bytes stand, if any do.
+fn if_some(some: bool, end: u64) -> Option<u64>
+    ensures { result ≡ if some then Some end else None }
+{
+    if some {
+        return Some(end);
+    }
+    None
+}
+
+/// The same, which counts its first twelve bytes if there is one; else it says where other bytes
+/// stand behind the last RIFF, if any do.
 fn count_riff<R: ByteIn>(
     input: &mut R,
     place: Place,
     offset: &mut u64,
+    after: &mut Option<u64>,
 ) -> Result<Option<Place>, FileFault>
     ensures answer { AnswersOrNone EveryRiff (λ (p : Option Place). p) (riff_begun place)
         (passage R.remaining R.failures input.old input.new) result }
     ensures from { 0 < place.input → MovesTo (riff_left place 0)
         (passage R.remaining R.failures input.old input.new) result offset.old offset.new }
+    ensures told { IfOk result (λ o. o ≡ None →
+        StandAfter (R.remaining input.old) (R.remaining input.new) offset.old after.new) }
 {
-    match begin_riff(input, place) {
+    let mut some = false;
+    match begin_riff(input, place, &mut some) {
         Ok(Some(next)) => {
             *offset = offset.saturating_add(12);
             Ok(Some(next))
         }
-        Ok(None) => Ok(None),
+        Ok(None) => {
+            *after = if_some(some, *offset);
+            Ok(None)
+        }
         Err(fault) => Err(fault),
     }
 }
 
 /// Where frames are looked for next after the end of a movi; None at the end. What was read is
-/// counted.
+/// counted, and at the end it is said where other bytes stand behind the last RIFF, if any do.
 pub(crate) fn move_on<R: ByteIn>(
     input: &mut R,
     place: Place,
     offset: &mut u64,
+    after: &mut Option<u64>,
 ) -> Result<Option<Place>, FileFault>
     ensures answer { AnswersOrNone (extent_of place) (λ (p : Option Place). p) (moved place)
         (passage R.remaining R.failures input.old input.new) result }
     ensures from { MovesTo (movi_left place 0)
         (passage R.remaining R.failures input.old input.new) result offset.old offset.new }
+    ensures behind { IfOk result (λ o. o ≡ None →
+        TellsBehind (extent_of place) (movi_left place 0) (R.remaining input.old)
+        (R.remaining input.new) offset.old after.new) }
 {
     if place.input == 0 {
+        *after = None;
         return Ok(None);
     }
     let Some((movi, riff)) = seek_movi(input, place, offset)? else {
-        return count_riff(input, place, offset);
+        return count_riff(input, place, offset, after);
     };
     Ok(Some(Place {
         input: place.input,

@@ -1,5 +1,7 @@
 pub use Rattle.ffv1_frame.specs.Picture
 pub use Rattle.ffv1_frame.specs.SliceList
+pub use Rattle.ffv1_frame.specs.RiceLines
+pub use Rattle.ffv1_frame.specs.CodedSlice
 pub use Rattle.ffv1_frame.specs.Frame
 pub use Rattle.ffv1_frame.specs.Length
 pub use Rattle.ffv1_frame.specs.Worked

@@ -14,5 +14,6 @@ mod range;
 mod rct;
 mod record;
 mod rice;
+mod rice_frames;
 mod slice;
 mod wide;

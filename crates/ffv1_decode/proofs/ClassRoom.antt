@@ -1,5 +1,5 @@
 -- The states of a class lie in those of a slice.
-use Rattle.std.proofs.Common.{◌≡◌, ℕ, zero, suc, ◌+◌, ◌*◌, ◌<◌, ◌≤◌, Bool, true, false, List, [], get_or, length, ap, sym, subst, ◌∙◌, arith}
+use Rattle.std.proofs.Common.{◌≡◌, ℕ, zero, suc, ◌+◌, ◌*◌, ◌<◌, ◌≤◌, Bool, true, false, List, [], get_or, length, slice_index, ap, sym, subst, ◌∙◌, arith}
 use Rattle.ffv1_plane.specs.Quantisation.{Set, contexts_of}
 use Rattle.ffv1_record.specs.Configuration.{Configuration}
 use Rattle.ffv1_record.specs.Held.{classes_of}
@@ -7,9 +7,12 @@ use Rattle.ffv1_record.specs.Sets.{most_contexts}
 use Rattle.ffv1_slice.specs.Grid.{planes_in}
 use Rattle.ffv1_frame.specs.Picture.{plane_count}
 use Rattle.ffv1_frame.specs.SliceList.{class_of, base_of}
+use Rattle.ffv1_slice.specs.declared.head.SliceHead.{SliceHead}
+use Rattle.ffv1_decode.specs.Internal.LeftBits.{contexts_in}
 use Rattle.ffv1_decode.specs.Internal.Tied.{slots_in}
 use Rattle.ffv1_frame.proofs.Sizes.{class_room}
 use Rattle.ffv1_frame.proofs.ByNumber.{few_contexts}
+use Rattle.ffv1_frame.proofs.ByNumber as numbers
 
 pub class_few : (chroma extra : Bool) (p : ℕ) → p < planes_in chroma extra → class_of p < classes_of chroma extra
 class_few chroma true zero h = omega arith
@@ -45,3 +48,11 @@ module _ (c : Configuration) (p class most index : ℕ) (sets : List Set) (set :
 
   pub base_here : base_of c p ≡ 33 + class * most * 32
   base_here = let same : most * class ≡ most_contexts c.sets * class_of p = ap (λ z. z * class) most_is ∙ ap (λ z. most_contexts c.sets * z) class_is in omega (arith, same)
+
+-- no class of a slice has more contexts than the largest set
+pub contexts_few : (c : Configuration) (h : SliceHead) (indexes : List ℕ) → indexes ≡ h.indexes → ((class : ℕ) → class < 3 → slice_index indexes class < length c.sets) →
+    (class : ℕ) → class < classes_of c.chroma_planes c.extra_plane → contexts_in c h class ≤ most_contexts c.sets
+contexts_few c h indexes are named class less =
+    let few : class < 3 = let most = classes_most c.chroma_planes c.extra_plane in omega (arith, less, most) in
+    let index : slice_index h.indexes class < length c.sets = subst (λ z. slice_index z class < length c.sets) are (named class few) in
+    subst (λ z. contexts_of z ≤ most_contexts c.sets) (sym (numbers.set_is c.sets (slice_index h.indexes class))) (few_contexts c.sets (slice_index h.indexes class) index)

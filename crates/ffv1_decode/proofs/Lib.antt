@@ -4,6 +4,10 @@ mod ClassRoom
 mod SegmentReads
 mod Outcomes
 mod PartPlaces
+mod LeftStates
+mod BitsBegin
+mod BitsEnd
+mod BitsTied
 mod SegmentTied
 mod SharedColumns
 mod KeptLines

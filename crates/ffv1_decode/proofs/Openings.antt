@@ -164,11 +164,13 @@ module _ (a : Accepted) (payload : List ℕ) (cut : Cut) (n begin end : ℕ) (is
 
     stands_after : (steps : List Step) → Begun a old new steps → ((slots : ℕ) → HasStates a.table (replicate slots 128) 33 steps) → (slots : ℕ) → Stands (coded_by a payload cut n) a.table 33 (Some (paused new)) (replicate slots 128) steps
     stands_after steps begun has slots = record {
-      pause = paused new;
-      is = refl;
-      at = subst (λ b. At (resumed (paused new) b) (interval_of (decisions_after a.table [] steps))) (begun.bytes ∙ coded_is) begun.at;
+      decoder = record {
+        pause = paused new;
+        is = refl;
+        at = subst (λ b. At (resumed (paused new) b) (interval_of (decisions_after a.table [] steps))) (begun.bytes ∙ coded_is) begun.at;
+        counted = begun.counted;
+      };
       has = has slots;
-      counted = begun.counted;
     }
 
     told_after : Telling → (steps : List Step) → Begun a old new steps → told_by (Some (paused new)) ≡ tally_after a.table steps
@@ -177,7 +179,7 @@ module _ (a : Accepted) (payload : List ℕ) (cut : Cut) (n begin end : ℕ) (is
 
     pub column_opened : (indexes : List ℕ) (h : SliceHead) (before after : Option Said) → indexes ≡ h.indexes → HeadRead a n old new h → AgreesWith before (said_by a.profile h) → after ≡ Some (said_by a.profile h) →
         IsWithin a bytes (key_steps n ++ head_steps a.configuration n h) → ((slots : ℕ) → HasStates a.table (replicate slots 128) 33 (key_steps n ++ head_steps a.configuration n h)) →
-        ColumnOpened a (coded_by a payload cut) payload n (record { parked = Some (paused new); first = begin; last = end; indexes = indexes }) before after
+        ColumnOpened a (coded_by a payload cut) payload n (record { parked = Some (paused new); bits = None; index = 0; first = begin; last = end; indexes = indexes }) before after
     column_opened indexes h before after indexes_are read agrees says within has = record {
       head = h;
       codes = subst (λ b. CodesHead b a.table a.profile a.configuration n h) coded_is read.codes;
@@ -187,6 +189,8 @@ module _ (a : Accepted) (payload : List ℕ) (cut : Cut) (n begin end : ℕ) (is
       bytes_are = bytes_are;
       indexes = indexes_are;
       stands = stands_after (key_steps n ++ head_steps a.configuration n h) read.begun has;
+      bits = refl;
+      index = refl;
     }
 
     pub column_differs : Telling → (column : Column) (h : SliceHead) (before : Option Said) (s : Said) → column.parked ≡ Some (paused new) → HeadRead a n old new h → before ≡ Some s → said_by a.profile h ≢ s →

@@ -1,19 +1,25 @@
 -- A row of slices is opened, and its lines are decoded: its run.
-use Rattle.std.proofs.Common.{◌≡◌, refl, ℕ, zero, suc, ◌+◌, ◌-◌, ◌*◌, ◌^◌, ◌<◌, ◌≤◌, inl, Option, List, [], map, length, get_or, slice_index, replicate, take, ap, sym, subst, ◌∙◌, arith}
+use Rattle.std.proofs.Common.{◌≡◌, refl, ℕ, zero, suc, ◌+◌, ◌-◌, ◌*◌, ◌^◌, ◌<◌, ◌≤◌, inl, Option, true, false, List, [], map, length, get_or, slice_index, replicate, take, ap, sym, subst, ◌∙◌, arith}
 use Rattle.std.specs.List.{flat_map, range_with_len}
 use Rattle.std.proofs.lemmas.List.{take-replicate, drop-replicate, length-replicate}
 use Rattle.ffv1_wire.specs.Runs.{LineStep, Grows}
-use Rattle.ffv1_record.specs.Accepted.{Accepted}
+use Rattle.ffv1_record.specs.Accepted.{Accepted, is_rice}
 use Rattle.ffv1_decode.specs.declared.column.Column.{Column}
 use Rattle.ffv1_frame.specs.declared.fault.FrameFault.{FrameFault}
 use Rattle.ffv1_frame.specs.Picture.{plane, plane_count}
 use Rattle.ffv1_frame.specs.SliceList.{Said, bits_of}
 use Rattle.ffv1_frame.specs.Order.{Event, series_of, series_events}
 use Rattle.ffv1_frame.specs.Order.Event.{Open}
-use Rattle.ffv1_frame.specs.Decoding.{State, Slice, StepsBy, FaultsWith, slice_at, slice_number}
-use Rattle.ffv1_decode.specs.Internal.Stands.{Stands}
+use Rattle.ffv1_frame.specs.Decoding.{State, Slice, StepsBy, FaultsWith, slice_at}
+use Rattle.ffv1_range.specs.History.{HasStates}
+use Rattle.ffv1_rice.specs.States.{fresh}
+use Rattle.ffv1_rice.specs.Kept.{state_of, state_at}
+use Rattle.ffv1_record.specs.Configuration.{Configuration}
+use Rattle.ffv1_record.specs.Held.{classes_of}
+use Rattle.ffv1_record.specs.Sets.{most_contexts}
+use Rattle.ffv1_decode.specs.Internal.LeftBits.{AreFresh}
 use Rattle.ffv1_frame.specs.Windows.{window}
-use Rattle.ffv1_decode.specs.Internal.Tied.{TiedColumns, column_at, slots_in, row_slices}
+use Rattle.ffv1_decode.specs.Internal.Tied.{TiedColumns, AreOpen, column_at, slots_in, row_slices}
 use Rattle.ffv1_decode.specs.Internal.Progress.{PlanesKept, FailsIn}
 use Rattle.ffv1_decode.specs.Internal.Shared.{AreAbove, kept_line}
 use Rattle.ffv1_decode.specs.Internal.Opened.{IsOpened, RowOpened, RowRefused, row_heads}
@@ -21,6 +27,9 @@ use Rattle.ffv1_decode.specs.Internal.Rows.{RowDecoded, open_events}
 use Rattle.ffv1_frame.proofs.Sizes.{part_apart}
 use Rattle.ffv1_frame.proofs.ByNumber.{plane_is}
 use Rattle.ffv1_decode.proofs.RunsInRow.{runs_append, stops_sooner}
+use Rattle.ffv1_decode.proofs.BitsTied.{none_is_not}
+use Rattle.ffv1_decode.proofs.ClassRoom.{contexts_few}
+use Rattle.ffv1_decode.proofs.LeftStates.{part_state}
 use Rattle.ffv1_decode.proofs.SegmentReads.{Telling}
 use Rattle.ffv1_decode.proofs.SegmentTied.{tied_told}
 use Rattle.ffv1_decode.proofs.SeriesDecodes.{fails_later}
@@ -37,25 +46,58 @@ empty_plane n p = plane_is (replicate n []) p ∙ empty_at n p
 fresh_window : (at w m : ℕ) → at + w ≤ m → window at w (replicate {A = ℕ} m 128) ≡ replicate w 128
 fresh_window at w m fits = ap (take w) (drop-replicate at m 128) ∙ take-replicate w (m - at) 128 (omega (arith, fits))
 
+-- a state of a slice is fresh if all of its row are
+fresh_state : (c : Configuration) (k class context : ℕ) (states : List ℕ) → class < classes_of c.chroma_planes c.extra_plane → context < most_contexts c.sets → k * slots_in c + slots_in c ≤ length states → AreFresh states →
+    state_at (window (k * slots_in c) (slots_in c) states) (class * most_contexts c.sets + context) ≡ fresh
+fresh_state c k class context states less inside fits are =
+    let most = most_contexts c.sets in
+    let classes = classes_of c.chroma_planes c.extra_plane in
+    let n = class * most + context in
+    let apart = part_apart class classes most less in
+    let all : slots_in c ≡ 32 * (classes * most) = omega arith in
+    let room : 32 * n + 32 ≤ slots_in c = omega (arith, apart, inside, all) in
+    let scaled : k * slots_in c ≡ 32 * (k * (classes * most)) = (let e = ap (λ z. k * z) all in omega (arith, e)) in
+    let place : k * slots_in c + 32 * n ≡ 32 * (k * (classes * most) + n) = omega (arith, scaled) in
+    part_state (k * slots_in c) (slots_in c) states n room ∙ ap (state_of states) place
+    ∙ are.each (k * (classes * most) + n) (omega (arith, scaled, room, fits))
+
 module _ (a : Accepted) (coded : ℕ → List ℕ) (payload : List ℕ) (r : ℕ) (columns : List Column) (first : Option Said) (s : State) (opened : RowOpened a coded payload r a.configuration.columns (row_heads columns first) s)
     (long : length columns ≡ a.configuration.columns) where
-  pub opened_tied : (states : List ℕ) (m : ℕ) → states ≡ replicate m 128 → m ≡ a.configuration.columns * slots_in a.configuration → 0 < 2 ^ bits_of a.configuration → TiedColumns a coded r 0 payload (row_slices columns states) opened.state
-  opened_tied states m is m_is some = record {
+  pub opened_tied : (states : List ℕ) → (is_rice a.configuration.coder ≡ false → states ≡ replicate (length states) 128) → (is_rice a.configuration.coder ≡ true → AreFresh states) →
+      length states ≡ a.configuration.columns * slots_in a.configuration → AreOpen payload a.configuration.sets columns → 0 < 2 ^ bits_of a.configuration → TiedColumns a coded r 0 payload (row_slices columns states) opened.state
+  opened_tied states range rice states_long are some = record {
     known = opened.told.long ∙ long;
     each = λ k h.
         let one : IsOpened a coded payload r k (column_at columns k) opened.state = opened.each k h in
         let slots = slots_in a.configuration in
-        let empty : (p : ℕ) → plane (slice_at opened.state k).cells p ≡ [] = λ p. ap (λ (z : Slice). plane z.cells p) one.slice_is ∙ empty_plane (plane_count a.configuration) p in
+        let q = slice_at opened.state k in
+        let empty : (p : ℕ) → plane q.cells p ≡ [] = λ p. ap (λ (z : Slice). plane z.cells p) one.slice_is ∙ empty_plane (plane_count a.configuration) p in
         let place = part_apart k a.configuration.columns slots h in
-        let fits : k * slots + slots ≤ m = omega (arith, place, m_is) in
-        let w : window (k * slots) slots states ≡ replicate slots 128 = ap (window (k * slots) slots) is ∙ fresh_window (k * slots) slots m fits in
+        let fits : k * slots + slots ≤ length states = omega (arith, place, states_long) in
+        let indexes : (column_at columns k).indexes ≡ q.head.indexes = one.indexes ∙ ap (λ (z : Slice). z.head.indexes) (sym one.slice_is) in
+        let open_here = are k (omega (arith, h, long)) in
         record {
           bytes_are = one.bytes_are;
-          indexes = one.indexes ∙ ap (λ (z : Slice). z.head.indexes) (sym one.slice_is);
+          indexes = indexes;
           cells = ap (λ (z : Slice). length z.cells) one.slice_is ∙ length-replicate (plane_count a.configuration) [];
           small = λ p i. subst (λ z. slice_index z i < 2 ^ bits_of a.configuration) (sym (empty p)) some;
           begun = λ p from. empty p;
-          stands = subst (λ z. Stands (coded (slice_number a.configuration r k)) a.table 33 (column_at columns k).parked z (slice_at opened.state k).past) (sym w) (one.stands slots);
+          stands = (one.stands 0).decoder;
+          kept = record {
+            range = λ is.
+                let w : window (k * slots) slots states ≡ replicate slots 128 = ap (window (k * slots) slots) (range is) ∙ fresh_window (k * slots) slots (length states) fits in
+                subst (λ z. HasStates a.table z 33 q.past) (sym w) (one.stands slots).has;
+            rice = λ is. record {
+              left = record { none = λ e. ap (λ (z : Slice). z.bits) one.slice_is; some = λ n e. none_is_not n (sym e ∙ one.bits) };
+              known = record {
+                each = λ class context less inside.
+                    let few = contexts_few a.configuration q.head (column_at columns k).indexes indexes open_here.index class less in
+                    fresh_state a.configuration k class context states less (omega (arith, inside, few)) fits (rice is)
+                    ∙ sym (ap (λ (z : Slice). z.coder.states class context) one.slice_is);
+              };
+              index = one.index ∙ sym (ap (λ (z : Slice). z.coder.index) one.slice_is);
+            };
+          };
         };
   }
 

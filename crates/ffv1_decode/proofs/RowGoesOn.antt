@@ -2,17 +2,17 @@
 -- while its vectors are lent to a call.
 use Rattle.std.proofs.Common.{◌≡◌, ◌∙◌, ◌++◌, ℕ, List, length, take, drop, sym, subst}
 use Rattle.std.proofs.lemmas.List.{with_items_is}
-use Rattle.ffv1_range.specs.Symbols.{AllHeld}
 use Rattle.ffv1_decode.specs.declared.buffers.Slices.{Slices}
 use Rattle.ffv1_decode.specs.declared.column.Column.{Column}
 use Rattle.ffv1_decode.specs.declared.parts.Frame.{Frame}
+use Rattle.ffv1_decode.specs.Internal.LeftBits.{AreKept}
 use Rattle.ffv1_decode.specs.Internal.RowParts.{IsRow, slices_of}
 use Rattle.ffv1_decode.specs.Internal.Tied.{AreOpen, RowSlices, row_slices}
 
 pub row_goes_on : {A : Type 0} (f : Frame A) (r : ℕ) (old new : RowSlices) → IsRow f r old →
     length new.columns ≡ length old.columns → length new.states ≡ length old.states →
     AreOpen f.payload.now f.checked.now.configuration.sets new.columns →
-    AllHeld f.checked.now.table new.states → IsRow f r new
+    AreKept f.checked.now new.states → IsRow f r new
 row_goes_on f r old new was columns states opened held = record {
   frame = was.frame;
   row = was.row;

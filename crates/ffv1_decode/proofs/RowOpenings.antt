@@ -13,7 +13,7 @@ use Rattle.ffv1_decode.specs.Internal.Stands.{Stands, told_by, tally_after}
 use Rattle.ffv1_decode.specs.Internal.Tied.{AreTold, column_at, no_column, bytes_in}
 use Rattle.ffv1_decode.specs.Internal.Opened.{ColumnOpened, ColumnRefused, IsOpened, RowOpened, RowRefused}
 use Rattle.ffv1_decode.specs.Internal.Opened.{row_heads}
-use Rattle.ffv1_decode.proofs.SegmentReads.{Telling, stands_tells}
+use Rattle.ffv1_decode.proofs.SegmentReads.{Telling, parked_tells}
 use Rattle.ffv1_decode.proofs.SegmentTied.{slice_now, slice_other}
 use Rattle.ffv1_decode.proofs.Ranges.{mapped_more, mapped_rest}
 use Rattle.ffv1_decode.proofs.RunsInRow.{runs_append, runs_one, stops_later, stops_sooner}
@@ -63,7 +63,7 @@ module _ (a : Accepted) (coded : ℕ → List ℕ) (payload : List ℕ) (r : ℕ
           runs = subst (λ es. Runs (StepsBy a coded) s es t) (sym (mapped_more (Open r) 0 n ∙ ap (λ k. map (Open r) (range_with_len 0 n) ++ (Open r k ∷ [])) zero_is))
               (runs_append (StepsBy a coded) s before.state t (map (Open r) (range_with_len 0 n)) (Open r n ∷ []) before.runs (runs_one (StepsBy a coded) before.state t (Open r n) step));
           same = ap (λ (z : State). record z { columns = t.columns; info = Some (said_by a.profile made.head) }) before.same ∙ ap (λ z. record s { columns = t.columns; info = z }) (sym made.says);
-          told = told_with m refl q (stands_tells telling (coded num) a.table 33 column.parked (replicate 0 128) q.past (made.stands 0));
+          told = told_with m refl q (parked_tells telling (coded num) a.table column.parked q.past (made.stands 0).decoder);
           each = λ k h. elim (cases_eq k n) [
             | inl at ↦
                 let now : IsOpened a coded payload r n (column_at (slice_set columns n column) n) t = record {
@@ -74,6 +74,8 @@ module _ (a : Accepted) (coded : ℕ → List ℕ) (payload : List ℕ) (r : ℕ
                   stands = λ slots.
                       let one = subst (λ (z : Column). Stands (coded num) a.table 33 z.parked (replicate slots 128) q.past) (sym column_now) (made.stands slots) in
                       subst (λ (z : Slice). Stands (coded num) a.table 33 (column_at (slice_set columns n column) n).parked (replicate slots 128) z.past) (sym (slice_now m n q few)) one;
+                  bits = ap (λ (z : Column). z.bits) column_now ∙ made.bits;
+                  index = ap (λ (z : Column). z.index) column_now ∙ made.index;
                 } in
                 subst (λ z. IsOpened a coded payload r z (column_at (slice_set columns n column) z) t) (sym at) now
             | inr other ↦
@@ -88,6 +90,8 @@ module _ (a : Accepted) (coded : ℕ → List ℕ) (payload : List ℕ) (r : ℕ
                   stands = λ slots.
                       let one = subst (λ (z : Column). Stands (coded (slice_number a.configuration r k)) a.table 33 z.parked (replicate slots 128) (slice_at before.state k).past) (sym c_is) (was.stands slots) in
                       subst (λ (z : Slice). Stands (coded (slice_number a.configuration r k)) a.table 33 (column_at (slice_set columns n column) k).parked (replicate slots 128) z.past) (sym s_is) one;
+                  bits = ap (λ (z : Column). z.bits) c_is ∙ was.bits;
+                  index = ap (λ (z : Column). z.index) c_is ∙ was.index;
                 }
           ];
           later = λ k from h. let other : k ≢ n = omega (arith, from) in slice_other m n k q other ∙ before.later k (omega (arith, from)) h;

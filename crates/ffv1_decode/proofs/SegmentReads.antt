@@ -19,7 +19,7 @@ use Rattle.ffv1_line.specs.Coded.{refused_row_steps}
 use Rattle.ffv1_line.specs.Decoded.{Lined, LinedToRefusal}
 use Rattle.ffv1_frame.proofs.Sizes.{part_apart}
 use Rattle.ffv1_frame.proofs.WrittenParts.{put}
-use Rattle.ffv1_decode.specs.Internal.Stands.{Stands, SegmentRead, SegmentRefused, told_by, tally_after}
+use Rattle.ffv1_decode.specs.Internal.Stands.{IsParked, Stands, SegmentRead, SegmentRefused, told_by, tally_after}
 use Rattle.ffv1_frame.specs.Windows.{window}
 use Rattle.ffv1_line.specs.Coding.{coding_by}
 use Rattle.ffv1_line.specs.Coder.{decoder_by}
@@ -79,9 +79,9 @@ tells telling bytes t pause past at counted =
     ap (λ z. f z pause.counts.zeros pause.renormalisations) n.0 ∙ ap (λ z. f (saturated (ones_in past)) z pause.renormalisations) n.1
     ∙ ap (λ z. f (saturated (ones_in past)) (saturated (zeros_in past)) z) m
 
--- so do they where they stand
-pub stands_tells : Telling → (bytes : List ℕ) (t : Table) (base : ℕ) (parked : Option Pause) (states : List ℕ) (past : List Step) → Stands bytes t base parked states past → told_by parked ≡ tally_after t past
-stands_tells telling bytes t base parked states past stands = ap told_by stands.is ∙ tells telling bytes t stands.pause past stands.at stands.counted
+-- so does it where it is parked
+pub parked_tells : Telling → (bytes : List ℕ) (t : Table) (parked : Option Pause) (past : List Step) → IsParked bytes t parked past → told_by parked ≡ tally_after t past
+parked_tells telling bytes t parked past stands = ap told_by stands.is ∙ tells telling bytes t stands.pause past stands.at stands.counted
 
 -- a cell whose first rows are samples, and row y begins with a row
 module _ (samples cur row two one : List ℕ) (width y n : ℕ) (rolls : Rolls width samples two one y) (few : n ≤ width) (same : (x : ℕ) → x < n → slice_index row x ≡ slice_index cur x) where
@@ -134,14 +134,14 @@ module _ (laws : Laws) (bytes : List ℕ) (t : Table) (base : ℕ) (set : Set) (
 module _ (laws : Laws) (bytes : List ℕ) (t : Table) (base : ℕ) (set : Set) (bits : ℕ) (past : List Step) (states after : List ℕ) (pause : Pause) (parked : Option Pause) (new : Reading)
     (two one cur samples : List ℕ) (y : ℕ) (bound : (a : Around) → size_of set a < contexts_of set) (long : length states ≡ contexts_of set * 32)
     (is : parked ≡ Some pause) (stands : Stands bytes t base parked states past) (rolls : Rolls (length cur) samples two one y) where
-  same_pause : stands.pause ≡ pause
-  same_pause = same_some stands.pause pause (sym stands.is ∙ is)
+  same_pause : stands.decoder.pause ≡ pause
+  same_pause = same_some stands.decoder.pause pause (sym stands.decoder.is ∙ is)
 
   at_first : At (resumed pause bytes) (interval_of (decisions_after t [] past))
-  at_first = subst (λ p. At (resumed p bytes) (interval_of (decisions_after t [] past))) same_pause stands.at
+  at_first = subst (λ p. At (resumed p bytes) (interval_of (decisions_after t [] past))) same_pause stands.decoder.at
 
   counted_first : Counted uncounted past pause.counts
-  counted_first = subst (λ (p : Pause). Counted uncounted past p.counts) same_pause stands.counted
+  counted_first = subst (λ (p : Pause). Counted uncounted past p.counts) same_pause stands.decoder.counted
 
   pub segment_read : Lined (coding_by t set bits) (decoder_by (resumed pause bytes) states) (decoder_by new after) (rows_above two one) cur (length cur) →
       SegmentRead bytes (coding_by t set bits) base base past samples (length cur) y (Some (paused new)) after cur
@@ -157,7 +157,7 @@ module _ (laws : Laws) (bytes : List ℕ) (t : Table) (base : ℕ) (set : Set) (
         long = lined.count;
         codes = record { suits = coded.suits; codes = b.codes };
         below = below;
-        stands = record { pause = paused new; is = refl; at = b.at; has = b.has; counted = b.counted };
+        stands = record { decoder = record { pause = paused new; is = refl; at = b.at; counted = b.counted }; has = b.has };
       }
 
   pub segment_refused : (x : ℕ) → x < length cur → LinedToRefusal (coding_by t set bits) (decoder_by (resumed pause bytes) states) (decoder_by new after) (rows_above two one) cur x →
@@ -189,11 +189,8 @@ module _ (bytes : List ℕ) (t : Table) (base : ℕ) (set : Set) (bits : ℕ) (p
   pub class_stands : ((t : Table) (states : List ℕ) (base at count : ℕ) (past : List Step) → at + count ≤ length states → HasStates t states base past →
       HasStates t (take count (drop at states)) (base + at) past) → Stands bytes t base parked (window at count states) past
   class_stands part = record {
-    pause = stands_old.pause;
-    is = stands_old.is;
-    at = stands_old.at;
+    decoder = stands_old.decoder;
     has = subst (λ z. HasStates t (window at count states) z past) (sym base_is) (part t states 33 at count past room stands_old.has);
-    counted = stands_old.counted;
   }
 
   pub all_read : ((t : Table) (states ys : List ℕ) (base at count : ℕ) (past ss : List Step) → at + count ≤ length states → length ys ≡ count → AreBelow ss count →
@@ -212,11 +209,8 @@ module _ (bytes : List ℕ) (t : Table) (base : ℕ) (set : Set) (bits : ℕ) (p
         codes = read.codes;
         below = read.below;
         stands = record {
-          pause = read.stands.pause;
-          is = read.stands.is;
-          at = read.stands.at;
+          decoder = read.stands.decoder;
           has = subst (λ z. HasStates t (put at count states ys) 33 (past ++ shifted z ss)) (sym base_is) all;
-          counted = read.stands.counted;
         };
       }
 

@@ -140,7 +140,7 @@ module _ {S : Type 0} (takes refuses : LineStep S) (a : Accepted) (coded : ℕ �
       runs = refl;
       columns_are = record {
         known = tied.known;
-        each = λ k h. let t = tied.each k h in record { bytes_are = t.bytes_are; indexes = t.indexes; cells = t.cells; small = t.small; begun = λ p from. t.begun p (omega (arith, from)); stands = t.stands };
+        each = λ k h. let t = tied.each k h in record { bytes_are = t.bytes_are; indexes = t.indexes; cells = t.cells; small = t.small; begun = λ p from. t.begun p (omega (arith, from)); stands = t.stands; kept = t.kept };
       };
       planes_are = record {
         done = λ j less. absurd (omega (arith, less));

@@ -1,6 +1,7 @@
 pub mod Begun
 pub mod Buffers
 pub mod Finished
+pub mod LeftBits
 pub mod Opened
 pub mod Places
 pub mod Progress

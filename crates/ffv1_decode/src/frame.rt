@@ -97,6 +97,8 @@ fn fresh_columns<A: Allocator>(alloc: A, count: usize) -> Result<Vec<Column, A>,
     for k in 0..count {
         columns.push_reserved(Column {
             parked: None,
+            bits: None,
+            index: 0,
             first: 0,
             last: 0,
             indexes: [0; 3],
@@ -300,11 +302,12 @@ impl<A: Allocator> FrameDecoder<A> {
     /// It is Ok exactly if the payload codes a picture and the sink takes its lines. The fault is
     /// the first in that order, with its place: `Footer`, `Leftover`, `SliceParity` or
     /// `SliceStatus` before any line; `BadStart`, `NotKey`, a fault of the head or `InfoDiffers`
-    /// when a slice is opened; `SymbolTooLong` in a sample; `Overread` at `Wide` after a head and
-    /// after each line of a cell; `Overlap` at `Wide` after a line of a cell; `Ending` at `Wide`
-    /// after the last line of a slice; `Colour` in a line that was read; and `Sink` exactly if the
-    /// sink refused the line that came next. The sink then has exactly the lines before it, and
-    /// nothing is decided after it; the decoder is ready for the next frame.
+    /// when a slice is opened; `SymbolTooLong` in a sample, and `BitsEnd` or `BadCode` in a
+    /// Golomb-Rice coded one; `Overread` at `Wide` after a head and after each line of a cell;
+    /// `Overlap` at `Wide` after a line of a cell; `Ending` at `Wide` after the last line of a
+    /// slice, and `Padding` of Golomb-Rice coded samples; `Colour` in a line that was read; and
+    /// `Sink` exactly if the sink refused the line that came next. The sink then has exactly the
+    /// lines before it, and nothing is decided after it; the decoder is ready for the next frame.
     ///
     /// Heads are read in the profile of the configuration: at `Wide` an aspect of which just one
     /// number is 0 says what 0:0 says, that it is unknown.
@@ -330,6 +333,16 @@ impl<A: Allocator> FrameDecoder<A> {
     /// the slice has coded bytes. Else it is `Ending`, at its last plane, the last line of its cell
     /// there, and x 0. So a slice that lost coded bytes at its end, or has too many bytes there, is
     /// refused. That decision is looked at, but counted nowhere.
+    ///
+    /// Golomb-Rice coded samples (RFC 9043, 3.8.2), which `Wide` alone takes, are bits behind the
+    /// head of their slice: they begin at the byte that a coder reads last, once it has read one
+    /// more decision by state 129, whichever it is. No bit behind the slice's coded bytes is read:
+    /// one that is wanted there is `BitsEnd`. Bits that an encoder writes of no sample are
+    /// `BadCode`: a number of more bits than a difference has, the long form of a number that has a
+    /// short one, a run that leaves its line, and a difference of 0 behind a run that was broken.
+    /// Behind the last line only zeros up to a byte may come, else it is `Padding`, at the slice's
+    /// last plane, the last line of its cell there, and x 0. Such a slice has at most eight lines
+    /// for each of its coded bytes.
     ///
     /// With parity, a payload that differs from a good one within 32 neighbouring bits of one
     /// slice, apart from its slice_size, is `SliceParity` in that slice, before any line. Wherever

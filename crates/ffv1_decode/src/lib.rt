@@ -23,6 +23,7 @@ mod finish;
 pub mod frame;
 mod hand;
 mod kept;
+mod left_bits;
 mod opening;
 mod overread;
 mod parts;
@@ -32,6 +33,7 @@ mod row;
 mod segment;
 mod shared;
 pub mod sinks;
+mod states;
 mod wide_colours;
 
 pub use frame::FrameDecoder;

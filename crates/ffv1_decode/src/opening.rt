@@ -134,6 +134,8 @@ fn open_column<A: Allocator, B: Allocator>(
     };
     let read = read_head(&mut decoder, frame.checked, slice);
     column.parked = Some(decoder.park());
+    column.bits = None;
+    column.index = 0;
     let head = read?;
     column.first = begin;
     column.last = end;

@@ -1,6 +1,7 @@
 //! What stays the same while a frame is decoded.
 
 ghost use Rattle.std.specs.Prelude.{◌≡◌, ◌≤◌, ◌<◌, ◌^◌};
+ghost use Rattle.ffv1_record.specs.Accepted.{is_rice};
 ghost use Rattle.ffv1_frame.specs.Decoding.{fault_in};
 ghost use Rattle.ffv1_frame.specs.Order.{lines_down};
 
@@ -8,7 +9,7 @@ use crate::places;
 use crate::shared::shares_columns;
 use ffv1_frame::fault::{CodecFault, FrameFault};
 use ffv1_line::Word;
-use ffv1_record::{Checked, laws as record_laws};
+use ffv1_record::{Checked, Coder, laws as record_laws};
 use ffv1_slice::Grid;
 use std::alloc::Allocator;
 
@@ -50,6 +51,18 @@ impl<'a, A: Allocator> Frame<'a, A> {
             most,
             slots: classes * most * 32,
             shares,
+        }
+    }
+
+    /// Whether samples are Golomb-Rice coded.
+    #[inline(always)]
+    pub(crate) fn is_rice(&self) -> bool
+        ensures { result ≡ is_rice self.now.checked.now.configuration.coder }
+    {
+        match self.checked.config().coder {
+            Coder::Rice => true,
+            Coder::One => false,
+            Coder::Two(_) => false,
         }
     }
 

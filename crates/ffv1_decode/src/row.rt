@@ -28,9 +28,10 @@ use crate::opening::open_row;
 use crate::parts::{CodedLine, CodedPlanes, Frame, LinesAbove};
 use crate::places;
 use crate::plane_lines::read_planes;
+use crate::states::renew_states;
 use ffv1_frame::fault::FrameFault;
 use ffv1_frame::info::Info;
-use ffv1_line::{laws as line_laws, reset};
+use ffv1_line::laws as line_laws;
 use ffv1_range::laws as range_laws;
 use ffv1_record::{Colour, laws as record_laws};
 use ffv1_slice::Spans;
@@ -280,10 +281,9 @@ pub(crate) fn decode_row<A: Allocator, B: Allocator, S: LineSink>(
     ensures counted { CountsSink (S.failures sink.old) (S.failures sink.new) result }
     ensures same { KeepsLengths buffers.old buffers.new }
 {
-    range_laws::each_decision_has_a_state();
     record_laws::accepted_configuration_has_sound_parts();
     range_laws::counters_from_zero_show_all_steps();
-    reset(&mut buffers.slices.states);
+    renew_states(frame, &mut buffers.slices.states);
     open_row(frame, spans, row, &mut buffers.slices.columns, first)?;
     let Buffers { slices, lines, out } = buffers;
     decode_lines(frame, row, slices, lines, out, sink)

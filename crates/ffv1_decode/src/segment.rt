@@ -1,24 +1,30 @@
 //! Reads the segment of a line that lies in one slice.
 
-ghost use Rattle.std.specs.Prelude.{◌≡◌, ℕ, ◌+◌, ◌*◌, ◌^◌, ◌≤◌, ◌<◌, List, IsSome, OnOk};
-ghost use Rattle.std.specs.Prelude.{IfErr, MatchResult, length, slice_index, take};
+ghost use Rattle.std.specs.Prelude.{◌≡◌, ◌≢◌, ℕ, ◌+◌, ◌*◌, ◌^◌, ◌≤◌, ◌<◌, List, IsSome, OnOk};
+ghost use Rattle.std.specs.Prelude.{true, false, IfErr, MatchResult, length, slice_index, take};
 ghost use Rattle.ffv1_range.specs.Symbols.{AllHeld, Step};
 ghost use Rattle.ffv1_plane.specs.Quantisation.{contexts_of};
 ghost use Rattle.ffv1_line.specs.Cell.{Rolls};
 ghost use Rattle.ffv1_line.specs.Coding.{coding_by};
-ghost use Rattle.ffv1_frame.specs.Picture.{plane_count};
+ghost use Rattle.ffv1_record.specs.Accepted.{is_rice};
+ghost use Rattle.ffv1_frame.specs.declared.fault.CodecFault.TheVariants as fault;
+ghost use Rattle.ffv1_frame.specs.Picture.{plane, plane_count};
+ghost use Rattle.ffv1_frame.specs.RiceLines.{index_at};
 ghost use Rattle.ffv1_frame.specs.SliceList.{class_of, base_of, bits_of, set_at};
 ghost use Rattle.ffv1_frame.specs.Order.{lines_down};
-ghost use Rattle.ffv1_frame.specs.Decoding.{fault_in, left_of, width_in};
+ghost use Rattle.ffv1_frame.specs.Decoding.{Slice, fault_in, left_of, width_in};
 ghost use Rattle.ffv1_decode.specs.OwnFaults.{IsOwn};
-ghost use Rattle.ffv1_decode.specs.Internal.Stands.{Stands, SegmentRead, SegmentRefused};
+ghost use Rattle.ffv1_decode.specs.Internal.LeftBits.{AreKept, KeepsBits, BitsLine, BitsStop};
+ghost use Rattle.ffv1_decode.specs.Internal.Stands.{IsParked, Stands, SegmentRead};
+ghost use Rattle.ffv1_decode.specs.Internal.Stands.{SegmentRefused};
 ghost use Rattle.ffv1_decode.specs.Internal.Tied.{KeepsBeside, IsFrame, IsOpen, IsKept, HasPlane};
 ghost use Rattle.ffv1_decode.specs.Internal.Tied.{bytes_in, slots_in, row_slices, rolling_lines};
 ghost use Rattle.ffv1_decode.specs.Internal.RowParts.{IsRow, IsSegment, AreLong};
 ghost use Rattle.ffv1_decode.specs.Internal.Steps.{ReadsSegment, StepsSegment};
 
 use crate::column::Column;
-use crate::ending::lacks_ending;
+use crate::ending::{ending_fault, lacks_ending};
+use crate::left_bits::{Refusal, read_bits};
 use crate::overread::is_overread;
 use crate::parts::{Frame, LinesAbove, Segment};
 use crate::places;
@@ -28,7 +34,8 @@ use ffv1_frame::fault::{CodecFault, FrameFault};
 use ffv1_frame::line_word::{Above, LineCoding, LineWord, bits_of};
 use ffv1_line::{TooLong, laws as line_laws};
 use ffv1_range::{Parked, laws as range_laws};
-use ffv1_record::laws as record_laws;
+use ffv1_record::{Colour, laws as record_laws};
+use ffv1_rice::laws as rice_laws;
 use std::alloc::Allocator;
 
 /// Reads a segment: wakes a decoder on the bytes of its slice, decodes a row by the states of its
@@ -82,30 +89,45 @@ fn read_segment<W: LineWord, B: Allocator>(
     read
 }
 
+/// The index that the runs of a segment begin with (RFC 9043, 3.8.2.2.1): 0 where a plane of a
+/// slice begins; in RCT it goes on.
+fn index_at<A: Allocator>(frame: &Frame<'_, A>, segment: &Segment, index: u32) -> u32
+    ensures value { result ≡ index_at frame.now.checked.now.configuration segment.now.y index }
+    ensures most { result ≤ index }
+{
+    match frame.checked.config().colour {
+        Colour::Rct => index,
+        Colour::YCbCr => { if segment.y == 0 { 0 } else { index } }
+    }
+}
+
 /// Reads a segment of a plane, by the states of its slice.
 fn read_column<W: LineWord, A: Allocator>(
     frame: &Frame<'_, A>,
-    plane: u8,
+    segment: &Segment,
     column: &mut Column,
     states: &mut [u8],
     above: &Above<'_, W>,
     cur: &mut [W],
-) -> Result<(), TooLong>
+) -> Result<(), Refusal>
     requires frame { IsFrame frame.now }
     requires bits { W.holds (bits_of frame.now.checked.now.configuration) }
-    requires plane { plane < plane_count frame.now.checked.now.configuration }
+    requires plane { segment.now.plane < plane_count frame.now.checked.now.configuration }
     requires open { IsOpen frame.now.payload.now frame.now.checked.now.configuration.sets
         column.old }
     requires some { 0 < length cur.old }
+    requires wide { length cur.old < 2 ^ 16 }
     requires two_long { length above.now.two.now ≡ length cur.old }
     requires one_long { length above.now.one.now ≡ length cur.old }
     requires rows { length states.old ≡ slots_in frame.now.checked.now.configuration }
-    requires held { AllHeld frame.now.checked.now.table states.old }
-    ensures exact { (past : List Step) (samples : List ℕ) (y : ℕ) →
+    requires kept { AreKept frame.now.checked.now states.old }
+    ensures exact { is_rice frame.now.checked.now.configuration.coder ≡ false →
+        (past : List Step) (samples : List ℕ) (y : ℕ) →
         let a = frame.now.checked.now in
-        let set = set_at a.configuration.sets (slice_index column.old.indexes (class_of plane)) in
+        let set = set_at a.configuration.sets
+        (slice_index column.old.indexes (class_of segment.now.plane)) in
         let bytes = bytes_in frame.now.payload.now column.old in
-        let base = base_of a.configuration plane in
+        let base = base_of a.configuration segment.now.plane in
         let row = W.samples cur.new in
         Stands bytes a.table 33 column.old.parked states.old past →
         Rolls (length row) samples (W.samples above.now.two.now) (W.samples above.now.one.now) y →
@@ -113,19 +135,44 @@ fn read_column<W: LineWord, A: Allocator>(
         (λ _. SegmentRead bytes (coding_by a.table set (bits_of a.configuration)) base 33 past
         samples (length row) y column.new.parked states.new row)
         (λ e. SegmentRefused bytes (coding_by a.table set (bits_of a.configuration)) base 33 past
-        samples (length row) y column.new.parked (take e.x row) e.x) }
+        samples (length row) y column.new.parked (take e.x row) e.x
+        × (e.fault ≡ fault.SymbolTooLong)) }
+    ensures bits { is_rice frame.now.checked.now.configuration.coder ≡ true →
+        (coded : ℕ → List ℕ) (n : ℕ) (q : Slice) →
+        let a = frame.now.checked.now in
+        let p : ℕ = segment.now.plane in
+        let row = W.samples cur.new in
+        bytes_in frame.now.payload.now column.old ≡ coded n →
+        column.old.indexes ≡ q.head.indexes →
+        IsParked (coded n) a.table column.old.parked q.past →
+        KeepsBits a (coded n) column.old states.old q →
+        Rolls (length row) (plane q.cells p) (W.samples above.now.two.now)
+        (W.samples above.now.one.now) segment.now.y →
+        MatchResult result
+        (λ _. BitsLine a coded n p (length row) segment.now.y q row column.new states.new)
+        (λ e. BitsStop a coded n p (length row) segment.now.y q row e.x e.fault) }
     ensures small { OnOk result ((x : ℕ) → x < length (W.samples cur.new) →
         slice_index (W.samples cur.new) x < 2 ^ bits_of frame.now.checked.now.configuration) }
     ensures inside { IfErr result (λ e. e.x < length (W.samples cur.new)) }
-    ensures open { IsSome column.new.parked }
-    ensures same { column.new ≡ record column.old { parked = column.new.parked } }
-    ensures held { AllHeld frame.now.checked.now.table states.new }
+    ensures own { IfErr result (λ e. e.fault ≢ fault.Sink) }
+    ensures open { IsOpen frame.now.payload.now frame.now.checked.now.configuration.sets
+        column.new }
+    ensures same { column.new ≡ record column.old {
+      parked = column.new.parked;
+      bits = column.new.bits;
+      index = column.new.index;
+    } }
+    ensures parked { is_rice frame.now.checked.now.configuration.coder ≡ true →
+        column.new.parked ≡ column.old.parked }
+    ensures kept { AreKept frame.now.checked.now states.new }
 {
     range_laws::array_states_follow_the_history();
     record_laws::accepted_configuration_has_sound_parts();
+    rice_laws::a_row_needs_its_contexts_alone();
     let config = frame.checked.config();
-    let class = class_of(plane as u32);
+    let class = class_of(segment.plane as u32);
     let set = config.sets.get(usize::from(column.indexes[class]));
+    set.is_a_bounded_set();
     let at = class * frame.most * 32;
     let end = at + set.contexts() as usize * 32;
     let bytes = &frame.payload[column.first..column.last];
@@ -134,14 +181,24 @@ fn read_column<W: LineWord, A: Allocator>(
         set,
         bits: bits_of(frame.checked),
     };
-    read_segment(
+    if frame.is_rice() {
+        column.index = index_at(frame, segment, column.index);
+        return read_bits(column, bytes, &coding, &mut states[at..end], above, cur);
+    }
+    match read_segment(
         &mut column.parked,
         bytes,
         &coding,
         &mut states[at..end],
         above,
         cur,
-    )
+    ) {
+        Ok(()) => Ok(()),
+        Err(refused) => Err(Refusal {
+            x: refused.x,
+            fault: CodecFault::SymbolTooLong,
+        }),
+    }
 }
 
 /// Where a segment begins and ends in a rolling line.
@@ -232,14 +289,14 @@ fn read_on<W: LineWord, A: Allocator>(
     };
     match read_column(
         frame,
-        segment.plane,
+        segment,
         &mut columns[k],
         &mut states[at..at + frame.slots],
         &above,
         &mut cur[left..right],
     ) {
         Ok(()) => Ok(()),
-        Err(refused) => Err(fault_at(frame, CodecFault::SymbolTooLong, segment, refused.x)),
+        Err(refused) => Err(fault_at(frame, refused.fault, segment, refused.x)),
     }
 }
 
@@ -288,7 +345,7 @@ pub(crate) fn read_at<W: LineWord, A: Allocator>(
         None => (),
     }
     if lacks_ending(frame, segment, column) {
-        return Err(frame.fault_in(CodecFault::Ending, segment, 0));
+        return Err(frame.fault_in(ending_fault(frame), segment, 0));
     }
     Ok(())
 }

@@ -77,7 +77,7 @@ first_read left = if left == 0 then refused fault.Truncated else element_or_end 
 
 -- the ID of CRC-32
 abbrev pub crc_ident : ℕ
-crc_ident = 191
+crc_ident = 0xBF
 
 -- an element is one of CRC-32, of 4 bytes
 abbrev pub is_crc : ℕ → ℕ → Bool

@@ -1,7 +1,7 @@
 //! Encodes pictures.
 
 ghost use Rattle.std.specs.Prelude.{◌≡◌, ◌⊎◌, ◌+◌, ◌*◌, ◌<◌, ◌≤◌, ◌++◌, ℕ, IfOk, IfErr, OnOk};
-ghost use Rattle.std.specs.Prelude.{OnErr, Ok, Err, [], length, vec_capacity, ◌≢◌};
+ghost use Rattle.std.specs.Prelude.{OnErr, Ok, Err, [], length, vec_capacity, ◌≢◌, false};
 ghost use Rattle.ffv1_slice.specs.Footer.{footer_of, foot_length};
 ghost use Rattle.ffv1_frame.specs.declared.fault.CodecFault.TheVariants as fault;
 ghost use Rattle.ffv1_frame.specs.Picture.{Fits};
@@ -10,6 +10,7 @@ ghost use Rattle.ffv1_frame.specs.Length.{slice_counts, slice_renormalisations, 
 ghost use Rattle.ffv1_frame.specs.Length.{frame_most, uncounted};
 ghost use Rattle.ffv1_frame.specs.Length.{KeepsCapacities, no_capacities};
 ghost use Rattle.ffv1_frame.specs.Frame.{sealed_slice};
+ghost use Rattle.ffv1_record.specs.Accepted.{is_rice};
 ghost use Rattle.ffv1_frame.specs.SliceList.{bits_of};
 ghost use Rattle.ffv1_encode.specs.Internal.Scratch.{capacities_of, capacity_of_planes};
 
@@ -201,7 +202,8 @@ impl<A: Allocator + Copy> FrameEncoder<A> {
 
     /// The frame of a picture that fits the configuration (RFC 9043, 4.4 to 4.9): each slice in
     /// raster order, by the sentinel ending of its decisions, and its footer. Class 0 uses set 0,
-    /// class k set k, or the last one.
+    /// class k set k, or the last one. Samples are range coded whatever the configuration says, so
+    /// of one whose coder is `Rice` it is no frame.
     ///
     /// It has at most `2 n + 1` bytes for each residual of n binary digits, and 109 for each slice,
     /// with 6 more if there is a plane of transparency, 2 if there are more than 16 columns and 2
@@ -223,7 +225,8 @@ impl<A: Allocator + Copy> FrameEncoder<A> {
         ensures configuration { self.new.accepted ≡ self.old.accepted }
         ensures ok { IfOk result (λ bytes.
             bytes.items ≡ frame_of self.old.accepted picture.now info) }
-        ensures codes { IfOk result (λ bytes.
+        ensures codes { is_rice self.old.accepted.configuration.coder ≡ false →
+            IfOk result (λ bytes.
             CodesPicture self.old.accepted bytes.items picture.now info) }
         ensures few { OnOk result (HasLongSlice self.old.accepted picture.now info → ⊥) }
         ensures refused { IfErr result (λ f. (f ≡ fault.OutOfMemory)

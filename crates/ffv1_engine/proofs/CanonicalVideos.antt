@@ -1,5 +1,5 @@
 -- The canonical text of a video is one of the same video, as it is read.
-use Rattle.std.proofs.Common.{◌≡◌, refl, ℕ, ◌<◌, ◌≤◌, Bool, true, false, None, Ok, List, [], ◌∷◌, ap, sym, subst, if◌then◌else◌, arith}
+use Rattle.std.proofs.Common.{◌≡◌, refl, ℕ, ◌<◌, ◌≤◌, Bool, true, false, None, Ok, List, [], ◌∷◌, ap, sym, subst, arith}
 use Rattle.ffv1_codec.specs.Picture.{Planes}
 use Rattle.ffv1_files.specs.declared.container.Scope.TheVariants.{FirstMovi, Whole}
 use Rattle.ffv1_files.specs.Whole.{IsWhole}
@@ -17,7 +17,6 @@ use Rattle.ffv1_y4m.specs.VideoHead.{IsHead, IsNamed, SaysNeither}
 use Rattle.ffv1_video.specs.Video.{SaidHead}
 use Rattle.ffv1_y4m.specs.declared.head.VideoHead.{VideoHead}
 use Rattle.ffv1_video.specs.declared.profile.Profile.{Profile}
-use Rattle.ffv1_video.specs.declared.profile.Profile.TheVariants.{Strict}
 use Rattle.ffv1_video.specs.Profiles.{scope_in}
 use Rattle.ffv1_engine.specs.RoundTrip.{IsFileIn, canonical_by, said_again}
 use Rattle.ffv1_video.specs.Video.{IsReadVideoBy, IsVideoBy}

@@ -78,6 +78,12 @@ module _ (next : (from : Place) (text : List ℕ) → frames_read from text ≡ 
       let none : Ok ([], behind) ≡ frames_read from text = ap (λ z. avi.read_on z (more_frames frames_read)) (sym here) ∙ sym (next from text) in
       ap (λ (z : List (List ℕ) × List ℕ). z.0) (same_read (frames_read from text) (all, rest) ([], behind) is (sym none))
 
+  -- and what is left is left behind all
+  pub none_left : (from : Place) (text behind : List ℕ) (all : List (List ℕ)) (rest : List ℕ) → frame_read from text ≡ Ok (None, behind) → frames_read from text ≡ Ok (all, rest) → behind ≡ rest
+  none_left from text behind all rest here is =
+      let none : Ok ([], behind) ≡ frames_read from text = ap (λ z. avi.read_on z (more_frames frames_read)) (sym here) ∙ sym (next from text) in
+      ap (λ (z : List (List ℕ) × List ℕ). z.1) (same_read (frames_read from text) ([], behind) (all, rest) (sym none) is)
+
   -- nor a fault in the place of one
   pub no_stop : (from : Place) (text behind : List ℕ) (f : Fault) (all : List (List ℕ)) (rest : List ℕ) → FaultsRead (frame_read from) text behind f → frames_read from text ≡ Ok (all, rest) → ⊥
   no_stop from text behind f all rest (inl h) is =

@@ -6,5 +6,6 @@ mod PackedFrames
 mod ColourNumbers
 mod PackedText
 mod CanonicalVideos
+mod SegmentsNoted
 mod PackedIsUnpacked
 mod MatroskaUnpacked

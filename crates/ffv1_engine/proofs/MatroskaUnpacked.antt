@@ -274,3 +274,11 @@ module _ (packing : Profile) (frame_laws : FrameLaws) (records : RecordLaws) (la
 
   pub file_reads : file_read Whole (matroska_file w) ≡ Ok ((packed_head choice (matroska_text w) (accepted_wide w), packed_frames (matroska_text w) (accepted_wide w)), [])
   file_reads = reads.1
+
+  -- which is read as Matroska
+  pub file_first : is_matroska (matroska_file w) ≡ true
+  file_first = first_by w.packed.finished
+    where
+      first_by : (b : Bool) → is_matroska (whole_file b choice w.packs.video w.packs.accepted) ≡ true
+      first_by true = finished_first (packed_head choice w.packs.video w.packs.accepted) (details_for choice w.packs.video.head) (packed_frames w.packs.video w.packs.accepted)
+      first_by false = open_first (packed_head choice w.packs.video w.packs.accepted) (details_for choice w.packs.video.head) (packed_frames w.packs.video w.packs.accepted)

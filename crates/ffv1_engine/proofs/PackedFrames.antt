@@ -9,7 +9,7 @@ use Rattle.ffv1_range.specs.Interval.{Interval, interval_of}
 use Rattle.ffv1_range.specs.Symbols.{Step}
 use Rattle.ffv1_range.specs.declared.tally.Tally.{Tally}
 use Rattle.ffv1_range.proofs.EndingCodes.{bytes-digits}
-use Rattle.ffv1_record.specs.Accepted.{Accepted, IsAccepted}
+use Rattle.ffv1_record.specs.Accepted.{Accepted, IsAccepted, is_rice}
 use Rattle.ffv1_record.specs.Configuration.{Configuration}
 use Rattle.ffv1_record.specs.Parity.{parity_of}
 use Rattle.ffv1_slice.specs.Cutting.{Cuts, CutsTo, IsRefused, coded_of, joined_of}
@@ -26,7 +26,9 @@ use Rattle.ffv1_frame.specs.declared.fault.FrameFault.{FrameFault}
 use Rattle.ffv1_frame.proofs.FromCoded.{coded_bytes}
 use Rattle.ffv1_video.specs.Video.{SaidHead}
 use Rattle.ffv1_words.specs.declared.order.Choice.{Choice}
-use Rattle.ffv1_pack.specs.Packing.{AllShort, configuration_for, said_for}
+use Rattle.ffv1_words.specs.declared.order.CoderChoice.{CoderChoice}
+use Rattle.ffv1_words.specs.declared.order.CoderChoice.TheVariants as coder_choice
+use Rattle.ffv1_pack.specs.Packing.{AllShort, coder_for, configuration_for, said_for}
 use Rattle.ffv1_codec.specs.Outcome.{CountOf, FaultsOf}
 use Rattle.ffv1_unpack.specs.Stream.{AreFrames, Frame, payloads}
 use Rattle.ffv1_unpack.specs.Unpacked.{AllSay, pictures}
@@ -36,7 +38,7 @@ use Rattle.ffv1_engine.proofs.PackedPictures.{AllFitting, picture_given}
 
 -- what is known of payloads
 pub record FrameLaws : Type 0 where
-  pub encoded : (a : Accepted) (planes : Planes) (info : Said) → IsAccepted a.configuration a.table → IsPicture a.configuration planes → IsSaid info → (HasLongSlice a planes info → ⊥) →
+  pub encoded : (a : Accepted) (planes : Planes) (info : Said) → IsAccepted a.configuration a.table → is_rice a.configuration.coder ≡ false → IsPicture a.configuration planes → IsSaid info → (HasLongSlice a planes info → ⊥) →
       CodesPicture a (frame_of a planes info) planes info
   pub one : (a : Accepted) (payload : List ℕ) (planes others : Planes) (info other : Said) → IsAccepted a.configuration a.table → AreBytes payload → CodesPicture a payload planes info →
       CodesPicture a payload others other → (planes ≡ others) × (info ≡ other)
@@ -112,6 +114,11 @@ pub record Same (a : Accepted) (said : Said) (frames : List Frame) (more : List 
   pub more_are : map (λ planes. frame_of a planes said) others ≡ more
   pub coded : AllCoded a said others
 
+-- what is packed is range coded
+range_for : (k : CoderChoice) → is_rice (coder_for k) ≡ false
+range_for coder_choice.Standard = refl
+range_for coder_choice.Carried = refl
+
 module _ (laws : FrameLaws) (a : Accepted) (accepted : IsAccepted a.configuration a.table) where
   pub frame_bytes : (planes : Planes) (said : Said) → AreBytes (frame_of a planes said)
   frame_bytes planes said =
@@ -133,7 +140,7 @@ module _ (laws : FrameLaws) (a : Accepted) (accepted : IsAccepted a.configuratio
   all_coded choice ppm h for is said [] fitting short = tt
   all_coded choice ppm h for is said (p ∷ ps) fitting short = (
     record {
-      codes = laws.encoded a p (said_for h) accepted (subst (λ c. IsPicture c p) (sym for) (picture_given choice ppm h p is fitting.0)) said short.0;
+      codes = laws.encoded a p (said_for h) accepted (ap (λ (c : Configuration). is_rice c.coder) for ∙ range_for choice.coder) (subst (λ c. IsPicture c p) (sym for) (picture_given choice ppm h p is fitting.0)) said short.0;
       bytes = frame_bytes p (said_for h);
       some = frame_some p (said_for h);
     },

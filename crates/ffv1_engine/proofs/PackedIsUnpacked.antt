@@ -1,11 +1,12 @@
 -- A video that was packed is unpacked.
-use Rattle.std.proofs.Common.{◌≡◌, refl, ℕ, suc, ◌<◌, ◌≤◌, Bool, true, false, Option, Some, None, Result, Ok, inl, inr, List, [], ◌∷◌, ◌++◌, length, map, ap, sym, subst, ◌∙◌, if◌then◌else◌, arith, append-nil}
+use Rattle.std.proofs.Common.{◌≡◌, refl, ℕ, suc, ◌<◌, ◌≤◌, Bool, true, false, Option, Some, None, Result, Ok, inl, inr, List, [], ◌∷◌, ◌++◌, length, map, ap, sym, subst, ◌∙◌, arith, append-nil}
 use Rattle.std.specs.Io.KnownBytes.{Appends}
 use Rattle.ffv1_range.specs.Codes.{AreBytes}
 use Rattle.ffv1_range.specs.Counts.{saturated}
 use Rattle.ffv1_range.specs.declared.tally.Tally.{Tally}
 use Rattle.ffv1_wire.specs.Passage.{Passage}
-use Rattle.ffv1_record.specs.Accepted.{PassesAll, PassesEdges, checks}
+use Rattle.std.specs.Prelude.{IsTrue, nat_le, ◌&&◌}
+use Rattle.ffv1_record.specs.Accepted.{PassesAll, PassesEdges, checks, has_coder, least_coder, suits_depth, type_of}
 use Rattle.ffv1_record.specs.declared.config.Profile.{Profile as RecordProfile}
 use Rattle.ffv1_record.specs.declared.config.Profile.TheVariants as of_record
 use Rattle.ffv1_record.specs.Accepted.{Accepted}
@@ -14,7 +15,12 @@ use Rattle.ffv1_codec.specs.Picture.{Planes}
 use Rattle.ffv1_frame.specs.declared.fault.FrameFault.{FrameFault}
 use Rattle.ffv1_files.specs.Places.{Place, container_of, extent_in}
 use Rattle.ffv1_avi.specs.Chunks.{IsWritable}
+use Rattle.ffv1_files.specs.Behind.{notes_of}
 use Rattle.ffv1_files.specs.Files.{file_read, frame_read, open_read}
+use Rattle.ffv1_files.specs.Noted.{IsNotedOf, NotedOf}
+use Rattle.ffv1_files.specs.Readers.{Standing}
+use Rattle.ffv1_files.specs.declared.notes.Notes.{Notes}
+use Rattle.ffv1_files.proofs.Behinds.{nothing_behind}
 use Rattle.ffv1_reads.specs.Head.{Head}
 use Rattle.ffv1_reads.specs.Known.{Known}
 use Rattle.ffv1_reads.specs.Reads as avi
@@ -28,22 +34,28 @@ use Rattle.ffv1_video.specs.declared.fault.Fault.{Fault}
 use Rattle.ffv1_video.specs.declared.fault.Fault.TheVariants as fault
 use Rattle.ffv1_unpack.specs.declared.frame_line.FrameLine.TheVariants as line
 use Rattle.ffv1_words.specs.declared.order.Choice.{Choice}
+use Rattle.ffv1_words.specs.declared.order.CoderChoice.{CoderChoice}
+use Rattle.ffv1_words.specs.declared.order.CoderChoice.TheVariants as coder_choice
 use Rattle.ffv1_unpack.specs.Check.{CheckStops, frame_count}
 use Rattle.ffv1_unpack.specs.Checked.{LastStopsBy}
+use Rattle.ffv1_unpack.specs.Containers.{IsReadAs, reads_matroska}
+use Rattle.ffv1_unpack.specs.Internal.Containers.{is_segment}
+use Rattle.ffv1_unpack.proofs.OpenedAs.{read_as}
+use Rattle.ffv1_engine.proofs.SegmentsNoted.{frames_stay, none_noted}
 use Rattle.ffv1_unpack.specs.Show.{ShowStops, StreamStopsBy, cost_text}
 use Rattle.ffv1_video.specs.Faults.{cause_of}
 use Rattle.ffv1_video.specs.Faults.Cause.{Content}
 use Rattle.ffv1_avi.specs.Written.{most, riff_size}
-use Rattle.ffv1_pack.specs.Packing.{AllShort, AreReadable, IsFor, configuration_for, packed_file, packed_frames, packed_head, said_for}
+use Rattle.ffv1_pack.specs.Packing.{AllShort, AreReadable, IsFor, coder_for, configuration_for, packed_file, packed_frames, packed_head, said_for}
 use Rattle.ffv1_unpack.specs.FrameLines.{frame_lines}
 use Rattle.ffv1_unpack.specs.Located.{LocatedFault}
 use Rattle.ffv1_video.specs.Profiles.{byte_told}
 use Rattle.ffv1_unpack.specs.Opens.{LacksOpeningBy}
 use Rattle.ffv1_unpack.specs.Play.{End, EndsWith, FaultsRead, IsFaulty, LacksStream, Played}
-use Rattle.ffv1_unpack.specs.Plays.{FileThen, GoesBy, NextEnds, NextStays, PlayStopsBy}
+use Rattle.ffv1_unpack.specs.Plays.{FileThen, GoesBy, NextEnds, NextHasFault, NextStays, PlayStopsBy, ReadsFile}
 use Rattle.ffv1_unpack.specs.Play.End.{File, Payload, Over}
 use Rattle.ffv1_engine.specs.RoundTrip.{accepted_in, HoldsBy, IsFileIn, IsNoContent, IsReadIn, IsUnpacked, WasPacked, canonical_of, text_video, video_in}
-use Rattle.ffv1_unpack.specs.Stream.{AreFrames, Frame, IsFrame, IsRead, IsStream, ReadsFile, ReadsFrames, Stream, frame_payload, payloads}
+use Rattle.ffv1_unpack.specs.Stream.{AreFrames, Frame, HoldsPayloads, IsFrame, IsStream, ReadsFrames, Stream, frame_payload, payloads}
 use Rattle.ffv1_codec.specs.Outcome.{FaultsOf}
 use Rattle.ffv1_unpack.specs.Unpack.{LacksTextIn, UnpackDone, UnpackStops}
 use Rattle.ffv1_unpack.specs.Unpacking.{UnpackingStopsBy}
@@ -53,7 +65,7 @@ use Rattle.ffv1_pack.specs.VideoReads.{IsHeadBy}
 use Rattle.ffv1_video.specs.Colours.{plain, plain_choice, shown}
 use Rattle.ffv1_engine.proofs.ColourNumbers.{plain_head_by, plain_named}
 use Rattle.ffv1_video.proofs.Depths.{all_within, eight_within}
-use Rattle.ffv1_engine.proofs.FileTurns.{Opened, Others, no_fault as no_read_fault, no_more, no_stop, one_more, opened, others}
+use Rattle.ffv1_engine.proofs.FileTurns.{Opened, Others, no_fault as no_read_fault, no_more, no_stop, none_left, one_more, opened, others}
 use Rattle.ffv1_engine.proofs.PackedFrames.{AllCoded, FrameLaws, Same, all_coded, made, no_fault, same}
 use Rattle.ffv1_engine.proofs.PackedPictures.{head_given, name_given, pictures_given, said_given}
 use Rattle.ffv1_engine.proofs.PackedText.{RecordLaws, alike_given, canonical_given, none_refused, one_stream, stream_for, stream_is, text_given, writable}
@@ -83,20 +95,44 @@ no_content fault.Read h = inr (inl refl)
 no_content fault.Write h = inr (inr refl)
 no_content f h = absurd (h refl)
 
--- if the file is known, it was read to its end
-record ReadsWhole (profile : Profile) (file : List ℕ) (new : Option (List ℕ)) (s : Stream) (frames : List Frame) : Type 0 where
+-- if the file is known, it was read to its end, and then what stands behind it
+record ReadsWhole (profile : Profile) (file : List ℕ) (new : Option (List ℕ)) (notes : Notes) (s : Stream) (frames : List Frame) : Type 0 where
+  behind : List ℕ
+  is : file_read (scope_in profile) file ≡ Ok ((s.head, payloads frames), behind)
   rest : List ℕ
-  is : file_read (scope_in profile) file ≡ Ok ((s.head, payloads frames), rest)
   left : new ≡ Some rest
+  reader : Standing
+  noted : notes_of reader behind ≡ Ok (notes, rest)
+  kind : IsReadAs (is_segment (container_of reader.place)) profile (Some file)
 
 module _ (profile : Profile) (files : FileLaws profile) where
-  whole_by : (p : Profile) (file rest : List ℕ) (s : Stream) (frames : List Frame) → IsRead p file rest s frames → ReadsWhole p file (Some rest) s frames
-  whole_by Strict file rest s frames h = record { rest = rest; is = files.is_read file s.head (payloads frames) h.0 ∙ ap (λ t. Ok ((s.head, payloads frames), t)) (sym h.1); left = refl }
-  whole_by Wide file rest s frames h = record { rest = rest; is = files.is_whole file s.head (payloads frames) rest h; left = refl }
+  whole_by : (p : Profile) (file behind : List ℕ) (s : Stream) (frames : List Frame) → HoldsPayloads p file behind s.head (payloads frames) → file_read (scope_in p) file ≡ Ok ((s.head, payloads frames), behind)
+  whole_by Strict file behind s frames h = files.is_read file s.head (payloads frames) h.0 ∙ ap (λ t. Ok ((s.head, payloads frames), t)) (sym h.1)
+  whole_by Wide file behind s frames h = files.is_whole file s.head (payloads frames) behind h
 
-  whole_of : (file : List ℕ) (new : Option (List ℕ)) (s : Stream) (frames : List Frame) → ReadsFile profile (Some file) new s frames → ReadsWhole profile file new s frames
-  whole_of file None s frames h = absurd h
-  whole_of file (Some rest) s frames h = whole_by profile file rest s frames h
+  whole_of : (file : List ℕ) (new : Option (List ℕ)) (notes : Notes) (s : Stream) (frames : List Frame) → ReadsFile profile notes (Some file) new s frames → ReadsWhole profile file new notes s frames
+  whole_of file None notes s frames h = absurd h
+  whole_of file (Some rest) notes s frames h =
+      let from = h.2.0 in
+      let last = h.2.3 in
+      let end = last.3 in
+      let same : is_segment (container_of end.1.place) ≡ is_segment (container_of from) = ap is_segment end.2 ∙ frames_stay from h.2.1 (payloads frames) last.0 last.1 last.2 in
+      record {
+        behind = h.0;
+        is = whole_by profile file h.0 s frames h.1;
+        rest = rest;
+        left = refl;
+        reader = end.1;
+        noted = end.3;
+        kind = read_as profile (Some file) (Some h.2.1) s.head from h.2.2 (is_segment (container_of end.1.place)) (sym same);
+      }
+
+-- of nothing that stands behind nothing more is left
+nothing_left : (reader : Standing) (behind : List ℕ) (notes : Notes) (rest : List ℕ) → behind ≡ [] → notes_of reader behind ≡ Ok (notes, rest) → rest ≡ []
+nothing_left reader behind notes rest none is =
+    let nothing = nothing_behind reader in
+    let both : (notes, rest) ≡ (nothing.0, []) = same_ok (notes_of reader []) _ _ (subst (λ t. notes_of reader t ≡ Ok (notes, rest)) none is) nothing.1 in
+    ap (λ (z : Notes × List ℕ). z.1) both
 
 -- if the file is known, it begins so
 record Begun (profile : Profile) (file : List ℕ) (s : Stream) (frames : List Frame) : Type 0 where
@@ -192,19 +228,34 @@ module _ (profile : Profile) (files : FileLaws profile) (frame_laws : FrameLaws)
         no_others (p ∷ ps) e = absurd (cc)
 
     -- what unpack wrote
-    pub written : (input output : Passage) (count : ℕ) → input.old ≡ Some file → UnpackDone profile input output count → IsUnpacked (shown choice v) input output count
+    pub written : (input output : Passage) (count : ℕ) (notes : Notes) → input.old ≡ Some file → UnpackDone profile input output count notes → IsUnpacked (shown choice v) input output count
     unfolding stream
-    written input output count known done =
-        let reads = subst (λ o. ReadsFile profile o input.new done.stream done.frames) known done.reads in
-        let read = whole_of profile files file input.new done.stream done.frames reads in
-        let all = all_frames done.stream done.frames read.rest done.played read.is in
+    written input output count notes known done =
+        let reads = subst (λ o. ReadsFile profile notes o input.new done.stream done.frames) known done.reads in
+        let read = whole_of profile files file input.new notes done.stream done.frames reads in
+        let all = all_frames done.stream done.frames read.behind done.played read.is in
+        let none = nothing_left read.reader read.behind notes read.rest all.3 read.noted in
         let bytes : text_of done.stream done.frames ≡ canonical_of (shown choice v) =
         ap (λ s. text_of s done.frames) all.0 ∙ canonical_given choice v.ppm v.head named a for done.frames v.pictures all.1 all.2 g.some in
         let long : length done.frames ≡ length v.pictures = sym (many (λ (f : Frame). f.planes) done.frames) ∙ ap (λ ps. length ps) all.2 in record {
-          left = read.left ∙ ap (λ t. Some t) all.3;
+          left = read.left ∙ ap (λ t. Some t) none;
           counted = done.counted ∙ ap saturated long;
           writes = subst (λ text. Appends output.old output.new text) bytes done.writes;
         }
+
+    -- and what it noted
+    pub noted_so : (input output : Passage) (count : ℕ) (notes : Notes) → input.old ≡ Some file → UnpackDone profile input output count notes → IsNotedOf (scope_in profile) file [] notes
+    noted_so input output count notes known done =
+        let left = (written input output count notes known done).left in
+        subst (λ o. NotedOf (scope_in profile) (Some file) o notes) left (subst (λ o. NotedOf (scope_in profile) o input.new notes) known done.of_file)
+
+    -- of a Segment no bytes behind it
+    pub none_behind : reads_matroska profile file ≡ true → (input output : Passage) (count : ℕ) (notes : Notes) → input.old ≡ Some file → UnpackDone profile input output count notes → notes.after ≡ None
+    none_behind first input output count notes known done =
+        let reads = subst (λ o. ReadsFile profile notes o input.new done.stream done.frames) known done.reads in
+        let read = whole_of profile files file input.new notes done.stream done.frames reads in
+        let all = all_frames done.stream done.frames read.behind done.played read.is in
+        none_noted read.reader notes read.rest (sym read.kind ∙ first) (subst (λ t. notes_of read.reader t ≡ Ok (notes, read.rest)) all.3 read.noted)
 
     -- the payload that comes next has no fault
     not_next : (ps : List Planes) (payload : List ℕ) (more : List (List ℕ)) (f : FrameFault) (tally : Tally) → AllCoded a (said_for v.head) ps →
@@ -233,6 +284,13 @@ module _ (profile : Profile) (files : FileLaws profile) (frame_laws : FrameLaws)
       -- no fault stands in the place of a frame
       never_stops : (rest : List ℕ) (f : Fault) → FaultsRead (frame_read b.to) b.at rest f → ⊥
       never_stops rest f h = no_stop files.next b.to b.at rest f first.1.more [] h first.1.read
+
+      -- nor behind them, where nothing stands
+      never_refused : (rest : List ℕ) (f : Fault) → NextHasFault f b.to b.at rest → ⊥
+      never_refused rest f (inl h) = never_stops rest f h
+      never_refused rest f (inr h) =
+          let left : h.0 ≡ [] = none_left files.next b.to b.at h.0 first.1.more [] h.1.0 first.1.read in
+          no_read_fault (notes_of h.1.1) [] rest f _ (subst (λ t. FaultsRead (notes_of h.1.1) t rest f) left h.1.3) (nothing_behind h.1.1).1
 
       -- nor does movi end before the first one
       never_empty : (rest : List ℕ) → frame_read b.to b.at ≡ Ok (None, rest) → frames ≡ [] → ⊥
@@ -269,10 +327,10 @@ module _ (profile : Profile) (files : FileLaws profile) (frame_laws : FrameLaws)
     ends_never : (new : Option (List ℕ)) (s : Stream) (frames : List Frame) (e : End) (f : Fault) → Played profile s frames → Known (Some file) new (FileThen profile s.head (payloads frames) (NextEnds e)) →
         IsFaulty s.accepted e → EndsWith frames e f → ⊥
     ends_never None s frames e f played h faulty is = h
-    ends_never (Some rest) s frames (File fault) f played h faulty is = never_stops s frames (begun profile file rest s frames (NextEnds (File fault)) h) rest fault h.3.3
+    ends_never (Some rest) s frames (File fault) f played h faulty is = never_refused s frames (begun profile file rest s frames (NextEnds (File fault)) h) rest fault h.3.3
     ends_never (Some rest) s frames (Payload payload fault tally) f played h faulty is =
         never_faulty s frames (begun profile file rest s frames (NextEnds (Payload payload fault tally)) h) played payload rest h.3.3.0 fault tally h.3.3.1 faulty
-    ends_never (Some rest) s frames Over f played h faulty is = never_empty s frames (begun profile file rest s frames (NextEnds Over) h) rest h.3.3 is.0
+    ends_never (Some rest) s frames (Over notes) f played h faulty is = never_empty s frames (begun profile file rest s frames (NextEnds (Over notes)) h) h.3.3.0 h.3.3.1.0 is.0
 
     -- and its frames say the same
     alike : (new : Option (List ℕ)) (s : Stream) (frames : List Frame) → Played profile s frames → Known (Some file) new (FileThen profile s.head (payloads frames) NextStays) → AreAlike s frames
@@ -307,7 +365,7 @@ module _ (profile : Profile) (files : FileLaws profile) (frame_laws : FrameLaws)
       unpack_refused f (inr (inl h)) = no_content f (λ e. no_goes h.stream f h.is (subst (λ why. UnpackingStopsBy (FileThen profile h.stream.head) h.stream input output f why) e h.stops))
       unpack_refused f (inr (inr h)) =
           let plays = h.1.all.unpacks.plays in
-          absurd (no_end h.1.stream [] Over f (record { stream = h.1.is; decoded = plays.goes.are }) plays.goes.has tt (refl, h.0))
+          absurd (no_end h.1.stream [] (Over h.1.notes) f (record { stream = h.1.is; decoded = plays.goes.are }) plays.goes.has tt (refl, h.0))
 
       -- check
       no_check_fault : (s : Stream) (lines : List Frame → List ℕ) (Stops : Fault → ℕ → Type 0) (byte : Bool) (f : Fault) → IsStream profile s →
@@ -317,7 +375,7 @@ module _ (profile : Profile) (files : FileLaws profile) (frame_laws : FrameLaws)
       no_last_fault : (place : Bool) (f : Fault) → LastStopsBy IsFrame frame_payload (frame_lines line.Sizes) frame_count profile place input output f Content → ⊥
       no_last_fault place f h =
           let over = h.1.over in
-          no_end h.1.stream [] Over f (record { stream = over.is; decoded = over.goes.are }) over.goes.has tt (refl, h.0)
+          no_end h.1.stream [] (Over over.notes) f (record { stream = over.is; decoded = over.goes.are }) over.goes.has tt (refl, h.0)
 
       pub check_refused : (place : Bool) (f : Fault) → CheckStops profile place input output f → IsNoContent f
       check_refused place f (inl h) =
@@ -419,10 +477,20 @@ pub same_ppm : (packing : Profile) (choice : Choice) (text : List ℕ) (w : WasP
 same_ppm packing choice text w is = ppm_by w.packs.video.ppm text (video_in w).head w.packs.video.pictures is
 
 -- what passes the checks of `Wide`, and whose edges pass in a profile, passes the checks of that
-passes_by : (p : RecordProfile) (c : Configuration) → PassesAll of_record.Wide checks c → PassesEdges p c → PassesAll p checks c
-passes_by of_record.Strict c passes edges =
-    (passes.0, (passes.1.0, (passes.1.1.0, (passes.1.1.1.0, (passes.1.1.1.1.0, (passes.1.1.1.1.1.0, (edges, tt)))))))
-passes_by of_record.Wide c passes edges = passes
+passes_by : (p : RecordProfile) (c : Configuration) → PassesAll of_record.Wide checks c → PassesEdges p c → IsTrue (has_coder p c) → PassesAll p checks c
+passes_by of_record.Strict c passes edges coder =
+    (passes.0, (passes.1.0, (passes.1.1.0, (passes.1.1.1.0, (passes.1.1.1.1.0, (passes.1.1.1.1.1.0, (edges, (coder, tt))))))))
+passes_by of_record.Wide c passes edges coder = passes
+
+-- what is packed is range coded
+has_range : (p : RecordProfile) (c : CoderChoice) (depth : ℕ) → IsTrue (nat_le (least_coder p) (type_of (coder_for c)) && suits_depth (coder_for c) depth)
+has_range of_record.Strict coder_choice.Standard depth = refl
+has_range of_record.Strict coder_choice.Carried depth = refl
+has_range of_record.Wide coder_choice.Standard depth = refl
+has_range of_record.Wide coder_choice.Carried depth = refl
+
+coder_passes : (p : RecordProfile) (choice : Choice) (ppm : Bool) (h : SaidHead) (c : Configuration) → c ≡ configuration_for choice ppm h → IsTrue (has_coder p c)
+coder_passes p choice ppm h c is = subst (λ (k : Configuration). IsTrue (has_coder p k)) (sym is) (has_range p choice.coder h.depth)
 
 -- its frames are read in the profile that it was packed in
 frames_are_read : (packing : Profile) (choice : Choice) (text : List ℕ) (w : WasPacked packing choice text) → AreReadable (record_profile packing) (packed_frames (video_in w) (accepted_in w))
@@ -441,7 +509,8 @@ read_in packing profile choice text w = (
   },
   λ eight edges readable. record {
     deep = eight_within profile w.packs.video.head.depth eight;
-    passes = passes_by (record_profile profile) (accepted_in w).configuration w.packs.packable.for.accepted.passes edges;
+    passes = passes_by (record_profile profile) (accepted_in w).configuration w.packs.packable.for.accepted.passes edges
+        (coder_passes (record_profile profile) choice w.packs.video.ppm w.packs.video.head (accepted_in w).configuration w.packs.packable.for.configuration);
     readable = readable;
   },
 )

@@ -21,6 +21,7 @@
 
 pub mod round_trip;
 
+pub use ffv1_files::Notes;
 pub use ffv1_pack::{
     Coded, Packed, PackedMatroska, code_plane, framemd5_text, laws, pack, pack_matroska, trial,
 };

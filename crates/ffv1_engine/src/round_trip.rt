@@ -1,6 +1,7 @@
 //! What is packed is unpacked: the law that joins both.
 
-ghost use Rattle.std.specs.Prelude.{◌≡◌, ◌<◌, ℕ, Bool, List, [], Ok, Some, length, false, true};
+ghost use Rattle.std.specs.Prelude.{◌≡◌, ◌<◌, ℕ, Bool, List, [], None, Ok, Some, length, false};
+ghost use Rattle.std.specs.Prelude.{true};
 ghost use Rattle.clap.specs.Words.{Row};
 ghost use Rattle.ffv1_wire.specs.Passage.{Passage};
 ghost use Rattle.ffv1_y4m.specs.VideoHead.{IsRatio};
@@ -10,8 +11,10 @@ ghost use Rattle.ffv1_words.specs.declared.order.Choice.{Choice};
 ghost use Rattle.ffv1_unpack.specs.Check.{CheckStops};
 ghost use Rattle.ffv1_words.specs.Order.{NamesChoice};
 ghost use Rattle.ffv1_unpack.specs.Show.{ShowStops};
-ghost use Rattle.ffv1_record.specs.Accepted.{Accepted};
+ghost use Rattle.ffv1_record.specs.Accepted.{Accepted, PassesEdges};
 ghost use Rattle.ffv1_files.specs.Files.{file_read};
+ghost use Rattle.ffv1_files.specs.Noted.{IsNotedOf};
+ghost use Rattle.ffv1_files.specs.declared.notes.Notes.{Notes};
 ghost use Rattle.ffv1_files.specs.declared.container.Scope.TheVariants.{Whole};
 ghost use Rattle.ffv1_video.specs.declared.profile.Profile.TheVariants.{Strict, Wide};
 ghost use Rattle.ffv1_engine.specs.MatroskaRoundTrip.{HoldsMatroska, WasPackedMatroska};
@@ -19,13 +22,11 @@ ghost use Rattle.ffv1_video.specs.Colours.{IsByteColour, shown};
 ghost use Rattle.ffv1_engine.specs.MatroskaRoundTrip.{matroska_file, matroska_text, matroska_video};
 ghost use Rattle.ffv1_pack.specs.PackMatroska.{HasClusters, begun_file};
 ghost use Rattle.ffv1_pack.specs.Packing.{AreReadable, packed_frames, packed_head};
-ghost use Rattle.ffv1_engine.specs.RoundTrip.{IsReadIn};
+ghost use Rattle.ffv1_engine.specs.RoundTrip.{IsReadIn, text_video, video_in};
 ghost use Rattle.ffv1_engine.specs.RoundTrip.{Holds, IsNoContent, IsUnpacked, WasPacked};
 ghost use Rattle.ffv1_engine.specs.RoundTrip.{accepted_in, canonical_of, file_in, read_again};
-ghost use Rattle.ffv1_engine.specs.RoundTrip.{text_video, video_in};
 ghost use Rattle.ffv1_unpack.specs.Unpack.{UnpackDone, UnpackStops};
-ghost use Rattle.ffv1_video.specs.Profiles.{greatest_depth, record_profile};
-ghost use Rattle.ffv1_record.specs.Accepted.{PassesEdges};
+ghost use Rattle.ffv1_video.specs.Profiles.{greatest_depth, record_profile, scope_in};
 ghost use Rattle.ffv1_video.specs.Video.{IsReadVideo, IsVideo, Video};
 
 use ffv1_avi::laws as avi_laws;
@@ -56,9 +57,11 @@ pub fn named_colour_fits_a_file()
 /// all of it and written the canonical text of the video without its range and siting, of which
 /// an AVI says nothing: a text of that video, and for PPM whose headers are three lines each, as
 /// they are at `Strict`, the very text that was packed. It is the canonical text of all that was
-/// packed if `pack` answers that no colour is lost. If `unpack`, `check` or `show` is refused on
-/// it, at such a profile, that is for `OutOfMemory` (2), `Read` (56) or `Write` (57), and for no
-/// fault of the file.
+/// packed if `pack` answers that no colour is lost. What it notes is what is noted of the bytes of
+/// the file: at `Strict` nothing, and of Matroska no bytes behind it.
+///
+/// If `unpack`, `check` or `show` is refused on it, at such a profile, that is for `OutOfMemory`
+/// (2), `Read` (56) or `Write` (57), and for no fault of the file.
 ///
 /// The profile that a text was packed in reads its depth, its grid and its frames. `Wide` reads
 /// those of each text that was packed. `Strict` reads those of 8 bits whose slices share no chroma
@@ -83,10 +86,15 @@ pub fn packed_is_unpacked()
         (w : WasPacked packing choice text) → IsReadIn profile (video_in w) (accepted_in w) →
         Holds profile (file_in w) (video_in w) }
     ensures written { (packing profile : Profile) (choice : Choice) (text : List ℕ)
-        (w : WasPacked packing choice text) (input output : Passage) (count : ℕ) →
-        IsReadIn profile (video_in w) (accepted_in w) →
-        input.old ≡ Some (file_in w) → UnpackDone profile input output count →
+        (w : WasPacked packing choice text) (input output : Passage) (count : ℕ)
+        (notes : Notes) → IsReadIn profile (video_in w) (accepted_in w) →
+        input.old ≡ Some (file_in w) → UnpackDone profile input output count notes →
         IsUnpacked (video_in w) input output count }
+    ensures noted { (packing profile : Profile) (choice : Choice) (text : List ℕ)
+        (w : WasPacked packing choice text) (input output : Passage) (count : ℕ)
+        (notes : Notes) → IsReadIn profile (video_in w) (accepted_in w) →
+        input.old ≡ Some (file_in w) → UnpackDone profile input output count notes →
+        IsNotedOf (scope_in profile) (file_in w) [] notes }
     ensures refused { (packing profile : Profile) (choice : Choice) (text : List ℕ)
         (w : WasPacked packing choice text) (input output : Passage) (f : Fault) →
         IsReadIn profile (video_in w) (accepted_in w) →
@@ -117,9 +125,15 @@ pub fn packed_is_unpacked()
         (w : WasPackedMatroska packing choice text) →
         HoldsMatroska (matroska_file w) (matroska_video w) }
     ensures matroska_written { (packing : Profile) (choice : Choice) (text : List ℕ)
-        (w : WasPackedMatroska packing choice text) (input output : Passage) (count : ℕ) →
-        input.old ≡ Some (matroska_file w) → UnpackDone Wide input output count →
+        (w : WasPackedMatroska packing choice text) (input output : Passage) (count : ℕ)
+        (notes : Notes) → input.old ≡ Some (matroska_file w) →
+        UnpackDone Wide input output count notes →
         IsUnpacked (matroska_video w) input output count }
+    ensures matroska_noted { (packing : Profile) (choice : Choice) (text : List ℕ)
+        (w : WasPackedMatroska packing choice text) (input output : Passage) (count : ℕ)
+        (notes : Notes) → input.old ≡ Some (matroska_file w) →
+        UnpackDone Wide input output count notes →
+        IsNotedOf Whole (matroska_file w) [] notes × (notes.after ≡ None) }
     ensures matroska_refused { (packing : Profile) (choice : Choice) (text : List ℕ)
         (w : WasPackedMatroska packing choice text) (input output : Passage) (f : Fault) →
         input.old ≡ Some (matroska_file w) → UnpackStops Wide input output f → IsNoContent f }

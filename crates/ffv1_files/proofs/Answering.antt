@@ -1,13 +1,14 @@
 -- What the calls on the readers of the containers answer, where the bytes are known.
-use Rattle.std.proofs.Common.{◌≡◌, ◌⊎◌, refl, ℕ, Bool, true, false, Option, Some, None, Result, Ok, Err, List, [], ◌++◌, inl, inr, ap, sym, ◌∙◌, append-nil}
+use Rattle.std.proofs.Common.{◌≡◌, ◌⊎◌, refl, ℕ, Option, Some, None, Result, Ok, Err, List, [], ◌++◌, inl, inr, ap, sym, ◌∙◌, append-nil}
 use Rattle.std.specs.Io.KnownBytes.{IsAtEnd}
 use Rattle.ffv1_wire.specs.Passage.{Passage}
-use Rattle.ffv1_reads.specs.Ends.{Ends, FaultsAtEnd, Halts, ReadOrEnds, ReadOrNone, ReadOrOver, RefusedOrFaults, RefusedOrNone, Stops}
+use Rattle.ffv1_reads.specs.Ends.{Ends, FaultsAtEnd, ReadOrEnds, ReadOrNone, ReadOrOver, RefusedOrEnds, RefusedOrFaults, RefusedOrNone, Stops}
 use Rattle.ffv1_reads.specs.Known.{Known}
 use Rattle.ffv1_reads.specs.Reads.{Faults, Kept, Lacks, Met, Read, Reading, Refused, Short, Stop, Want, Wants, read_on, given, ◌>>=◌}
 use Rattle.ffv1_reads.specs.declared.fault.FileFault.{FileFault}
 use Rattle.ffv1_reads.specs.declared.fault.FileFault.TheVariants as fault
 use Rattle.ffv1_files.specs.Answers.{Endings, FaultsRead, ReadFails, ReadsAs, SoFar, StopsReading, WantsMore, nothing_more}
+use Rattle.ffv1_files.specs.Behind.{any_value}
 
 pub known_map : (old new : Option (List ℕ)) (P Q : List ℕ → List ℕ → Type 0) → ((text rest : List ℕ) → P text rest → Q text rest) → Known old new P → Known old new Q
 known_map None new P Q f h = tt
@@ -112,6 +113,20 @@ module _ {X : Type 0} (reading : Reading (Option X)) (p : Passage) where
   none_stops fault.Write h = absurd h
   none_stops fault.Rate h = absurd h
   none_stops f h = refused_stops reading p nothing_more f h
+
+-- where the end of the input may be any answer
+module _ {X : Type 0} (reading : Reading X) (p : Passage) where
+  pub ends_known : (x : X) → ReadOrEnds reading p.old p.new x → Known p.old p.new (λ text rest. reading text ≡ Ok (x, rest))
+  ends_known x (inl read) = just_read reading p.old p.new x read
+  ends_known x (inr ends) = over_known reading (λ x. Unit {0}) p.old p.new x (inr (ends, tt))
+
+  pub ends_stops : (f : FileFault) → RefusedOrEnds reading p.old p.new p.before p.after f → StopsReading any_value reading p f
+  ends_stops fault.TooLarge h = absurd h
+  ends_stops fault.Read (same, inl wants) = (same, wants_known reading any_value p.old p.new wants)
+  ends_stops fault.Read (same, inr (x, stops)) = (same, stops_known reading any_value p.old p.new x tt stops)
+  ends_stops fault.Write h = absurd h
+  ends_stops fault.Rate h = absurd h
+  ends_stops f h = refused_stops reading p any_value f h
 
 -- what is made of what was read
 module _ {X Y : Type 0} (reading : Reading X) (make : X → Y) where

@@ -6,3 +6,8 @@ pub mod Nexts
 mod OpenedRooms
 mod Locations
 mod ItemNexts
+pub mod Behinds
+mod Noted
+mod NotedLaws
+mod NotedOnce
+mod NotedSegments

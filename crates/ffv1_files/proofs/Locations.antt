@@ -43,10 +43,10 @@ opening_with {to = to} first old mid new before now after f same gives h =
 
 -- readers of their containers
 abbrev pub in_avi : avi_reader.Standing → Standing
-in_avi r = record { head = r.head; place = InAvi r.place; offset = r.offset; fault = r.fault; room = r.room }
+in_avi r = record { head = r.head; place = InAvi r.place; offset = r.offset; fault = r.fault; room = r.room; end = 0; cued = false; after = r.after }
 
 abbrev pub in_matroska : matroska_reader.Standing → Standing
-in_matroska r = record { head = r.track.head; place = InMatroska r.segment r.track.numbers r.place; offset = r.offset; fault = r.fault; room = r.room }
+in_matroska r = record { head = r.track.head; place = InMatroska r.segment r.track.numbers r.place; offset = r.offset; fault = r.fault; room = r.room; end = r.end; cued = r.cued; after = None }
 
 -- that were opened
 avi_begins : (extent : Extent) (text left : Option (List ℕ)) (r : avi_reader.Standing) (count : ℕ) → ReadsWhole (avi.spot_taken extent) avi.Start text left (avi.BeforeFrames r.head r.place) count → r.offset ≡ offset_after 0 count → AviReached extent text left r.head r.place r.offset
@@ -99,7 +99,7 @@ first_stopped old new before after kept counted =
 goes_on : (before after more most : ℕ) → min (min (0 + (before + after)) most + more) most ≡ min (0 + (before + (after + more))) most
 goes_on before after more most = grind arith
 
-counts_on : {old new : ℕ} (before after more : ℕ) → old ≡ offset_after 0 (before + after) → Counts old new more → new ≡ offset_after 0 (before + (after + more))
+pub counts_on : {old new : ℕ} (before after more : ℕ) → old ≡ offset_after 0 (before + after) → Counts old new more → new ≡ offset_after 0 (before + (after + more))
 counts_on before after more is counts = counts (before + after) (is ∙ zero (before + after) (2 ^ 64 - 1)) ∙ all (2 ^ 64 - 1)
   where
     zero : (n most : ℕ) → min (0 + n) most ≡ min n most
@@ -110,7 +110,7 @@ counts_on before after more is counts = counts (before + after) (is ∙ zero (be
 
 -- elements more, and the one that comes next was refused
 module _ {S T : Type 0} {layout : Layout S T} where
-  through_on : {text left new : Option (List ℕ)} {place next : T} {offset last : ℕ} (more : ℕ) (h : ReadsThrough layout text left place offset) → ReadsWhole layout.frames place left new next more → last ≡ offset_after 0 (h.before + (h.after + more)) → ReadsThrough layout text new next last
+  pub through_on : {text left new : Option (List ℕ)} {place next : T} {offset last : ℕ} (more : ℕ) (h : ReadsThrough layout text left place offset) → ReadsWhole layout.frames place left new next more → last ≡ offset_after 0 (h.before + (h.after + more)) → ReadsThrough layout text new next last
   through_on more h whole is = record { first = h.first; between = h.between; before = h.before; after = h.after + more; opened = h.opened; framed = reads_then h.framed whole; offset_is = is }
 
   stops_on : {text : Option (List ℕ)} {place to : T} {offset last : ℕ} (p : Passage) (f : FileFault) (more : ℕ) (h : ReadsThrough layout text p.old place offset) → StopsAfter layout.frames place p f to more → last ≡ offset_after 0 (h.before + (h.after + more)) → StopsThrough layout (record p { old = text }) f last

@@ -1,5 +1,5 @@
 -- Files are opened, of either container.
-use Rattle.std.proofs.Common.{◌≡◌, ◌≢◌, ◌==◌, refl, ℕ, true, false, Option, Some, None, Err, List, [], ap}
+use Rattle.std.proofs.Common.{◌≡◌, ◌≢◌, ◌==◌, refl, ℕ, false, Option, Some, None, Err, List, [], ap}
 use Rattle.std.proofs.lemmas.Bool.{ne_eqb}
 use Rattle.ffv1_wire.specs.Passage.{Passage, between}
 use Rattle.ffv1_wire.specs.Reads.{GivesByte}

@@ -3,6 +3,8 @@ pub mod Files
 pub mod Answers
 pub mod Endings
 pub mod Readers
+pub mod Behind
+pub mod Noted
 pub mod Whole
 pub mod Offsets
 pub mod Items

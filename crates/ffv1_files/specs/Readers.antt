@@ -3,6 +3,7 @@ use Rattle.std.specs.Prelude.{◌≡◌, ◌||◌, Bool, true, false, List, ℕ,
 use Rattle.std.specs.Prelude.{Err}
 use Rattle.ffv1_reads.specs.Head.{Head}
 use Rattle.ffv1_reads.specs.declared.fault.FileFault.{FileFault}
+use Rattle.ffv1_avi.specs.Places.{extent_of}
 use Rattle.ffv1_avi.specs.Readers as avi
 use Rattle.ffv1_matroska.specs.Readers as matroska
 use Rattle.ffv1_files.specs.declared.container.Scope.{Scope}
@@ -12,13 +13,18 @@ use Rattle.ffv1_files.specs.declared.reader.Inner.TheVariants as inner
 use Rattle.ffv1_files.specs.Places.{InAvi, InMatroska, Place}
 
 -- the head of its file, where it stands in that, how many bytes come before, the fault that it has
--- met, and for how many bytes its record has room
+-- met, for how many bytes its record has room; of a Segment how many bytes come before its end, and
+-- whether Cues came after the last Cluster so far; and of an AVI, after its end, how many bytes
+-- come before others that stand behind its last RIFF
 pub record Standing : Type 0 where
   pub head : Head
   pub place : Place
   pub offset : ℕ
   pub fault : Option FileFault
   pub room : ℕ
+  pub end : ℕ
+  pub cued : Bool
+  pub after : Option ℕ
 
 abbrev pub opened_at : Standing → Head × Place
 opened_at r = (r.head, r.place)
@@ -46,7 +52,7 @@ is_opening_fault scope.Whole f = avi.is_opening_fault f || matroska.is_opening_f
 
 -- and those that reading a frame has
 abbrev pub is_frame_fault : Place → FileFault → Bool
-is_frame_fault (InAvi place) f = avi.is_frame_fault f
+is_frame_fault (InAvi place) f = avi.is_frame_fault (extent_of place) f
 is_frame_fault (InMatroska segment track place) f = matroska.is_frame_fault f
 
 -- by the reader of its container
@@ -57,6 +63,9 @@ standing_of (inner.Avi r) = record {
   offset = r.offset;
   fault = r.fault;
   room = r.room;
+  end = 0;
+  cued = false;
+  after = r.after;
 }
 standing_of (inner.Matroska r) = record {
   head = r.track.head;
@@ -64,4 +73,7 @@ standing_of (inner.Matroska r) = record {
   offset = r.offset;
   fault = r.fault;
   room = r.room;
+  end = r.end;
+  cued = r.cued;
+  after = None;
 }

@@ -1,13 +1,14 @@
 -- Files that are read whole, by their chunks or their elements.
-use Rattle.std.specs.Prelude.{◌≡◌, ◌⊎◌, ℕ, List, [], true}
-use Rattle.ffv1_avi.specs.Riffs.{RiffFile}
+use Rattle.std.specs.Prelude.{◌≡◌, ◌⊎◌, ℕ, List, true}
+use Rattle.ffv1_avi.specs.Behind.{RiffFileThen}
 use Rattle.ffv1_matroska.specs.MatroskaFiles.{MatroskaFile}
 use Rattle.ffv1_reads.specs.Head.{Head}
 use Rattle.ffv1_files.specs.Files.{is_matroska}
 
--- an AVI with these frames in every RIFF, after which nothing stands; or a Matroska file with them,
--- which begins with its first byte, and after whose Segment this stands
+-- an AVI with these frames in every RIFF, behind which no other file begins, and of what stands
+-- there this was not looked at; or a Matroska file with them, which begins with its first byte, and
+-- after whose Segment this stands
 abbrev pub IsWhole : List ℕ → Head → List (List ℕ) → List ℕ → Type 0
 IsWhole file head frames rest =
-    (RiffFile file head frames × (rest ≡ []))
+    RiffFileThen file head frames rest
     ⊎ ((is_matroska file ≡ true) × ((is : MatroskaFile file head frames) × (is.rest ≡ rest)))

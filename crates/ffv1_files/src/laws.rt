@@ -1,19 +1,29 @@
 //! Laws of files: what is read is a file, by its chunks or its elements, such a file is read, and
 //! so is an AVI that was written.
 
-ghost use Rattle.std.specs.Prelude.{◌≡◌, ℕ, List, [], Ok};
+ghost use Rattle.std.specs.Prelude.{◌≡◌, ◌<◌, ℕ, Bool, false, not, List, [], length, Option, Some};
+ghost use Rattle.std.specs.Prelude.{None, Ok};
 ghost use Rattle.ffv1_avi.specs.Chunks.{AviFile, IsWritable};
+ghost use Rattle.ffv1_avi.specs.Places.{extent_of};
+ghost use Rattle.ffv1_avi.specs.declared.place.Extent.TheVariants.{EveryRiff};
+ghost use Rattle.ffv1_avi.specs.declared.place.Place.{Place as AviPlace};
+ghost use Rattle.ffv1_matroska.specs.declared.place.Place.{Place as MatroskaPlace};
+ghost use Rattle.ffv1_matroska.specs.declared.track.TrackNumbers.{TrackNumbers};
 ghost use Rattle.ffv1_avi.specs.Written.{file_of};
 ghost use Rattle.ffv1_reads.specs.Head.{Head, without_colour};
 ghost use Rattle.ffv1_reads.specs.Reads.{read_on};
 ghost use Rattle.ffv1_files.specs.declared.container.Scope.TheVariants as scope;
 ghost use Rattle.ffv1_files.specs.declared.container.Scope.{Scope};
+ghost use Rattle.ffv1_files.specs.Behind.{behind_after, notes_read};
+ghost use Rattle.ffv1_files.specs.declared.notes.Notes.{Notes};
 ghost use Rattle.ffv1_files.specs.Files.{file_read, frame_read, frames_read, more_frames};
+ghost use Rattle.ffv1_files.specs.Noted.{RiffsEnd, SegmentEnds, bytes_before, no_notes};
 ghost use Rattle.ffv1_files.specs.Whole.{IsWhole};
-ghost use Rattle.ffv1_files.specs.Places.{Place, extent_in};
+ghost use Rattle.ffv1_files.specs.Places.{InAvi, InMatroska, Place, extent_in};
 
 use ffv1_avi::laws as avi_laws;
 use ffv1_matroska::laws as matroska_laws;
+use ffv1_reads::laws as read_laws;
 
 /// The frames are the next one and those after it.
 pub fn frames_come_in_turn()
@@ -25,8 +35,9 @@ pub fn frames_come_in_turn()
 }
 
 /// What is read is a file of that head and those frames: up to the end of the first `movi` an AVI
-/// by its chunks, after which this is left; and all of it an AVI by the chunks of every RIFF, after
-/// which nothing is left, or a Matroska file by its elements, after whose Segment this is left.
+/// by its chunks, after which this is left; and all of it an AVI by the chunks of every RIFF,
+/// behind which no other file begins, and of what stands there this was not looked at, or a
+/// Matroska file by its elements, after whose Segment this is left.
 pub fn what_is_read_is_a_file()
     ensures first { (file : List ℕ) (head : Head) (frames : List (List ℕ)) (rest : List ℕ) →
         file_read scope.FirstMovi file ≡ Ok ((head, frames), rest) →
@@ -51,6 +62,60 @@ pub fn file_is_read_as_its_frames()
     avi_laws::file_is_read_as_its_frames();
     matroska_laws::file_is_read_as_its_frames();
 }
+
+/// If no bytes are noted behind a file, and no other file was met there, none stand there: the
+/// input has ended where the frames of an AVI did, and behind a Segment that has a size nothing
+/// comes.
+pub fn no_bytes_noted_are_none()
+    ensures avi { (from : AviPlace) (text : List ℕ) (new : Option (List ℕ))
+        (before failed : ℕ) (was : Option ℕ) → extent_of from ≡ EveryRiff →
+        behind_after (InAvi from) before was (record {
+          old = Some text;
+          new = new;
+          before = failed;
+          after = failed;
+        }) (Ok false) None → new ≡ Some [] }
+    ensures matroska { (size end : ℕ) (track : TrackNumbers) (place : MatroskaPlace) (cued : Bool)
+        (text rest : List ℕ) (notes : Notes) →
+        notes_read (InMatroska (Some size) track place) end cued None text ≡ Ok (notes, rest) →
+        notes.after ≡ None → text ≡ [] }
+{
+    avi_laws::no_bytes_told_are_none();
+    read_laws::what_stands_behind_is_known();
+}
+
+/// What is noted of a whole file says no more than its end does: nothing of an AVI behind which no
+/// bytes stand, nor of a Segment of known size behind which none do. Of one of unknown size it is
+/// whether Cues came after its last Cluster, and never bytes behind it. If bytes stand behind an
+/// AVI, it is noted how many come before them.
+pub fn notes_say_what_the_end_leaves()
+    ensures avi { (file rest : List ℕ) (notes : Notes) (is : RiffsEnd file rest notes) →
+        is.behind ≡ [] → notes ≡ no_notes }
+    ensures others { (file rest : List ℕ) (notes : Notes) (is : RiffsEnd file rest notes) →
+        0 < length is.behind → (notes.is_open ≡ false)
+        × (notes.after ≡ Some (bytes_before file is.behind)) }
+    ensures sized { (file rest : List ℕ) (notes : Notes) (is : SegmentEnds file rest notes)
+        (size : ℕ) → is.opened.segment ≡ Some size → is.behind ≡ [] → notes ≡ no_notes }
+    ensures behind { (file rest : List ℕ) (notes : Notes) (is : SegmentEnds file rest notes)
+        (size : ℕ) → is.opened.segment ≡ Some size → 0 < length is.behind →
+        (notes.is_open ≡ false)
+        × (notes.after ≡ Some (bytes_before file is.behind)) }
+    ensures unknown { (file rest : List ℕ) (notes : Notes) (is : SegmentEnds file rest notes) →
+        is.opened.segment ≡ None → (notes.is_open ≡ not is.cued) × (notes.after ≡ None)
+        × (rest ≡ is.behind) }
+{
+    read_laws::what_stands_behind_is_known();
+}
+
+/// What is noted of a file is told by its bytes, and so is what is left behind those that were
+/// looked at.
+pub fn a_file_is_noted_in_one_way()
+    ensures avi { (file rest left : List ℕ) (notes others : Notes) → RiffsEnd file rest notes →
+        RiffsEnd file left others → (notes ≡ others) × (rest ≡ left) }
+    ensures matroska { (file rest left : List ℕ) (notes others : Notes) →
+        SegmentEnds file rest notes → SegmentEnds file left others →
+        (notes ≡ others) × (rest ≡ left) }
+{}
 
 /// An AVI that was written to be read so far is read back; it says no colours.
 pub fn written_avi_is_read_back()

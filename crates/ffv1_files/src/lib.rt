@@ -4,20 +4,24 @@
 //! `FileReader::open` looks at the first byte of a file, and reads it up to where its frames begin;
 //! then `FileReader::head` tells its head, `FileReader::container` what it is, and each
 //! `FileReader::next_frame` gives the next frame, until it answers false. A reader holds no input,
-//! each call is lent the same one. `laws` says that what is read is a file by its chunks or its
+//! each call is lent the same one. Then `FileReader::look_behind` says what stands behind its end,
+//! and what that leaves in doubt. `laws` says that what is read is a file by its chunks or its
 //! elements, and that such a file is read.
 //!
 //! ```text
 //! let mut reader = FileReader::open(rt.alloc(), Scope::Whole, &mut input)?;
 //! let mut frame = Vec::new(rt.alloc());
 //! while reader.next_frame(&mut input, &mut frame)? { .. }
+//! let notes = reader.look_behind(&mut input)?;
 //! ```
 #![tactic(auto)]
 
 mod container;
 pub mod laws;
+mod notes;
 mod reader;
 
 pub use container::{Container, Scope};
 pub use ffv1_matroska::{Course, Item};
+pub use notes::Notes;
 pub use reader::FileReader;

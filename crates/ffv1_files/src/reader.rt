@@ -12,15 +12,21 @@ ghost use Rattle.ffv1_files.specs.declared.container.Container.TheVariants as co
 ghost use Rattle.ffv1_files.specs.declared.container.Scope.{Scope};
 ghost use Rattle.ffv1_files.specs.declared.container.Scope.TheVariants.{FirstMovi, Whole};
 ghost use Rattle.ffv1_files.specs.Answers.{FileAnswers};
+ghost use Rattle.std.specs.Prelude.{if◌then◌else◌};
+ghost use Rattle.ffv1_files.specs.Behind.{BehindAfter, CuedAfter, EndStays, EndsThere, any_value};
+ghost use Rattle.ffv1_files.specs.Behind.{is_behind_fault, notes_of, notes_read};
+ghost use Rattle.ffv1_files.specs.Noted.{NotedOf, NotesEnd, NotesNext, NotesReached};
+ghost use Rattle.ffv1_files.specs.declared.notes.Notes.{Notes};
 ghost use Rattle.ffv1_files.specs.Files.{frame_read, open_read};
 ghost use Rattle.ffv1_files.specs.Items.{ItemAnswers, avi_answer, course_of, item_read};
 ghost use Rattle.ffv1_files.specs.Offsets.{LocatedNext, Reached, StopsAt};
 ghost use Rattle.ffv1_files.specs.Endings.{endings_from, opening_endings};
-ghost use Rattle.ffv1_files.specs.Places.{amount, container_of, most_bytes, most_in};
+ghost use Rattle.ffv1_files.specs.Places.{InMatroska, amount, container_of, most_bytes, most_in};
 ghost use Rattle.ffv1_files.specs.Readers.{StandsAfter, is_frame_fault, is_opening_fault, next_of};
 ghost use Rattle.ffv1_files.specs.Readers.{Leaves, opened_at};
 
 use crate::container::{Container, Scope};
+use crate::notes::Notes;
 use ffv1_avi::{AviReader, Extent};
 use ffv1_matroska::{Course, Item, MatroskaReader};
 use ffv1_reads::{FileFault, FileHead};
@@ -73,6 +79,7 @@ impl<A: Allocator + Copy> FileReader<A> {
         ensures own { IfErr result (λ f. is_opening_fault scope f ≡ true) }
         ensures room { IfOk result (λ r. RoomRead (R.remaining input.old) (R.remaining input.new) 0
             r.room) }
+        ensures untold { IfOk result (λ r. r.after ≡ None) }
     {
         let mut offset = 0;
         FileReader::open_located(alloc, scope, input, &mut offset)
@@ -101,6 +108,11 @@ impl<A: Allocator + Copy> FileReader<A> {
             (Reached scope (R.remaining input.old) (R.remaining input.new)) }
         ensures stopped { IfErr result (λ f. StopsAt scope
             (passage R.remaining R.failures input.old input.new) f offset.new) }
+        ensures ends { IfOk result EndsThere }
+        ensures uncued { IfOk result (λ r. r.cued ≡ false) }
+        ensures untold { IfOk result (λ r. r.after ≡ None) }
+        ensures noted { IfOk result (NotesReached scope (R.remaining input.old)
+            (R.remaining input.new)) }
     {
         // All arms are written out, so that the clauses are proved by arm.
         match scope {
@@ -141,6 +153,9 @@ fn open_whole<R: ByteIn, A: Allocator + Copy>(
     ensures located { IfOk result (Reached Whole (R.remaining input.old) (R.remaining input.new)) }
     ensures stopped { IfErr result (λ f. StopsAt Whole
         (passage R.remaining R.failures input.old input.new) f offset.new) }
+    ensures ends { IfOk result EndsThere }
+    ensures uncued { IfOk result (λ r. r.cued ≡ false) }
+    ensures untold { IfOk result (λ r. r.after ≡ None) }
 {
     *offset = 0;
     let Ok(first) = read_byte(input) else {
@@ -195,6 +210,17 @@ impl<A: Allocator> FileReader<A> {
         }
     }
 
+    /// The number of bytes of the file before the end of its Segment, if it is Matroska and the
+    /// size of that is known. No greater than 2^64 - 1.
+    pub fn end(&self) -> u64
+        ensures { result ≡ self.now.end }
+    {
+        match &self.inner {
+            Inner::Avi(_) => 0,
+            Inner::Matroska(reader) => reader.end(),
+        }
+    }
+
     /// Reads the next frame in place of what the vector has, and answers true; or false at the end,
     /// where the vector is then empty, as `AviReader::next_frame` and `MatroskaReader::next_frame`
     /// do, with their faults and their room. The input has to be the one that the reader was opened
@@ -232,10 +258,45 @@ impl<A: Allocator> FileReader<A> {
             Reached scope text (R.remaining input.old) self.old →
             LocatedNext scope text (passage R.remaining R.failures input.old input.new) result
             self.new }
+        ensures stays { EndStays self.old self.new }
+        ensures ends { EndsThere self.old → IfOk result (λ more. more ≡ true → EndsThere self.new) }
+        ensures cued { self.old.fault ≡ None → CuedAfter self.old
+            (passage R.remaining R.failures input.old input.new) result self.new }
+        ensures behind { self.old.fault ≡ None → BehindAfter self.old
+            (passage R.remaining R.failures input.old input.new) result self.new }
+        ensures noted { self.old.fault ≡ None → (scope : Scope) (text : Option (List ℕ)) →
+            Reached scope text (R.remaining input.old) self.old →
+            NotesReached scope text (R.remaining input.old) self.old →
+            NotesNext scope text (passage R.remaining R.failures input.old input.new) result
+            self.new }
     {
         match &mut self.inner {
             Inner::Avi(reader) => reader.next_frame(input, frame),
             Inner::Matroska(reader) => reader.next_frame(input, frame),
+        }
+    }
+
+    /// Looks at what stands behind the file, once `next_frame` has answered false, and tells what
+    /// its end leaves in doubt. Behind a Segment of known size four bytes are read, or as many as
+    /// there are; behind one of unknown size nothing stands, and nothing is read. What stands
+    /// behind an AVI was found by that call, and nothing is read.
+    ///
+    /// `Another` if another file begins there: these four bytes are the ID of EBML, or RIFF. `Read`
+    /// if a read failed. The input has to be the one that the reader was opened on.
+    pub fn look_behind<R: ByteIn>(&self, input: &mut R) -> Result<Notes, FileFault>
+        ensures answer { FileAnswers any_value (λ (n : Notes). n) (notes_of self.now)
+            (passage R.remaining R.failures input.old input.new) result }
+        ensures own { IfErr result (λ f. is_behind_fault self.now.place f ≡ true) }
+        ensures noted { (scope : Scope) (text : Option (List ℕ)) →
+            NotesEnd scope text (R.remaining input.old) self.now →
+            IfOk result (NotedOf scope text (R.remaining input.new)) }
+    {
+        match &self.inner {
+            Inner::Avi(reader) => Ok(Notes {
+                is_open: false,
+                after: reader.after(),
+            }),
+            Inner::Matroska(reader) => look_behind_segment(reader, input),
         }
     }
 
@@ -273,6 +334,41 @@ impl<A: Allocator> FileReader<A> {
             Inner::Avi(reader) => avi_answer(reader.next_frame(input, frame)),
             Inner::Matroska(reader) => reader.next_item(input, course, frame),
         }
+    }
+}
+
+/// What is noted if other bytes stand behind the end or not, and if nothing says that the file is
+/// whole.
+fn noted(some: bool, is_open: bool, end: u64) -> Notes
+    ensures { result ≡ record { is_open = is_open; after = if some then Some end else None } }
+{
+    if some {
+        return Notes {
+            is_open,
+            after: Some(end),
+        };
+    }
+    Notes {
+        is_open,
+        after: None,
+    }
+}
+
+/// What stands behind a Segment, as notes.
+fn look_behind_segment<R: ByteIn, A: Allocator>(
+    reader: &MatroskaReader<A>,
+    input: &mut R,
+) -> Result<Notes, FileFault>
+    ensures answer { FileAnswers any_value (λ (n : Notes). n)
+        (notes_read (InMatroska reader.now.segment reader.now.track.numbers reader.now.place)
+        reader.now.end reader.now.cued None)
+        (passage R.remaining R.failures input.old input.new) result }
+    ensures own { IfErr result (λ f. is_behind_fault (InMatroska reader.now.segment
+        reader.now.track.numbers reader.now.place) f ≡ true) }
+{
+    match reader.look_behind(input) {
+        Ok(some) => Ok(noted(some, reader.is_open(), reader.end())),
+        Err(fault) => Err(fault),
     }
 }
 

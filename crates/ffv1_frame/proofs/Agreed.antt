@@ -60,7 +60,7 @@ module _ (a : Accepted) (coded : ℕ → List ℕ) (r : ℕ) where
       let w = width_in c p k in
       let q = slice_at s k in
       let row = f.1 in
-      let next = after_line q (steps_of_line a coded q p w y f.0 row) p row in
+      let next = after_line a coded q p w y f.0 row in
       let now : slice_at m k ≡ next = ap (λ z. slice_at z k) f.3 ∙ get_or-set_same s.columns k next unread inside_k in
       let samples : plane (slice_at m k).cells p ≡ plane q.cells p ++ row = ap (λ (z : Slice). plane z.cells p) now ∙ plane_put q.cells p (plane q.cells p ++ row) inside_p in
       let left : 0 < k → slice_at m (k - 1) ≡ slice_at s (k - 1) = λ some.
@@ -77,7 +77,7 @@ module _ (a : Accepted) (coded : ℕ → List ℕ) (r : ℕ) where
       let w = width_in a.configuration p k in
       let q = slice_at s k in
       let row = f.1 in
-      let next = after_line q (steps_of_line a coded q p w y f.0 row) p row in
+      let next = after_line a coded q p w y f.0 row in
       let now : slice_at m k ≡ next = ap (λ z. slice_at z k) f.3 ∙ get_or-set_same s.columns k next unread inside_k in
       let samples : plane (slice_at m k).cells p ≡ plane q.cells p ++ row = ap (λ (z : Slice). plane z.cells p) now ∙ plane_put q.cells p (plane q.cells p ++ row) inside_p in
       let long = ap (λ (xs : List ℕ). length xs) samples ∙ length-append (plane q.cells p) row in
@@ -155,7 +155,7 @@ module _ (a : Accepted) (coded : ℕ → List ℕ) (r : ℕ) where
         let m = f.0 in
         let q = slice_at u k in
         let w = width_in a.configuration p k in
-        let next = after_line q (steps_of_line a coded q p w y f.1.0 f.1.1) p f.1.1 in
+        let next = after_line a coded q p w y f.1.0 f.1.1 in
         let inside_k : k < length u.columns = rw long here in
         let inside_p : p < length q.cells = rw many inside.0 in
         let m_others : (j : ℕ) → j ≢ k → slice_at m j ≡ slice_at u j = λ j other. ap (λ z. slice_at z j) f.1.3 ∙ get_or-set_other u.columns k j next unread other in

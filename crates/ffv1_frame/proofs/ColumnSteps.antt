@@ -12,7 +12,7 @@ use Rattle.ffv1_frame.specs.Decoding.{State, Slice, StepsBy, ReadsLine, slice_at
 use Rattle.ffv1_frame.proofs.Machines.{Each}
 use Rattle.ffv1_frame.proofs.LinesRead.{read_at, reads_of}
 use Rattle.ffv1_frame.specs.Overread.{IsWithin}
-use Rattle.ffv1_frame.specs.Ending.{HasEnding}
+use Rattle.ffv1_frame.specs.Ending.{SliceEnds}
 
 -- an event of the lines of row r
 abbrev pub IsOfRow : Configuration → ℕ → Event → Type 0
@@ -31,9 +31,10 @@ module _ (a : Accepted) (coded : ℕ → List ℕ) (r k : ℕ) where
     pub row : List ℕ
     pub inside : p < plane_count a.configuration
     pub reads : ReadsLine a coded (slice_number a.configuration r k) p (width_in a.configuration p k) y q qs row
-    pub behind : t ≡ after_line q (steps_of_line a coded q p (width_in a.configuration p k) y qs row) p row
+    pub behind : t ≡ after_line a coded q p (width_in a.configuration p k) y qs row
     pub within : IsWithin a (coded (slice_number a.configuration r k)) (q.past ++ steps_of_line a coded q p (width_in a.configuration p k) y qs row)
-    pub ending : IsLastLine a.configuration r p y → HasEnding a (coded (slice_number a.configuration r k)) (q.past ++ steps_of_line a coded q p (width_in a.configuration p k) y qs row)
+    pub ending : IsLastLine a.configuration r p y → SliceEnds a (coded (slice_number a.configuration r k)) (q.past ++ steps_of_line a coded q p (width_in a.configuration p k) y qs row)
+        (after_line a coded q p (width_in a.configuration p k) y qs row).bits
     pub line : read_at k e ≡ record { plane = p; y = y } ∷ []
 
   -- or it stays as it is
@@ -50,7 +51,7 @@ module _ (a : Accepted) (coded : ℕ → List ℕ) (r k : ℕ) where
     | inl same ↦
         let g = subst (λ i. StepsBy a coded s (Read r i p y) m) same f in
         let q = slice_at s k in
-        let next = after_line q (steps_of_line a coded q p (width_in a.configuration p k) y g.0 g.1) p g.1 in
+        let next = after_line a coded q p (width_in a.configuration p k) y g.0 g.1 in
         inr (record {
           p = p;
           y = y;
@@ -65,7 +66,7 @@ module _ (a : Accepted) (coded : ℕ → List ℕ) (r k : ℕ) where
         })
     | inr other ↦
         let q = slice_at s j in
-        let next = after_line q (steps_of_line a coded q p (width_in a.configuration p j) y f.0 f.1) p f.1 in
+        let next = after_line a coded q p (width_in a.configuration p j) y f.0 f.1 in
         let apart : k ≢ j = λ e. other (sym e) in
         inl (record {
           same = ap (λ z. slice_at z k) f.3 ∙ get_or-set_other s.columns j k next unread apart;
@@ -90,7 +91,7 @@ pub columns_kept : (a : Accepted) (coded : ℕ → List ℕ) (r : ℕ) (s m : St
 columns_kept a coded r s m (Open j i) kind f = absurd kind
 columns_kept a coded r s m (Read j i p y) kind f =
     let q = slice_at s i in
-    ap (λ (z : State). length z.columns) f.3 ∙ length-set s.columns i (after_line q (steps_of_line a coded q p (width_in a.configuration p i) y f.0 f.1) p f.1)
+    ap (λ (z : State). length z.columns) f.3 ∙ length-set s.columns i (after_line a coded q p (width_in a.configuration p i) y f.0 f.1)
 columns_kept a coded r s m (Finish j planes y) kind f = ap (λ (z : State). length z.columns) f.2
 columns_kept a coded r s m (Hand j i p y) kind f = ap (λ (z : State). length z.columns) f
 columns_kept a coded r s m Close kind f = absurd kind

@@ -20,7 +20,11 @@ use Rattle.ffv1_frame.specs.Order.{Event, events_of}
 use Rattle.ffv1_frame.specs.Order.Event.{Open, Read, Finish, Hand, Close}
 use Rattle.ffv1_frame.specs.Answer.{AnswersCut, cut_fault}
 use Rattle.ffv1_frame.specs.Decoding as decoding
-use Rattle.ffv1_frame.specs.Decoding.{State, StepsBy, FaultsWith, at_first, of_slice, slice_number}
+use Rattle.ffv1_frame.specs.Decoding.{State, StepsBy, FaultsWith, at_first, of_slice, of_rice, ending_fault, slice_number}
+use Rattle.ffv1_record.specs.Accepted.{is_rice}
+use Rattle.ffv1_rice.specs.declared.fault.Fault.{Fault}
+use Rattle.ffv1_rice.specs.declared.fault.Fault.TheVariants as reason
+use Rattle.std.proofs.lemmas.Bool.{cases_Bool}
 use Rattle.ffv1_frame.proofs.Machines.{Each, each_append, stops_at}
 
 abbrev pub IsOwn : CodecFault → Type 0
@@ -66,6 +70,14 @@ cut_own c payload f why = elim why [
   ]
 ]
 
+rice_own : (reason : Fault) → IsOwn (of_rice reason)
+rice_own reason.BitsEnd = refl
+rice_own reason.BadCode = refl
+
+ending_own : (b : Bool) → IsOwn (ending_fault b)
+ending_own false = refl
+ending_own true = refl
+
 module _ (a : Accepted) (coded : ℕ → List ℕ) where
   event_own : (s t : State) (e : Event) (f : FrameFault) → FaultsWith a coded s e f t → IsOwn f.fault
   event_own s t (Open r k) f h = elim h.1 [
@@ -82,11 +94,16 @@ module _ (a : Accepted) (coded : ℕ → List ℕ) where
     ]
   ]
   event_own s t (Read r k p y) f h = elim h [
-    | inl stop ↦ own_by f.fault fault.SymbolTooLong (ap (λ (z : FrameFault). z.fault) stop.3) refl
+    | inl stop ↦ elim (cases_Bool (is_rice a.configuration.coder)) [
+      | inl is ↦
+          let h = stop.rice is in
+          own_by f.fault (of_rice h.2) (ap (λ (z : FrameFault). z.fault) h.4) (rice_own h.2)
+      | inr is ↦ own_by f.fault fault.SymbolTooLong (ap (λ (z : FrameFault). z.fault) (stop.range is).3) refl
+    ]
     | inr looked ↦ elim looked [
       | inl over ↦ own_by f.fault fault.Overread (ap (λ (z : FrameFault). z.fault) over.3) refl
       | inr later ↦ elim later [
-        | inl late ↦ own_by f.fault fault.Ending (ap (λ (z : FrameFault). z.fault) late.3) refl
+        | inl late ↦ own_by f.fault (ending_fault (is_rice a.configuration.coder)) (ap (λ (z : FrameFault). z.fault) late.3) (ending_own (is_rice a.configuration.coder))
         | inr differs ↦ own_by f.fault fault.Overlap (ap (λ (z : FrameFault). z.fault) differs.4) refl
       ]
     ]

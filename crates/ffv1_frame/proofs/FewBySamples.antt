@@ -32,8 +32,7 @@ module _ (a : Accepted) (coded : ℕ → List ℕ) (laws : StepLaws a) where
         omega (arith, few);
     read = λ r k p y q qs row inside few below has reads within. few_read a coded laws r k p y q qs row few below has reads;
     overread = λ r k p y q qs row inside few below has reads.
-        let steps = steps_of_line a coded q p (width_in a.configuration p k) y qs row in
-        few_in_all a coded laws r k (after_line q steps p row) (few_read a coded laws r k p y q qs row few below has reads);
+        few_in_all a coded laws r k (after_line a coded q p (width_in a.configuration p k) y qs row) (few_read a coded laws r k p y q qs row few below has reads);
     stopped = λ r k p y q qs row inside few below has stops. few_stopped a coded laws r k p y q qs row few below has stops;
   }
 

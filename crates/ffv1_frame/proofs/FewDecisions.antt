@@ -2,7 +2,8 @@
 use Rattle.std.proofs.Common.{◌≡◌, refl, ℕ, ℤ, zero, suc, ◌+◌, ◌*◌, ◌^◌, ◌<◌, ◌≤◌, Bool, true, false, if◌then◌else◌, nat_lt, nat_eq, unsigned_abs, Option, List, [], ◌∷◌, ◌++◌, length, set, inl, inr, ap, sym, subst, ◌∙◌, arith, length-append, length-set}
 use Rattle.std.specs.List.{range_with_len}
 use Rattle.std.proofs.Math.Nat.{mul-le-mul_left}
-use Rattle.std.proofs.lemmas.Bool.{cases_eq, eq-eqb, ne_eqb}
+use Rattle.std.proofs.lemmas.Bool.{cases_eq, eq-eqb, ne_eqb, cases_Bool}
+use Rattle.ffv1_record.specs.Accepted.{is_rice}
 use Rattle.std.proofs.lemmas.List.{length-replicate}
 use Rattle.ffv1_range.specs.Symbols.{Step, shifted, too_long}
 use Rattle.ffv1_plane.specs.Quantisation.{Set}
@@ -73,8 +74,12 @@ module _ (a : Accepted) (coded : ℕ → List ℕ) (laws : StepLaws a) where
       let c = a.configuration in
       let set = set_in c q.head p in
       let cell = cell_with q p width row in
-      let few = steps_few (base_of c p) set cell y qs (laws.small set (bits_of c) cell y 0 qs f.codes.suits) in
-      subst (λ n. length (steps_of_line a coded q p width y qs row) ≤ 63 * n) f.long few
+      elim (cases_Bool (is_rice c.coder)) [
+        | inl is ↦ subst (λ rs. length (steps_of_line a coded q p width y rs row) ≤ 63 * width) (sym (f.long.rice is)) (omega arith)
+        | inr is ↦
+            let few = steps_few (base_of c p) set cell y qs (laws.small set (bits_of c) cell y 0 qs (f.codes.range is).suits) in
+            subst (λ n. length (steps_of_line a coded q p width y qs row) ≤ 63 * n) (f.long.range is) few
+      ]
 
   -- a line that is refused
   pub stop_few : (n p width y : ℕ) (q : Slice) (qs : List ℤ) (row : List ℕ) → StopsInLine a coded n p width y q qs row → length (steps_of_stop a coded q p width y qs row) ≤ 63 * width
@@ -187,7 +192,7 @@ module _ (a : Accepted) (coded : ℕ → List ℕ) (laws : StepLaws a) where
 
     pub few_read : (p y : ℕ) (q : Slice) (qs : List ℤ) (row : List ℕ) → p < plane_count a.configuration → y < lines_down a.configuration p r → HasFew q →
         ReadsLine a coded (slice_number a.configuration r k) p (width_in a.configuration p k) y q qs row →
-        HasFew (after_line q (steps_of_line a coded q p (width_in a.configuration p k) y qs row) p row)
+        HasFew (after_line a coded q p (width_in a.configuration p k) y qs row)
     few_read p y q qs row few below has f =
         let c = a.configuration in
         let width = width_in c p k in

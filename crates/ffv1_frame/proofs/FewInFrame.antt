@@ -1,7 +1,8 @@
 -- Few decisions are made in a frame, however far decoding has come.
 use Rattle.std.proofs.Common.{◌≡◌, ◌≢◌, refl, ℕ, ℤ, zero, suc, ◌+◌, ◌-◌, ◌<◌, ◌≤◌, true, Option, List, [], ◌∷◌, ◌++◌, map, length, get_or, replicate, inl, inr, ap, sym, subst, ◌∙◌, arith, length-set, get_or-set_same, get_or-set_other}
 use Rattle.std.specs.List.{flat_map, range_with_len}
-use Rattle.std.proofs.lemmas.Bool.{cases_lt, cases_eq}
+use Rattle.std.proofs.lemmas.Bool.{cases_lt, cases_eq, cases_Bool}
+use Rattle.ffv1_record.specs.Accepted.{is_rice}
 use Rattle.std.proofs.lemmas.List.{length-replicate}
 use Rattle.ffv1_range.specs.Symbols.{Step}
 use Rattle.ffv1_record.specs.Configuration.{Configuration, is_rct}
@@ -59,7 +60,7 @@ pub record SliceLaws (a : Accepted) (coded : ℕ → List ℕ) (most : ℕ → �
   pub read : (r k p y : ℕ) (q : Slice) (qs : List ℤ) (row : List ℕ) → k < a.configuration.columns → p < plane_count a.configuration → y < lines_down a.configuration p r → Has r k q →
       ReadsLine a coded (slice_number a.configuration r k) p (width_in a.configuration p k) y q qs row →
       IsWithin a (coded (slice_number a.configuration r k)) (q.past ++ steps_of_line a coded q p (width_in a.configuration p k) y qs row) →
-      Has r k (after_line q (steps_of_line a coded q p (width_in a.configuration p k) y qs row) p row)
+      Has r k (after_line a coded q p (width_in a.configuration p k) y qs row)
   pub overread : (r k p y : ℕ) (q : Slice) (qs : List ℤ) (row : List ℕ) → k < a.configuration.columns → p < plane_count a.configuration → y < lines_down a.configuration p r → Has r k q →
       ReadsLine a coded (slice_number a.configuration r k) p (width_in a.configuration p k) y q qs row →
       length (q.past ++ steps_of_line a coded q p (width_in a.configuration p k) y qs row) ≤ most r k
@@ -138,7 +139,7 @@ module _ (a : Accepted) (coded : ℕ → List ℕ) (slice_most : ℕ → ℕ →
         let c = a.configuration in
         let g = subst (λ z. StepsBy a coded s (Read z i p y) m) kind.0 f in
         let q = slice_at s i in
-        let next = after_line q (steps_of_line a coded q p (width_in c p i) y g.0 g.1) p g.1 in
+        let next = after_line a coded q p (width_in c p i) y g.0 g.1 in
         let place : i < length s.columns = rw l.settled.long kind.1 in
         record {
           settled = record {
@@ -183,19 +184,25 @@ module _ (a : Accepted) (coded : ℕ → List ℕ) (slice_most : ℕ → ℕ →
         let c = a.configuration in
         let q = slice_at s i in
         elim (subst (λ z. FaultsWith a coded s (Read z i p y) f t) kind.0 h) [
-          | inl stop ↦
-              let next = after_steps q (steps_of_stop a coded q p (width_in c p i) y stop.0 stop.1) in
-              refused_at s t i next kind.1 l stop.4 (laws.stopped r i p y q stop.0 stop.1 kind.1 kind.2 kind.3 (l.few i kind.1) stop.2)
+          | inl stop ↦ elim (cases_Bool (is_rice c.coder)) [
+            | inl is ↦
+                let same = (stop.rice is).5 in
+                line_bounded t (line_same s t (ap (λ (z : State). z.done) same) (ap (λ (z : State). z.columns) same) l)
+            | inr is ↦
+                let h = stop.range is in
+                let next = after_steps q (steps_of_stop a coded q p (width_in c p i) y h.0 h.1) in
+                refused_at s t i next kind.1 l h.4 (laws.stopped r i p y q h.0 h.1 kind.1 kind.2 kind.3 (l.few i kind.1) h.2)
+          ]
           | inr looked ↦ elim looked [
             | inl over ↦
-                let next = after_line q (steps_of_line a coded q p (width_in c p i) y over.0 over.1) p over.1 in
+                let next = after_line a coded q p (width_in c p i) y over.0 over.1 in
                 refused_at s t i next kind.1 l over.4 (laws.overread r i p y q over.0 over.1 kind.1 kind.2 kind.3 (l.few i kind.1) over.2)
             | inr later ↦ elim later [
               | inl late ↦
-                  let next = after_line q (steps_of_line a coded q p (width_in c p i) y late.0 late.1) p late.1 in
+                  let next = after_line a coded q p (width_in c p i) y late.0 late.1 in
                   refused_at s t i next kind.1 l late.4 (laws.overread r i p y q late.0 late.1 kind.1 kind.2 kind.3 (l.few i kind.1) late.2)
               | inr differs ↦
-                  let next = after_line q (steps_of_line a coded q p (width_in c p i) y differs.0 differs.1) p differs.1 in
+                  let next = after_line a coded q p (width_in c p i) y differs.0 differs.1 in
                   refused_at s t i next kind.1 l differs.5 (laws.overread r i p y q differs.0 differs.1 kind.1 kind.2 kind.3 (l.few i kind.1) differs.3)
             ]
           ]

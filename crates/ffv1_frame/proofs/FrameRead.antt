@@ -12,7 +12,7 @@ use Rattle.ffv1_slice.specs.Grid.{across, division_of, whole_of}
 use Rattle.ffv1_slice.specs.Head.{IsHead, CodesHead, key_steps, head_steps}
 use Rattle.ffv1_frame.specs.Sides.{HasPart}
 use Rattle.ffv1_frame.specs.Picture.{Planes, IsPicture, plane, plane_count, coded_at}
-use Rattle.ffv1_frame.specs.SliceList.{Said, said_by, IsBody}
+use Rattle.ffv1_frame.specs.SliceList.{Said, said_by}
 use Rattle.ffv1_frame.specs.Order.{row_events, series_events, series_of, lines_down}
 use Rattle.ffv1_frame.specs.Order.Event.{Open, Close}
 use Rattle.ffv1_frame.specs.Runs.{Runs}
@@ -32,7 +32,10 @@ use Rattle.ffv1_frame.proofs.SliceBodies.{IsRead}
 use Rattle.ffv1_frame.proofs.SlicesMade.{at_line}
 use Rattle.ffv1_frame.specs.Overread.{IsWithin}
 use Rattle.ffv1_frame.proofs.TooFar.{within_front}
-use Rattle.ffv1_frame.proofs.SliceEnds.{ending_within}
+use Rattle.ffv1_frame.proofs.SliceEnds.{end_within}
+use Rattle.ffv1_frame.specs.CodedSlice.{IsBodyOf}
+use Rattle.ffv1_frame.specs.RiceLines.{fresh_coder}
+use Rattle.ffv1_frame.proofs.BitBodies.{bits_none, after_none}
 use Rattle.ffv1_frame.proofs.LastLine.{has_last, planes_some}
 
 module _ (a : Accepted) (coded : ℕ → List ℕ) (planes : Planes) (info : Said) (r : ℕ) where
@@ -43,7 +46,7 @@ module _ (a : Accepted) (coded : ℕ → List ℕ) (planes : Planes) (info : Sai
     pub is_head : IsHead a.profile a.configuration head
     pub says : said_by a.profile head ≡ info
     pub coding : Coding a coded planes r k head body
-    pub is_body : IsBody a.configuration head (cell_at a coded planes r k) (row_lines a.configuration r) body
+    pub is_body : IsBodyOf a.configuration head (cell_at a coded planes r k) (row_lines a.configuration r) body
 
   -- nothing was said before, or the same
   abbrev pub MaySay : Option Said → Type 0
@@ -73,7 +76,7 @@ module _ (a : Accepted) (coded : ℕ → List ℕ) (planes : Planes) (info : Sai
         let n = slice_number a.configuration r k in
         let c = a.configuration in
         within_front a (coded n) (key_steps n ++ head_steps c n w.head) w.body
-        (subst (IsWithin a (coded n)) (sym (append_assoc (key_steps n) (head_steps c n w.head) w.body)) (ending_within a (coded n) _ w.coding.ending))
+        (subst (IsWithin a (coded n)) (sym (append_assoc (key_steps n) (head_steps c n w.head) w.body)) (end_within a (coded n) _ _ w.coding.ending))
 
     standing : (k : ℕ) → (w : Known k) → Standing a coded planes info r k (row_lines a.configuration r) (opened a coded (slice_number a.configuration r k) w.head)
     standing k w =
@@ -100,6 +103,8 @@ module _ (a : Accepted) (coded : ℕ → List ℕ) (planes : Planes) (info : Sai
             rest = w.body;
             whole = refl;
             is_rest = w.is_body;
+            bits = λ is. sym (bits_none c w.head (cell_at a coded planes r k) fresh_coder);
+            coder = λ is. sym (after_none c w.head (cell_at a coded planes r k) fresh_coder);
             past = ap (λ z. key_steps n ++ z) (sym (append-nil (head_steps c n w.head)));
           };
         }

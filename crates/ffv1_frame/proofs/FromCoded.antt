@@ -1,5 +1,5 @@
 -- A payload that codes a picture is decoded to its end.
-use Rattle.std.proofs.Common.{◌≡◌, ℕ, suc, ◌+◌, ◌-◌, ◌*◌, ◌/◌, ◌%◌, ◌<◌, ◌≤◌, true, List, take, drop, inl, inr, ap, sym, subst, ◌∙◌, arith}
+use Rattle.std.proofs.Common.{◌≡◌, ℕ, suc, ◌+◌, ◌-◌, ◌*◌, ◌/◌, ◌%◌, ◌^◌, ◌<◌, ◌≤◌, true, List, ◌++◌, take, drop, inl, inr, ap, sym, subst, ◌∙◌, arith}
 use Rattle.std.proofs.Math.Nat.{mul-le-mul_left}
 use Rattle.std.proofs.lemmas.Bool.{cases_lt}
 use Rattle.std.proofs.lemmas.List.{get_or-drop}
@@ -11,7 +11,11 @@ use Rattle.ffv1_slice.specs.Grid.{coded_of as length_in, across, down, division_
 use Rattle.ffv1_slice.specs.Cutting.{coded_of}
 use Rattle.ffv1_frame.specs.Sides.{Alike, HasPart, Sides}
 use Rattle.ffv1_frame.specs.Picture.{Planes, IsPicture, plane_width, plane_height, coded_at}
-use Rattle.ffv1_frame.specs.SliceList.{Said, CodesSlice, IsBody}
+use Rattle.ffv1_frame.specs.SliceList.{Said, bits_of}
+use Rattle.ffv1_frame.specs.CodedSlice.{CodesSlice, IsBodyOf}
+use Rattle.ffv1_frame.specs.RiceLines.{rice_bits}
+use Rattle.ffv1_frame.specs.Ending.{SliceEnds}
+use Rattle.ffv1_slice.specs.Head.{key_steps, head_steps}
 use Rattle.ffv1_frame.specs.Order.{lines_down}
 use Rattle.ffv1_frame.specs.Decoding.{slice_number, width_in, left_of, top_of}
 use Rattle.ffv1_frame.proofs.EventsOf.{few_in_rct}
@@ -93,9 +97,9 @@ module _ (a : Accepted) (planes : Planes) (info : Said) (coded : ℕ → List �
     at = λ x y. coded_at a.configuration planes p (left_of a.configuration p k + x) (top_of a.configuration p r + y);
   }
 
-  known_of : (r k : ℕ) → k < a.configuration.columns → CodesSlice (coded (slice_number a.configuration r k)) a planes info (slice_number a.configuration r k) → Known a coded planes info r k
+  known_of : ((p x y : ℕ) → coded_at a.configuration planes p x y < 2 ^ bits_of a.configuration) → (r k : ℕ) → k < a.configuration.columns → CodesSlice (coded (slice_number a.configuration r k)) a planes info (slice_number a.configuration r k) → Known a coded planes info r k
   unfolding cells_by
-  known_of r k inside slice =
+  known_of small r k inside slice =
       let c = a.configuration in
       let place = row_and_column r k c.columns inside in
       let n = slice_number c r k in
@@ -104,18 +108,24 @@ module _ (a : Accepted) (planes : Planes) (info : Said) (coded : ℕ → List �
         body = slice.body;
         is_head = slice.is_head;
         says = slice.says;
-        coding = record { codes = slice.codes; ending = slice.ending };
+        coding = record {
+          codes = slice.codes;
+          ending =
+              subst (λ i. SliceEnds a (coded n) (key_steps n ++ (head_steps c n slice.head ++ slice.body)) (rice_bits c slice.head (cells_by k i) (row_lines c i))) place.0
+              (subst (λ j. SliceEnds a (coded n) (key_steps n ++ (head_steps c n slice.head ++ slice.body)) (rice_bits c slice.head (cells_by j (n / c.columns)) (row_lines c (n / c.columns)))) place.1 slice.ending);
+          small = λ p x y. small p (left_of c p k + x) (top_of c p r + y);
+        };
         is_body =
-            subst (λ i. IsBody c slice.head (cells_by k i) (row_lines c i) slice.body) place.0
-            (subst (λ j. IsBody c slice.head (cells_by j (n / c.columns)) (row_lines c (n / c.columns)) slice.body) place.1 slice.is_body);
+            subst (λ i. IsBodyOf c slice.head (cells_by k i) (row_lines c i) slice.body) place.0
+            (subst (λ j. IsBodyOf c slice.head (cells_by j (n / c.columns)) (row_lines c (n / c.columns)) slice.body) place.1 slice.is_body);
       }
 
   pub goes_of : (laws : PictureLaws a) → ((p x : ℕ) → x < whole_of (across (division_of a.configuration) p) → HasPart (across (division_of a.configuration) p) x) → ColourLaws →
       ((n : ℕ) → FrontLaws a (coded n)) → ((n : ℕ) → n < a.configuration.columns * a.configuration.rows → CodesSlice (coded n) a planes info n) → IsPicture a.configuration planes →
-      FrameGoes a coded planes info
-  goes_of laws part colours front slices picture =
+      ((p x y : ℕ) → coded_at a.configuration planes p x y < 2 ^ bits_of a.configuration) → FrameGoes a coded planes info
+  goes_of laws part colours front slices picture small =
       frame_goes a coded planes info laws (λ r k r_inside k_inside. front (slice_number a.configuration r k))
-      (λ r k r_inside k_inside. known_of r k k_inside (slices (slice_number a.configuration r k) (number_inside r k a.configuration.rows a.configuration.columns r_inside k_inside)))
+      (λ r k r_inside k_inside. known_of small r k k_inside (slices (slice_number a.configuration r k) (number_inside r k a.configuration.rows a.configuration.columns r_inside k_inside)))
       picture part colours
 
 -- slices that lie alike have the same bytes

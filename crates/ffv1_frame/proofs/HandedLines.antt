@@ -14,6 +14,8 @@ use Rattle.ffv1_frame.specs.Order.{Event, events_of, row_events, series_events, 
 use Rattle.ffv1_frame.specs.Order.Event.{Open, Read, Finish, Hand, Close}
 use Rattle.ffv1_frame.specs.Runs.{Runs}
 use Rattle.ffv1_frame.specs.declared.fault.FrameFault.{FrameFault}
+use Rattle.ffv1_record.specs.Accepted.{is_rice}
+use Rattle.std.proofs.lemmas.Bool.{cases_Bool}
 use Rattle.ffv1_frame.specs.Decoding.{Decodes, FaultsWith, Offers, Refuses}
 use Rattle.ffv1_frame.specs.Decoding.{State, Slice, StepsBy, Finishes, at_first, own_row, slice_at, slice_number, unread, width_in}
 use Rattle.ffv1_frame.specs.Handed.{CodesLine, IsFinishOf, line_across, offered, slice_of}
@@ -465,7 +467,10 @@ module _ (a : Accepted) (coded : ℕ → List ℕ) (laws : PictureLaws a) where
   fault_lines : (s t : State) (e : Event) (f : FrameFault) → FaultsWith a coded s e f t → t.lines ≡ s.lines
   fault_lines s t (Open j k) f h = ap (λ (z : State). z.lines) h.3
   fault_lines s t (Read j k p y) f h = elim h [
-    | inl stops ↦ ap (λ (z : State). z.lines) stops.4
+    | inl stops ↦ elim (cases_Bool (is_rice a.configuration.coder)) [
+      | inl is ↦ ap (λ (z : State). z.lines) (stops.rice is).5
+      | inr is ↦ ap (λ (z : State). z.lines) (stops.range is).4
+    ]
     | inr looked ↦ elim looked [
       | inl far ↦ ap (λ (z : State). z.lines) far.4
       | inr later ↦ elim later [

@@ -7,7 +7,9 @@ use Rattle.std.proofs.lemmas.List.{length-replicate, get_or_append_left, get_or-
 use Rattle.ffv1_line.specs.Cell.{cell_of}
 use Rattle.ffv1_record.specs.Accepted.{Accepted}
 use Rattle.ffv1_frame.specs.Picture.{plane}
-use Rattle.ffv1_frame.specs.SliceList.{Line, IsBody, lines_in}
+use Rattle.ffv1_frame.specs.SliceList.{Line, lines_in}
+use Rattle.ffv1_frame.specs.CodedSlice.{IsBodyOf}
+use Rattle.ffv1_frame.specs.RiceLines.{fresh_coder, lines_after, rice_bits}
 use Rattle.ffv1_frame.specs.Order.{Event, events_of, row_events, series_events, series_of}
 use Rattle.ffv1_frame.specs.Order.Event.{Open, Close}
 use Rattle.ffv1_frame.specs.Runs.{Runs}
@@ -63,10 +65,19 @@ module _ (a : Accepted) (coded : ℕ → List ℕ) (laws : PictureLaws a) where
       record {
         is_head = has.is_head;
         body = has.body;
-        is_body = subst (λ j. IsBody c q.head (λ p. cell_of (width_in c p j) (plane q.cells p)) ls has.body) (sym place.1) has.is_body;
+        is_body = subst (λ j. IsBodyOf c q.head (λ p. cell_of (width_in c p j) (plane q.cells p)) ls has.body) (sym place.1) has.is_body;
         past = has.past;
         codes = has.codes;
         within = has.within;
+        bits = record {
+          range = λ is. tt;
+          rice = λ is.
+              let bits = has.bits.rice is in record {
+                bits = subst (λ j. q.bits ≡ rice_bits c q.head (λ p. cell_of (width_in c p j) (plane q.cells p)) ls) (sym place.1) bits.bits;
+                coder = subst (λ j. q.coder ≡ lines_after c q.head (λ p. cell_of (width_in c p j) (plane q.cells p)) fresh_coder ls) (sym place.1) bits.coder;
+                begun = bits.begun;
+              };
+        };
       }
 
   pub list_is : (r k : ℕ) → k < a.configuration.columns → lines_in a.configuration (slice_number a.configuration r k) ≡ row_lines a.configuration r

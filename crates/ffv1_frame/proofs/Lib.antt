@@ -16,7 +16,11 @@ pub mod WideLines
 pub mod ByNumber
 pub mod TooFar
 pub mod Machines
+pub mod Coders
+pub mod BitLines
 pub mod OneLine
+pub mod BitBodies
+pub mod LineBits
 pub mod OneColour
 pub mod EventsOf
 pub mod OneEvent

@@ -14,6 +14,8 @@ use Rattle.ffv1_frame.specs.Order.{Event, Series, column_events, events_of, hand
 use Rattle.ffv1_frame.specs.Order.Event.{Open, Read, Finish, Hand, Close}
 use Rattle.ffv1_frame.specs.Runs.{Runs}
 use Rattle.ffv1_frame.specs.Decoding as decoding
+use Rattle.ffv1_record.specs.Accepted.{is_rice}
+use Rattle.std.proofs.lemmas.Bool.{cases_Bool}
 use Rattle.ffv1_frame.specs.Decoding.{State, StepsBy, FaultsWith, Decodes, at_first, top_of}
 use Rattle.ffv1_frame.specs.Lines.{line_in, lines_of, lines_of_series, places_of, places_of_series}
 use Rattle.ffv1_frame.proofs.Machines.{stops_at}
@@ -127,7 +129,10 @@ module _ (a : Accepted) (coded : ℕ → List ℕ) where
   fault_places : (s t : State) (e : Event) (f : FrameFault) → FaultsWith a coded s e f t → places t ≡ places s
   fault_places s t (Open r k) f h = ap (λ (z : State). places z) h.3
   fault_places s t (Read r k p y) f h = elim h [
-    | inl stop ↦ ap (λ (z : State). places z) stop.4
+    | inl stop ↦ elim (cases_Bool (is_rice a.configuration.coder)) [
+      | inl is ↦ ap (λ (z : State). places z) (stop.rice is).5
+      | inr is ↦ ap (λ (z : State). places z) (stop.range is).4
+    ]
     | inr looked ↦ elim looked [
       | inl over ↦ ap (λ (z : State). places z) over.4
       | inr later ↦ elim later [

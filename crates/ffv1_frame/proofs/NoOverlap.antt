@@ -19,7 +19,11 @@ use Rattle.ffv1_frame.specs.Order.{Event, Series, events_of, row_events, series_
 use Rattle.ffv1_frame.specs.Order.Event.{Open, Read, Finish, Hand, Close}
 use Rattle.ffv1_frame.specs.Answer.{AnswersCut, cut_fault}
 use Rattle.ffv1_frame.specs.Decoding as decoding
-use Rattle.ffv1_frame.specs.Decoding.{State, StepsBy, FaultsWith, at_first, of_slice}
+use Rattle.ffv1_frame.specs.Decoding.{State, StepsBy, FaultsWith, at_first, of_slice, of_rice, ending_fault}
+use Rattle.ffv1_record.specs.Accepted.{is_rice}
+use Rattle.std.proofs.lemmas.Bool.{cases_Bool}
+use Rattle.ffv1_rice.specs.declared.fault.Fault.{Fault}
+use Rattle.ffv1_rice.specs.declared.fault.Fault.TheVariants as reason
 use Rattle.ffv1_frame.proofs.Machines.{Each, each_append, each_range, each_map_range, each_map, each_right, stops_at}
 
 -- a line is read in a slice that there is
@@ -72,6 +76,14 @@ slice_other slice.SliceParity = refl
 slice_other slice.SliceStatus = refl
 slice_other slice.SliceTooLong = refl
 
+rice_other : (reason : Fault) → is_overlap (of_rice reason) ≡ false
+rice_other reason.BitsEnd = refl
+rice_other reason.BadCode = refl
+
+ending_other : (b : Bool) → is_overlap (ending_fault b) ≡ false
+ending_other false = refl
+ending_other true = refl
+
 module _ (a : Accepted) (no_column : (p k : ℕ) → k < a.configuration.columns → shared_of (across (division_of a.configuration) p) k ≡ 0)
     (no_line : (p r : ℕ) → r < a.configuration.rows → shared_of (down (division_of a.configuration) p) r ≡ 0) where
   module _ (coded : ℕ → List ℕ) where
@@ -90,11 +102,14 @@ module _ (a : Accepted) (no_column : (p k : ℕ) → k < a.configuration.columns
       ]
     ]
     event_other s t (Read r k p y) f inside h = elim h [
-      | inl stop ↦ other_by f.fault fault.SymbolTooLong (ap (λ (z : FrameFault). z.fault) stop.3) refl
+      | inl stop ↦ elim (cases_Bool (is_rice a.configuration.coder)) [
+        | inl is ↦ other_by f.fault (of_rice (stop.rice is).2) (ap (λ (z : FrameFault). z.fault) (stop.rice is).4) (rice_other (stop.rice is).2)
+        | inr is ↦ other_by f.fault fault.SymbolTooLong (ap (λ (z : FrameFault). z.fault) (stop.range is).3) refl
+      ]
       | inr looked ↦ elim looked [
         | inl over ↦ other_by f.fault fault.Overread (ap (λ (z : FrameFault). z.fault) over.3) refl
         | inr later ↦ elim later [
-          | inl late ↦ other_by f.fault fault.Ending (ap (λ (z : FrameFault). z.fault) late.3) refl
+          | inl late ↦ other_by f.fault (ending_fault (is_rice a.configuration.coder)) (ap (λ (z : FrameFault). z.fault) late.3) (ending_other (is_rice a.configuration.coder))
           | inr differs ↦ elim differs.10 [
             | inl left ↦ absurd (let none = no_column p k inside.1 in omega (arith, left.0, none))
             | inr up ↦ absurd (let none = no_line p r inside.0 in omega (arith, up.0, none))

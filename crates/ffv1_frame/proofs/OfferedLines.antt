@@ -26,7 +26,11 @@ use Rattle.ffv1_frame.specs.Order.Event.{Open, Read, Finish, Hand, Close}
 use Rattle.ffv1_frame.specs.Runs.{Steps, Runs}
 use Rattle.ffv1_frame.specs.Answer.{AnswersCut, cut_fault}
 use Rattle.ffv1_frame.specs.Decoding as decoding
-use Rattle.ffv1_frame.specs.Decoding.{State, StepsBy, FaultsWith, Finishes, FinishesBy, Offers, at_first, slice_at, top_of, unread, of_slice}
+use Rattle.ffv1_frame.specs.Decoding.{State, StepsBy, FaultsWith, Finishes, FinishesBy, Offers, at_first, slice_at, top_of, unread, of_slice, of_rice, ending_fault}
+use Rattle.ffv1_record.specs.Accepted.{is_rice}
+use Rattle.std.proofs.lemmas.Bool.{cases_Bool}
+use Rattle.ffv1_rice.specs.declared.fault.Fault.{Fault}
+use Rattle.ffv1_rice.specs.declared.fault.Fault.TheVariants as reason
 use Rattle.ffv1_frame.specs.Kept.{IsLine}
 use Rattle.ffv1_frame.proofs.Machines.{Each, each_both, each_left, each_right, each_range, each_map, runs_split, stops_at}
 use Rattle.ffv1_frame.proofs.LinesRead.{lines_at, columns_read, line_reads}
@@ -243,6 +247,14 @@ other_fault f g same other = λ sink. other (sym same ∙ sink)
 not_sink : (g : CodecFault) → (g ≡ fault.BadStart) → g ≢ fault.Sink
 not_sink g same = λ e. cc
 
+rice_own : (reason : Fault) → of_rice reason ≢ fault.Sink
+rice_own reason.BitsEnd = λ e. cc
+rice_own reason.BadCode = λ e. cc
+
+ending_own : (b : Bool) → ending_fault b ≢ fault.Sink
+ending_own false = λ e. cc
+ending_own true = λ e. cc
+
 module _ (a : Accepted) (coded : ℕ → List ℕ) where
   event_own : (s t : State) (e : Event) (f : FrameFault) → FaultsWith a coded s e f t → f.fault ≢ fault.Sink
   event_own s t (Open r k) f h = elim h.1 [
@@ -259,11 +271,14 @@ module _ (a : Accepted) (coded : ℕ → List ℕ) where
     ]
   ]
   event_own s t (Read r k p y) f h = elim h [
-    | inl stop ↦ other_fault f.fault fault.SymbolTooLong (ap (λ (z : FrameFault). z.fault) stop.3) (λ e. cc)
+    | inl stop ↦ elim (cases_Bool (is_rice a.configuration.coder)) [
+      | inl is ↦ other_fault f.fault (of_rice (stop.rice is).2) (ap (λ (z : FrameFault). z.fault) (stop.rice is).4) (rice_own (stop.rice is).2)
+      | inr is ↦ other_fault f.fault fault.SymbolTooLong (ap (λ (z : FrameFault). z.fault) (stop.range is).3) (λ e. cc)
+    ]
     | inr looked ↦ elim looked [
       | inl over ↦ other_fault f.fault fault.Overread (ap (λ (z : FrameFault). z.fault) over.3) (λ e. cc)
       | inr later ↦ elim later [
-        | inl late ↦ other_fault f.fault fault.Ending (ap (λ (z : FrameFault). z.fault) late.3) (λ e. cc)
+        | inl late ↦ other_fault f.fault (ending_fault (is_rice a.configuration.coder)) (ap (λ (z : FrameFault). z.fault) late.3) (ending_own (is_rice a.configuration.coder))
         | inr differs ↦ other_fault f.fault fault.Overlap (ap (λ (z : FrameFault). z.fault) differs.4) (λ e. cc)
       ]
     ]

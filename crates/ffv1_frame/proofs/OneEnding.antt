@@ -1,5 +1,5 @@
 -- A slice that is cut short, or to which bytes are put, codes no slice of its number.
-use Rattle.std.proofs.Common.{◌≡◌, refl, ℕ, ◌*◌, ◌<◌, List, [], ◌∷◌, ◌++◌, length, ap, sym, subst, ◌∙◌, arith, append-nil, append_assoc, length-append}
+use Rattle.std.proofs.Common.{◌≡◌, refl, ℕ, ◌*◌, ◌<◌, false, List, [], ◌∷◌, ◌++◌, length, ap, sym, subst, ◌∙◌, arith, append-nil, append_assoc, length-append}
 use Rattle.ffv1_range.specs.Interval.{interval_of}
 use Rattle.ffv1_range.specs.Codes.{Codes}
 use Rattle.ffv1_range.specs.Ending.{IsEnded}
@@ -10,7 +10,9 @@ use Rattle.ffv1_record.specs.Accepted.{Accepted}
 use Rattle.ffv1_slice.specs.declared.head.SliceHead.{SliceHead}
 use Rattle.ffv1_slice.specs.Head.{CodesHead, key_steps, head_steps}
 use Rattle.ffv1_frame.specs.Picture.{Planes, cell_in}
-use Rattle.ffv1_frame.specs.SliceList.{Said, CodesSlice, IsBody, lines_in}
+use Rattle.ffv1_frame.specs.SliceList.{Said, IsBody, lines_in}
+use Rattle.ffv1_frame.specs.CodedSlice.{CodesSlice}
+use Rattle.ffv1_record.specs.Accepted.{is_rice}
 use Rattle.ffv1_frame.specs.Sides.{Sides}
 use Rattle.ffv1_frame.proofs.OnlyRead.{OnlyLaws, lines_same, rows_begun}
 use Rattle.ffv1_frame.proofs.SlicesMade.{column_inside}
@@ -38,18 +40,18 @@ module _ (a : Accepted) (n : ℕ) (inside : n < a.configuration.columns * a.conf
         }
 
     -- bytes that code the lists of two slices code one
-    same_steps : (xs ys : List ℕ) (planes others : Planes) (info said : Said) (this : CodesSlice xs a planes info n) (that : CodesSlice ys a others said n) →
+    same_steps : is_rice a.configuration.coder ≡ false → (xs ys : List ℕ) (planes others : Planes) (info said : Said) (this : CodesSlice xs a planes info n) (that : CodesSlice ys a others said n) →
         Codes bytes (decisions_after a.table [] (steps_of this)) → Codes bytes (decisions_after a.table [] (steps_of that)) → steps_of this ≡ steps_of that
-    same_steps xs ys planes others info said this that codes other =
+    same_steps is xs ys planes others info said this that codes other =
         let c = a.configuration in
         let k = column_inside n c.columns sides.columns in
         let head : this.head ≡ that.head = one this.head that.head (opening_of xs planes info this codes) (opening_of ys others said that other) in
         let opening = key_steps n ++ head_steps c n this.head in
-        let those : IsBody c this.head (cell_in c others n) (lines_in c n) that.body = subst (λ h. IsBody c h (cell_in c others n) (lines_in c n) that.body) (sym head) that.is_body in
+        let those : IsBody c this.head (cell_in c others n) (lines_in c n) that.body = subst (λ h. IsBody c h (cell_in c others n) (lines_in c n) that.body) (sym head) (that.is_body.range is) in
         let this_is : steps_of this ≡ opening ++ this.body = sym (append_assoc (key_steps n) (head_steps c n this.head) this.body) in
         let that_is : steps_of that ≡ opening ++ that.body =
         ap (λ h. key_steps n ++ (head_steps c n h ++ that.body)) (sym head) ∙ sym (append_assoc (key_steps n) (head_steps c n this.head) that.body) in
-        let same = lines_same a bytes laws c this.head (cell_in c planes n) (cell_in c others n) (λ p. (sides.columns_tile p).some _ k) (lines_in c n) opening this.body that.body this.is_body those
+        let same = lines_same a bytes laws c this.head (cell_in c planes n) (cell_in c others n) (λ p. (sides.columns_tile p).some _ k) (lines_in c n) opening this.body that.body (this.is_body.range is) those
         (λ p.
         let rows = rows_begun a (λ m. bytes) n laws sides (lines_in c n) [] (sym (append-nil (lines_in c n))) p in
         record { y = 0; count = rows.0; rows = rows.1; agree = record { wide = refl; each = λ x z small below. absurd (omega (arith, below)) } })
@@ -60,11 +62,11 @@ module _ (a : Accepted) (n : ℕ) (inside : n < a.configuration.columns * a.conf
   module _ (xs ys : List ℕ) (laws : OnlyLaws a (xs ++ ys)) (sides : Sides a.configuration)
       (one : (g h : SliceHead) → CodesHead (xs ++ ys) a.table a.profile a.configuration n g → CodesHead (xs ++ ys) a.table a.profile a.configuration n h → g ≡ h)
       (begins : (steps : List Step) → IsEnded xs (interval_of (decisions_after a.table [] steps)) → Codes (xs ++ ys) (decisions_after a.table [] steps)) where
-    pub nothing_follows : a.profile ≡ profile.Wide → (planes others : Planes) (info said : Said) → CodesSlice xs a planes info n → CodesSlice (xs ++ ys) a others said n → ys ≡ []
-    nothing_follows wide planes others info said this that =
-        let ended = this.ending.ended wide in
+    pub nothing_follows : is_rice a.configuration.coder ≡ false → a.profile ≡ profile.Wide → (planes others : Planes) (info said : Said) → CodesSlice xs a planes info n → CodesSlice (xs ++ ys) a others said n → ys ≡ []
+    nothing_follows is wide planes others info said this that =
+        let ended = (this.ending.range is).ended wide in
         let codes = begins (steps_of this) ended in
-        let same = same_steps (xs ++ ys) laws sides one xs (xs ++ ys) planes others info said this that codes that.codes in
+        let same = same_steps (xs ++ ys) laws sides one is xs (xs ++ ys) planes others info said this that codes that.codes in
         let other : IsEnded (xs ++ ys) (interval_of (decisions_after a.table [] (steps_of this))) =
-        subst (λ (z : List Step). IsEnded (xs ++ ys) (interval_of (decisions_after a.table [] z))) (sym same) (that.ending.ended wide) in
+        subst (λ (z : List Step). IsEnded (xs ++ ys) (interval_of (decisions_after a.table [] z))) (sym same) ((that.ending.range is).ended wide) in
         no_more xs ys (let first = ended.whole in let second = other.whole in omega (arith, first, second))

@@ -1,5 +1,5 @@
 -- After what was decided in a slice its bytes code one line at most, or are refused in one place.
-use Rattle.std.proofs.Common.{◌≡◌, refl, ℕ, ℤ, zero, suc, ◌+◌, ◌-◌, ◌*◌, ◌<◌, ◌≤◌, min, List, [], ◌∷◌, ◌++◌, length, take, drop, replicate, get_or, ap, sym, subst, ◌∙◌, arith}
+use Rattle.std.proofs.Common.{◌≡◌, refl, ℕ, ℤ, zero, suc, ◌+◌, ◌-◌, ◌*◌, ◌<◌, ◌≤◌, min, List, [], ◌∷◌, ◌++◌, length, take, drop, replicate, get_or, ap, sym, subst, ◌∙◌, arith, true, false, inl, inr}
 use Rattle.std.proofs.lemmas.List.{get_or_append_left, get_or-append-add, ext_get_or, take-append-drop, length-take-le, length-drop}
 use Rattle.std.proofs.Math.Nat.{mul-le-mul_left}
 use Rattle.ffv1_range.specs.Table.{Table}
@@ -9,7 +9,11 @@ use Rattle.ffv1_line.specs.Cell.{Cell, seen, Above, BeginsWith, Rolls, cell_of}
 use Rattle.ffv1_line.specs.Coded.{AreSame, CodesRow, RefusesRow}
 use Rattle.ffv1_record.specs.Accepted.{Accepted}
 use Rattle.ffv1_frame.specs.Picture.{plane}
-use Rattle.ffv1_frame.specs.Decoding.{Slice, ReadsLine, StopsInLine, cell_with}
+use Rattle.ffv1_record.specs.Accepted.{is_rice}
+use Rattle.ffv1_rice.specs.declared.fault.Fault.{Fault}
+use Rattle.ffv1_frame.specs.Decoding.{Slice, ReadsLine, StopsInLine, RefusesLine, cell_with}
+use Rattle.ffv1_frame.proofs.BitLines.{BitLaws, one_row, row_or_refused}
+use Rattle.std.proofs.lemmas.Bool.{cases_Bool}
 use Rattle.ffv1_line.specs.Coding.{coding_by}
 
 -- the laws of rows, and of the rows above them
@@ -79,29 +83,41 @@ module _ (bytes : List ℕ) (t : Table) (laws : RowLaws bytes t) where
             (laws.rolls width n (take (n * width) samples) before.two before.one (drop (n * width) samples) back before.rolls));
       }
 
-module _ (a : Accepted) (coded : ℕ → List ℕ) (n : ℕ) (laws : RowLaws (coded n) a.table) (p width y : ℕ) (wide : 0 < width) (q : Slice) where
+module _ (a : Accepted) (coded : ℕ → List ℕ) (n : ℕ) (laws : RowLaws (coded n) a.table) (bits : BitLaws a (coded n)) (p width y : ℕ) (wide : 0 < width) (q : Slice) where
   above_row : (samples row : List ℕ) → length samples ≡ y * width → (r : Rolled width y samples) → Above (cell_of width (samples ++ row)) y r.two r.one
   above_row samples row long r = r.rolls.above (cell_of width (samples ++ row)) refl (begins width y samples row long)
 
   some_above : (samples : List ℕ) (r : Rolled width y samples) → 0 < length r.one
   some_above samples r = rw r.rolls.one_long wide
 
-  pub one_line : (qs ps : List ℤ) (row other : List ℕ) → ReadsLine a coded n p width y q qs row → ReadsLine a coded n p width y q ps other → (qs ≡ ps) × (row ≡ other)
-  one_line qs ps row other f g =
+  one_coded : is_rice a.configuration.coder ≡ false → (qs ps : List ℤ) (row other : List ℕ) → ReadsLine a coded n p width y q qs row → ReadsLine a coded n p width y q ps other → (qs ≡ ps) × (row ≡ other)
+  one_coded is qs ps row other f g =
       let samples = plane q.cells p in
       let r = rolled (coded n) a.table laws width y samples f.above in
       let one = laws.one _ _ _ _ (cell_with q p width row) (cell_with q p width other) y y r.two r.one qs ps (some_above samples r)
-      (above_row samples row f.above r) (above_row samples other f.above r) (f.long ∙ sym g.long) f.codes g.codes in
+      (above_row samples row f.above r) (above_row samples other f.above r) (f.long.range is ∙ sym (g.long.range is)) (f.codes.range is) (g.codes.range is) in
       let same : AreSame (cell_with q p width row) y (cell_with q p width other) y width =
-      subst (λ k. AreSame (cell_with q p width row) y (cell_with q p width other) y k) f.long one.1 in
+      subst (λ k. AreSame (cell_with q p width row) y (cell_with q p width other) y k) (f.long.range is) one.1 in
       (one.0, same_row width y width samples row other f.above (omega arith) f.row_long g.row_long same)
 
-  pub line_or_stop : (qs ps : List ℤ) (row other : List ℕ) → ReadsLine a coded n p width y q qs row → StopsInLine a coded n p width y q ps other → ⊥
-  line_or_stop qs ps row other f g =
+  pub one_line : (qs ps : List ℤ) (row other : List ℕ) → ReadsLine a coded n p width y q qs row → ReadsLine a coded n p width y q ps other → (qs ≡ ps) × (row ≡ other)
+  one_line qs ps row other f g = elim (cases_Bool (is_rice a.configuration.coder)) [
+    | inl is ↦ (
+      f.long.rice is ∙ sym (g.long.rice is),
+      one_row a coded n bits is p width y q row other (f.row_long ∙ sym g.row_long) (f.codes.rice is) (g.codes.rice is),
+    )
+    | inr is ↦ one_coded is qs ps row other f g
+  ]
+
+  pub line_or_refused : is_rice a.configuration.coder ≡ true → (qs : List ℤ) (row other : List ℕ) (x : ℕ) (reason : Fault) → ReadsLine a coded n p width y q qs row → RefusesLine a coded n p width y q other x reason → ⊥
+  line_or_refused is qs row other x reason f g = row_or_refused a coded n bits is p width y q row other x reason f.row_long (f.codes.rice is) g
+
+  pub line_or_stop : is_rice a.configuration.coder ≡ false → (qs ps : List ℤ) (row other : List ℕ) → ReadsLine a coded n p width y q qs row → StopsInLine a coded n p width y q ps other → ⊥
+  line_or_stop is qs ps row other f g =
       let samples = plane q.cells p in
       let r = rolled (coded n) a.table laws width y samples f.above in
       laws.whole_or_refused _ _ _ _ (cell_with q p width row) (cell_with q p width other) y y r.two r.one qs ps (some_above samples r)
-      (above_row samples row f.above r) (above_row samples other f.above r) (rw f.long g.short) f.codes g.refuses
+      (above_row samples row f.above r) (above_row samples other f.above r) (rw (f.long.range is) g.short) (f.codes.range is) g.refuses
 
   pub one_stop : (qs ps : List ℤ) (row other : List ℕ) → StopsInLine a coded n p width y q qs row → StopsInLine a coded n p width y q ps other → (qs ≡ ps) × (row ≡ other)
   one_stop qs ps row other f g =

@@ -1,5 +1,5 @@
 -- What the bytes of a slice code of some lines, no others do.
-use Rattle.std.proofs.Common.{◌≡◌, ◌≢◌, refl, ℕ, ℤ, zero, suc, ◌+◌, ◌-◌, ◌*◌, ◌/◌, ◌%◌, ◌<◌, ◌≤◌, min, if◌then◌else◌, List, [], ◌∷◌, ◌++◌, map, length, get_or, replicate, inl, inr, ap, sym, subst, ◌∙◌, arith, append_assoc}
+use Rattle.std.proofs.Common.{◌≡◌, ◌≢◌, refl, ℕ, ℤ, zero, suc, ◌+◌, ◌-◌, ◌*◌, ◌/◌, ◌%◌, ◌<◌, ◌≤◌, min, if◌then◌else◌, List, [], ◌∷◌, ◌++◌, map, length, get_or, replicate, false, inl, inr, ap, sym, subst, ◌∙◌, arith, append_assoc}
 use Rattle.std.specs.List.{range_with_len}
 use Rattle.std.proofs.lemmas.Bool.{cases_lt, cases_eq, eq-eqb, ne_eqb}
 use Rattle.std.proofs.lemmas.List.FromFn.{length-map-range_with_len, get_or-map-range_with_len}
@@ -15,6 +15,7 @@ use Rattle.ffv1_record.specs.Accepted.{Accepted}
 use Rattle.ffv1_slice.specs.declared.head.SliceHead.{SliceHead}
 use Rattle.ffv1_frame.specs.SliceList.{Line, IsBody, lines_in, line_steps, set_in, bits_of, base_of}
 use Rattle.ffv1_frame.specs.Known.{ShowSame, CodesRead, cells_of}
+use Rattle.ffv1_record.specs.Accepted.{is_rice}
 use Rattle.ffv1_frame.specs.Sides.{Sides}
 use Rattle.ffv1_frame.specs.Picture.{plane_count}
 use Rattle.ffv1_frame.specs.Order.{lines_down}
@@ -234,20 +235,20 @@ module _ (a : Accepted) (coded : ℕ → List ℕ) (n : ℕ) (laws : OnlyLaws a 
     pub past : q.past ≡ r.past
     pub shown : ShowSame (cells_of a.configuration n q) (cells_of a.configuration n r) read
 
-  pub read_same : (q r : Slice) (read more : List Line) → n < a.configuration.columns * a.configuration.rows → lines_in a.configuration n ≡ read ++ more →
+  pub read_same : is_rice a.configuration.coder ≡ false → (q r : Slice) (read more : List Line) → n < a.configuration.columns * a.configuration.rows → lines_in a.configuration n ≡ read ++ more →
       ((g h : SliceHead) → CodesHead (coded n) a.table a.profile a.configuration n g → CodesHead (coded n) a.table a.profile a.configuration n h → g ≡ h) →
       CodesRead a coded n q read → CodesRead a coded n r read → ReadSame q r read
-  read_same q r read more inside parts one this that =
+  read_same is q r read more inside parts one this that =
       let c = a.configuration in
       let k = n % c.columns in
       let here : k < c.columns = column_inside n c.columns sides.columns in
       let head : q.head ≡ r.head = one q.head r.head (same_head q read this) (same_head r read that) in
       let opening = key_steps n ++ head_steps c n q.head in
-      let those : IsBody c q.head (cells_of c n r) read that.body = subst (λ h. IsBody c h (cells_of c n r) read that.body) (sym head) that.is_body in
+      let those : IsBody c q.head (cells_of c n r) read that.body = subst (λ h. IsBody c h (cells_of c n r) read that.body) (sym head) (that.is_body.range is) in
       let this_past : q.past ≡ opening ++ this.body = this.past ∙ sym (append_assoc (key_steps n) (head_steps c n q.head) this.body) in
       let that_past : r.past ≡ opening ++ that.body =
       that.past ∙ ap (λ h. key_steps n ++ (head_steps c n h ++ that.body)) (sym head) ∙ sym (append_assoc (key_steps n) (head_steps c n q.head) that.body) in
-      let same = lines_same a (coded n) laws c q.head (cells_of c n q) (cells_of c n r) (λ p. (sides.columns_tile p).some k here) read opening this.body that.body this.is_body those
+      let same = lines_same a (coded n) laws c q.head (cells_of c n q) (cells_of c n r) (λ p. (sides.columns_tile p).some k here) read opening this.body that.body (this.is_body.range is) those
       (λ p.
       let rows = rows_begun read more parts p in
       record { y = 0; count = rows.0; rows = rows.1; agree = record { wide = refl; each = λ x z inside below. absurd (omega (arith, below)) } })

@@ -26,6 +26,10 @@ use Rattle.ffv1_frame.proofs.Agreed.{IsAgreed, row_keeps, groups_agreed}
 use Rattle.ffv1_frame.proofs.SliceBodies.{CellLaws, HasRead, longer, plane_is, plane_put, plane_beside}
 use Rattle.ffv1_frame.proofs.LinesMade.{MadeOf, goes_on, AllHave, have_more, row_made, groups_of_row}
 use Rattle.ffv1_frame.specs.Overread.{IsWithin}
+use Rattle.ffv1_frame.specs.RiceLines.{fresh_coder}
+use Rattle.ffv1_record.specs.Accepted.{is_rice}
+use Rattle.ffv1_frame.proofs.BitBodies.{bits_none, after_none}
+use Rattle.std.proofs.lemmas.Bool.{cases_Bool}
 
 nothing_read : (c : Configuration) (h : SliceHead) (cell : ℕ → Cell) → IsBody c h cell [] []
 unfolding IsBody
@@ -44,9 +48,10 @@ module _ (a : Accepted) (coded : ℕ → List ℕ) (r : ℕ) where
         are = tt;
         body = [];
         past = ap (λ z. key_steps n ++ z) (sym (append-nil (head_steps c n h)));
-        is_body = nothing_read c h _;
+        is_body = record { range = λ is. nothing_read c h _; rice = λ is. refl };
         codes = codes.codes;
         within = within;
+        bits = record { range = λ is. tt; rice = λ is. record { bits = sym (bits_none c h _ fresh_coder); coder = sym (after_none c h _ fresh_coder); begun = inl refl } };
         ending = λ front last parts is. let long = ap (λ (xs : List Line). length xs) parts in let sum = length-append front (last ∷ []) in absurd (omega (arith, long, sum));
       }
 
@@ -142,11 +147,14 @@ module _ (a : Accepted) (coded : ℕ → List ℕ) (r k : ℕ) (few : SuitsFew) 
       let width = width_in a.configuration next.p k in
       let samples = plane q.cells next.p in
       elim (cases_lt i width) [
-        | inl inside ↦
-            let here : get_or (samples ++ next.row) (next.y * width + i) 0 ≡ get_or next.row i 0 =
-            ap (λ n. get_or (samples ++ next.row) (n + i) 0) (sym next.reads.above) ∙ get_or-append-add samples next.row i 0 in
-            subst (λ s. s < 2 ^ bits_of a.configuration) here
-            (few _ (bits_of a.configuration) (cell_of width (samples ++ next.row)) next.y i next.qs next.reads.codes.suits (rw next.reads.long inside) inside)
+        | inl inside ↦ elim (cases_Bool (is_rice a.configuration.coder)) [
+          | inl is ↦ (next.reads.codes.rice is).codes.samples.each i (rw next.reads.row_long inside)
+          | inr is ↦
+              let here : get_or (samples ++ next.row) (next.y * width + i) 0 ≡ get_or next.row i 0 =
+              ap (λ n. get_or (samples ++ next.row) (n + i) 0) (sym next.reads.above) ∙ get_or-append-add samples next.row i 0 in
+              subst (λ s. s < 2 ^ bits_of a.configuration) here
+              (few _ (bits_of a.configuration) (cell_of width (samples ++ next.row)) next.y i next.qs (next.reads.codes.range is).suits (rw (next.reads.long.range is) inside) inside)
+        ]
         | inr past ↦
             let none : get_or next.row i 0 ≡ 0 = get_or_past {X = ℕ} next.row i 0 (rw next.reads.row_long (omega (arith, past))) in
             rw none (pow_pos (bits_of a.configuration))

@@ -147,7 +147,7 @@ module _ (a : Accepted) (coded : ℕ → List ℕ) (planes : Planes) (info : Sai
         ap (λ b. ((if b then record { plane = p; y = y } ∷ [] else []) ++ reads_of i es) ++ more i) (eq-eqb i i refl) in
         let stands = subst (λ ls. StandsBefore a coded planes r i mine.head mine.body ls q) lines mine.stands in
         let go = goes a coded planes r i laws (front i inside) (λ p. some p i inside) last mine.head mine.body p y (reads_of i es ++ more i) q mine.coding few stands in
-        let next = after_line q (steps_of_line a coded q p (width_in c p i) y go.qs go.row) p go.row in
+        let next = after_line a coded q p (width_in c p i) y go.qs go.row in
         let place : i < length s.columns = rw long inside in
         let m = put_slice s i next in
         record {

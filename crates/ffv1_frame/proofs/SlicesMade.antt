@@ -13,7 +13,7 @@ use Rattle.ffv1_record.specs.Accepted.{Accepted}
 use Rattle.ffv1_slice.specs.Grid.{down, division_of, begin_of, first_of, shared_of}
 use Rattle.ffv1_slice.specs.Head.{key_steps, head_steps}
 use Rattle.ffv1_frame.specs.Picture.{Planes, plane, plane_count, cell_in, coded_at}
-use Rattle.ffv1_frame.specs.SliceList.{Line, Said, said_by, CodesSlice, lines_of_plane, planes_of_line}
+use Rattle.ffv1_frame.specs.SliceList.{Line, Said, said_by, lines_of_plane, planes_of_line}
 use Rattle.ffv1_frame.specs.Order.{lines_down}
 use Rattle.ffv1_slice.specs.Footer.{foot_length}
 use Rattle.ffv1_slice.specs.Cutting.{Cuts, coded_of}
@@ -28,7 +28,10 @@ use Rattle.ffv1_frame.proofs.RowsDone.{all_done, IsBelow}
 use Rattle.ffv1_frame.proofs.Agreed.{IsAgreed}
 use Rattle.ffv1_frame.proofs.CellsShown.{IsLine, Shown, AgreesLeft, IsOld, groups_shown, alike_down}
 use Rattle.ffv1_frame.proofs.PictureMade.{PictureLaws, Part, Rows, all_there, alike_lines, some_wide, all_sized, all_keys, planes_made, lines_are, all_lines, picture_made}
-use Rattle.ffv1_frame.specs.Ending.{HasEnding}
+use Rattle.ffv1_frame.specs.Ending.{HasEnding, HasPadding}
+use Rattle.ffv1_frame.specs.CodedSlice.{CodesSlice}
+use Rattle.ffv1_frame.specs.RiceLines.{fresh_coder, rice_bits}
+use Rattle.ffv1_frame.proofs.BitBodies.{bits_alike}
 use Rattle.ffv1_frame.proofs.LastLine.{has_last, planes_some}
 
 pub at_number : {B : Type 0} (P : B → Type 0) (f : ℕ → B) (from count k : ℕ) → from ≤ k → k < from + count → Each P (map f (range_with_len from count)) → P (f k)
@@ -220,21 +223,31 @@ module _ (a : Accepted) (laws : PictureLaws a) (coded : ℕ → List ℕ) (info 
         let number : slice_number c row column ≡ n = number_is n c.columns laws.columns in
         let past : read.past ≡ key_steps n ++ (head_steps c n read.head ++ has.body) =
         has.past ∙ ap (λ m. key_steps m ++ (head_steps c m read.head ++ has.body)) number in
+        let all_agree : Each (λ (l : Line). Agree (cells l.plane) (cell_in c planes n l.plane) l.y) (row_lines c row) =
+        each_both (IsLineOf c row) (λ (l : Line). Agree (cells l.plane) (cell_in c planes n l.plane) l.y) (row_lines c row)
+        (lines_are_of c row (λ rct p. alike_lines a laws rct p row)) (agree laws.columns) in
         record {
           head = read.head;
           is_head = has.is_head;
           says = same_said (part.says column here);
           body = has.body;
-          is_body =
-              body_alike laws.cells c read.head cells (cell_in c planes n) (row_lines c row) has.body
-              (each_both (IsLineOf c row) (λ (l : Line). Agree (cells l.plane) (cell_in c planes n l.plane) l.y) (row_lines c row)
-              (lines_are_of c row (λ rct p. alike_lines a laws rct p row)) (agree laws.columns)) has.is_body;
+          is_body = record {
+            range = λ is. body_alike laws.cells c read.head cells (cell_in c planes n) (row_lines c row) has.body all_agree (has.is_body.range is);
+            rice = has.is_body.rice;
+          };
           codes =
               subst (λ (steps : List Step). Codes (coded n) (decisions_after a.table [] steps)) past
               (subst (λ m. Codes (coded m) (decisions_after a.table [] read.past)) number has.codes);
           ending =
               let last = has_last c row (λ rct p. alike_lines a laws rct p row) (planes_some c) (λ p. (laws.tiles_v p).some row (row_inside n c.columns c.rows laws.columns inside)) in
-              subst (HasEnding a (coded n)) past (subst (λ m. HasEnding a (coded m) read.past) number (has.ending last.front last.last last.parts last.is));
+              let ends = has.ending last.front last.last last.parts last.is in record {
+                range = λ is. subst (HasEnding a (coded n)) past (subst (λ m. HasEnding a (coded m) read.past) number (ends.range is));
+                rice = λ is.
+                    let same : read.bits ≡ rice_bits c read.head (cell_in c planes n) (row_lines c row) =
+                    (has.bits.rice is).bits ∙ bits_alike c read.head cells (cell_in c planes n) fresh_coder (row_lines c row) all_agree in
+                    subst (λ steps. HasPadding a (coded n) steps (rice_bits c read.head (cell_in c planes n) (row_lines c row))) past
+                    (subst (HasPadding a (coded n) read.past) same (subst (λ m. HasPadding a (coded m) read.past read.bits) number (ends.rice is)));
+              };
         }
 
 -- what was decoded to the end is a picture that the payload codes

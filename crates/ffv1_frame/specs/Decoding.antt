@@ -15,6 +15,11 @@ use Rattle.ffv1_record.specs.Accepted.{Accepted}
 use Rattle.ffv1_line.specs.Cell.{Cell, cell_of}
 use Rattle.ffv1_line.specs.Row.{row_steps}
 use Rattle.ffv1_line.specs.Coded.{CodesRow, RefusesRow, refused_row_steps}
+use Rattle.ffv1_rice.specs.Rows as rows
+use Rattle.ffv1_rice.specs.Rows.{Reading, AreSamples}
+use Rattle.ffv1_rice.specs.declared.fault.Fault.{Fault}
+use Rattle.ffv1_rice.specs.declared.fault.Fault.TheVariants as refused
+use Rattle.ffv1_record.specs.Accepted.{is_rice}
 use Rattle.ffv1_slice.specs.declared.head.SliceHead.{SliceHead}
 use Rattle.ffv1_slice.specs.declared.fault.SliceFault.{SliceFault}
 use Rattle.ffv1_slice.specs.declared.fault.SliceFault.TheVariants as slice
@@ -24,19 +29,24 @@ use Rattle.ffv1_frame.specs.declared.fault.CodecFault.{CodecFault}
 use Rattle.ffv1_frame.specs.declared.fault.CodecFault.TheVariants as fault
 use Rattle.ffv1_frame.specs.declared.fault.FrameFault.{FrameFault}
 use Rattle.ffv1_frame.specs.Picture.{plane, plane_count, green_of, blue_of}
-use Rattle.ffv1_frame.specs.SliceList.{Said, said_by, base_of, set_in, coding_in}
+use Rattle.ffv1_frame.specs.SliceList.{Said, said_by, base_of, bits_of, class_of, set_in, coding_in}
+use Rattle.ffv1_frame.specs.RiceLines.{ByCoder, LineCoder, fresh_coder, line_reading, bits_in}
+use Rattle.ffv1_frame.specs.RiceLines.{coder_after, with_row}
 use Rattle.ffv1_frame.specs.Order.{Event, IsLastLine, events_of, lines_down}
 use Rattle.ffv1_frame.specs.Order.Event.{Open, Read, Finish, Hand, Close}
 use Rattle.ffv1_frame.specs.Overread.{IsWithin, IsOverread}
-use Rattle.ffv1_frame.specs.Ending.{HasEnding, LacksEnding}
+use Rattle.ffv1_frame.specs.Ending.{IsBehind, SliceEnds, SliceGoesOn}
 use Rattle.ffv1_frame.specs.Runs.{Runs, Stops}
 
 -- what is known of a slice: what was decided in it, what its head says, and for each plane the
--- samples of its cell that were read, row after row
+-- samples of its cell that were read, row after row; of Golomb-Rice coded ones also the bits of
+-- these rows, and what the next is coded by
 pub record Slice : Type 0 where
   pub past : List Step
   pub head : SliceHead
   pub cells : List (List ℕ)
+  pub bits : List Bool
+  pub coder : LineCoder
 
 -- a slice of which nothing is known but what was decided in it
 abbrev pub decided_in : List Step → Slice
@@ -44,6 +54,8 @@ decided_in steps = record {
   past = steps;
   head = record { indexes = 0 ∷ 0 ∷ 0 ∷ []; structure = 0; sar_num = 0; sar_den = 0 };
   cells = [];
+  bits = [];
+  coder = fresh_coder;
 }
 
 abbrev pub unread : Slice
@@ -199,26 +211,54 @@ pub record IsColourless (c : Configuration) (read : List (List ℕ)) (x : ℕ) :
 abbrev pub cell_with : Slice → ℕ → ℕ → List ℕ → Cell
 cell_with q p width row = cell_of width (plane q.cells p ++ row)
 
--- the slice after some steps of a line, and after a whole line of plane p, with its samples
+-- the slice after some steps of a line
 abbrev pub after_steps : Slice → List Step → Slice
 after_steps q steps = record q { past = q.past ++ steps }
 
-abbrev pub after_line : Slice → List Step → ℕ → List ℕ → Slice
-after_line q steps p row = record q {
-  past = q.past ++ steps;
-  cells = slice_set q.cells p (plane q.cells p ++ row);
-}
+-- how line y of its cell in plane p, so many samples wide, is read from bits
+abbrev pub reading_in : Configuration → Slice → ℕ → ℕ → ℕ → List Bool → Reading
+reading_in c q p width y text =
+    line_reading c q.head (cell_of width (plane q.cells p)) q.coder p y text
+
+-- the bits of that line, and what the next is coded by, if samples are Golomb-Rice coded
+abbrev pub bits_of_line : Bool → Configuration → Slice → ℕ → ℕ → ℕ → List ℕ → List Bool
+bits_of_line false c q p width y row = []
+bits_of_line true c q p width y row = bits_in (reading_in c q p width y []) row
+
+abbrev pub coder_of_line : Bool → Configuration → Slice → ℕ → ℕ → ℕ → List ℕ → LineCoder
+coder_of_line false c q p width y row = q.coder
+coder_of_line true c q p width y row =
+    with_row q.coder (class_of p) (coder_after (reading_in c q p width y []) row)
+
+-- the fault of bits that are those of no line, as a fault of a frame
+abbrev pub of_rice : Fault → CodecFault
+of_rice refused.BitsEnd = fault.BitsEnd
+of_rice refused.BadCode = fault.BadCode
+
+-- the fault of a slice that does not end after the last line of its cells
+abbrev pub ending_fault : Bool → CodecFault
+ending_fault false = fault.Ending
+ending_fault true = fault.Padding
 
 -- a is the configuration with its table; coded n are the coded bytes of slice n
 module _ (a : Accepted) (coded : ℕ → List ℕ) where
-  -- after what was decided in slice n its bytes code line y of its cell in plane p, so many
-  -- samples wide, by residuals that suit the samples
+  -- the bits behind what was read of slice n begin with those of a row of samples
+  pub record CodesBits (n p width y : ℕ) (q : Slice) (row : List ℕ) : Type 0 where
+    pub text : List Bool
+    pub rest : List Bool
+    pub behind : IsBehind a (coded n) q.past (q.bits ++ text)
+    pub codes : rows.CodesRow (reading_in a.configuration q p width y text) row rest
+
+  -- after what was read of slice n its bytes code line y of its cell in plane p, so many samples
+  -- wide: by residuals that suit the samples, or by bits
   pub record ReadsLine (n p width y : ℕ) (q : Slice) (qs : List ℤ) (row : List ℕ) : Type 0 where
     pub above : length (plane q.cells p) ≡ y * width
-    pub long : length qs ≡ width
+    pub long : ByCoder (is_rice a.configuration.coder) (length qs ≡ width) (qs ≡ [])
     pub row_long : length row ≡ width
-    pub codes : CodesRow (coded n) (coding_in a q.head p) (base_of a.configuration p) q.past
-        (cell_with q p width row) y qs
+    pub codes : ByCoder (is_rice a.configuration.coder)
+        (CodesRow (coded n) (coding_in a q.head p) (base_of a.configuration p) q.past
+        (cell_with q p width row) y qs)
+        (CodesBits n p width y q row)
 
   -- or a beginning of that line, and then a symbol that is refused
   pub record StopsInLine (n p width y : ℕ) (q : Slice) (qs : List ℤ) (row : List ℕ) : Type 0 where
@@ -228,11 +268,33 @@ module _ (a : Accepted) (coded : ℕ → List ℕ) where
     pub refuses : RefusesRow (coded n) (coding_in a q.head p) (base_of a.configuration p) q.past
         (cell_with q p width row) y qs
 
+  -- or the bits behind what was read are refused at place x of that line, for this reason
+  pub record RefusesLine (n p width y : ℕ) (q : Slice) (row : List ℕ) (x : ℕ) (reason : Fault)
+      : Type 0 where
+    pub above : length (plane q.cells p) ≡ y * width
+    pub inside : x < width
+    pub row_long : length row ≡ width
+    pub text : List Bool
+    pub behind : IsBehind a (coded n) q.past (q.bits ++ text)
+    pub samples : AreSamples (bits_of a.configuration) x row
+    pub refuses : rows.IsRefused (reading_in a.configuration q p width y text) row x reason
+
   -- their decisions
   abbrev pub steps_of_line : Slice → ℕ → ℕ → ℕ → List ℤ → List ℕ → List Step
   steps_of_line q p width y qs row =
       shifted (base_of a.configuration p)
       (row_steps (set_in a.configuration q.head p) (cell_with q p width row) y 0 qs)
+
+  -- the slice after a whole line, with its samples
+  abbrev pub after_line : Slice → ℕ → ℕ → ℕ → List ℤ → List ℕ → Slice
+  after_line q p width y qs row = record {
+    past = q.past ++ steps_of_line q p width y qs row;
+    head = q.head;
+    cells = slice_set q.cells p (plane q.cells p ++ row);
+    bits = q.bits
+        ++ bits_of_line (is_rice a.configuration.coder) a.configuration q p width y row;
+    coder = coder_of_line (is_rice a.configuration.coder) a.configuration q p width y row;
+  }
 
   abbrev pub steps_of_stop : Slice → ℕ → ℕ → ℕ → List ℤ → List ℕ → List Step
   steps_of_stop q p width y qs row =
@@ -262,6 +324,8 @@ module _ (a : Accepted) (coded : ℕ → List ℕ) where
     past = key_steps n ++ head_steps a.configuration n h;
     head = h;
     cells = replicate (plane_count a.configuration) [];
+    bits = [];
+    coder = fresh_coder;
   }
 
   -- the event makes its step
@@ -277,12 +341,12 @@ module _ (a : Accepted) (coded : ℕ → List ℕ) where
       let width = width_in a.configuration p k in
       (qs : List ℤ) × (row : List ℕ)
       × ReadsLine (slice_number a.configuration r k) p width y q qs row
-      × (t ≡ put_slice s k (after_line q (steps_of_line q p width y qs row) p row))
+      × (t ≡ put_slice s k (after_line q p width y qs row))
       × IsWithin a (coded (slice_number a.configuration r k))
       (q.past ++ steps_of_line q p width y qs row)
       × (IsLastLine a.configuration r p y →
-      HasEnding a (coded (slice_number a.configuration r k))
-      (q.past ++ steps_of_line q p width y qs row))
+      SliceEnds a (coded (slice_number a.configuration r k))
+      (q.past ++ steps_of_line q p width y qs row) (after_line q p width y qs row).bits)
       × Agrees a.configuration s r k p y width row
   StepsBy s (Finish r planes y) t =
       (out : List (List ℕ))
@@ -302,7 +366,17 @@ module _ (a : Accepted) (coded : ℕ → List ℕ) where
         columns = replicate a.configuration.columns unread;
       }
 
-  -- line y of a cell is refused within it, at a symbol
+  -- line y of a cell is refused within it, at a place of its bits
+  abbrev pub BitsStopAt : State → ℕ → ℕ → ℕ → ℕ → FrameFault → State → Type 0
+  BitsStopAt s r k p y f t =
+      let n = slice_number a.configuration r k in
+      let q = slice_at s k in
+      let width = width_in a.configuration p k in
+      (row : List ℕ) × (x : ℕ) × (reason : Fault) × RefusesLine n p width y q row x reason
+      × (f ≡ fault_in a.configuration (of_rice reason) r k p y (left_of a.configuration p k + x))
+      × (t ≡ s)
+
+  -- or at a symbol
   abbrev pub StopsAt : State → ℕ → ℕ → ℕ → ℕ → FrameFault → State → Type 0
   StopsAt s r k p y f t =
       let n = slice_number a.configuration r k in
@@ -321,7 +395,7 @@ module _ (a : Accepted) (coded : ℕ → List ℕ) where
       let width = width_in a.configuration p k in
       (qs : List ℤ) × (row : List ℕ) × ReadsLine n p width y q qs row
       × (f ≡ fault_in a.configuration fault.Overread r k p y 0)
-      × (t ≡ put_slice s k (after_line q (steps_of_line q p width y qs row) p row))
+      × (t ≡ put_slice s k (after_line q p width y qs row))
       × IsOverread a (coded n) (q.past ++ steps_of_line q p width y qs row)
 
   -- it is read, as the last of its slice, which does not end there
@@ -331,11 +405,12 @@ module _ (a : Accepted) (coded : ℕ → List ℕ) where
       let q = slice_at s k in
       let width = width_in a.configuration p k in
       (qs : List ℤ) × (row : List ℕ) × ReadsLine n p width y q qs row
-      × (f ≡ fault_in a.configuration fault.Ending r k p y 0)
-      × (t ≡ put_slice s k (after_line q (steps_of_line q p width y qs row) p row))
+      × (f ≡ fault_in a.configuration (ending_fault (is_rice a.configuration.coder)) r k p y 0)
+      × (t ≡ put_slice s k (after_line q p width y qs row))
       × IsWithin a (coded n) (q.past ++ steps_of_line q p width y qs row)
       × IsLastLine a.configuration r p y
-      × LacksEnding a (coded n) (q.past ++ steps_of_line q p width y qs row)
+      × SliceGoesOn a (coded n) (q.past ++ steps_of_line q p width y qs row)
+      (after_line q p width y qs row).bits
       × Agrees a.configuration s r k p y width row
 
   -- it is read, and x is the first of its samples of which a slice before says another value
@@ -346,7 +421,7 @@ module _ (a : Accepted) (coded : ℕ → List ℕ) where
       let width = width_in a.configuration p k in
       (qs : List ℤ) × (row : List ℕ) × (x : ℕ) × ReadsLine n p width y q qs row
       × (f ≡ fault_in a.configuration fault.Overlap r k p y (left_of a.configuration p k + x))
-      × (t ≡ put_slice s k (after_line q (steps_of_line q p width y qs row) p row))
+      × (t ≡ put_slice s k (after_line q p width y qs row))
       × IsWithin a (coded n) (q.past ++ steps_of_line q p width y qs row)
       × (x < width) × Agrees a.configuration s r k p y x row
       × (v : ℕ) × SaidBefore a.configuration s r k p y x v × (slice_index row x ≢ v)
@@ -358,7 +433,8 @@ module _ (a : Accepted) (coded : ℕ → List ℕ) where
       (steps : List Step) × RefusesOpen s.info n f.fault steps × (f ≡ in_slice f.fault n)
       × (t ≡ put_slice s k (decided_in steps))
   FaultsWith s (Read r k p y) f t =
-      StopsAt s r k p y f t ⊎ OverreadsAt s r k p y f t ⊎ LacksEndingAt s r k p y f t
+      ByCoder (is_rice a.configuration.coder) (StopsAt s r k p y f t) (BitsStopAt s r k p y f t)
+      ⊎ OverreadsAt s r k p y f t ⊎ LacksEndingAt s r k p y f t
       ⊎ DiffersAt s r k p y f t
   FaultsWith s (Finish r planes y) f t =
       (x : ℕ) × (k : ℕ)

@@ -9,7 +9,8 @@ use Rattle.ffv1_slice.specs.Head.{is_aspect}
 use Rattle.ffv1_slice.specs.Footer.{foot_length, footer_of}
 use Rattle.ffv1_slice.specs.Cutting.{Cuts, coded_of, joined_of}
 use Rattle.ffv1_frame.specs.Picture.{Planes, IsPicture}
-use Rattle.ffv1_frame.specs.SliceList.{Said, CodesSlice, chosen_slice}
+use Rattle.ffv1_frame.specs.SliceList.{Said, chosen_slice}
+use Rattle.ffv1_frame.specs.CodedSlice.{CodesSlice}
 use Rattle.std.specs.Prelude.{true}
 
 -- what a head of the profile may say

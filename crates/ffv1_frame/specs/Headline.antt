@@ -1,5 +1,5 @@
 -- What a call of the decoder is for, whatever the payload and the sink.
-use Rattle.std.specs.Prelude.{◌≡◌, ℕ, ◌<◌, ◌≤◌, ◌==◌, Result, Ok, MatchResult, List, [], ◌∷◌}
+use Rattle.std.specs.Prelude.{◌≡◌, ℕ, ◌<◌, ◌≤◌, ◌==◌, false, Result, Ok, MatchResult, List, [], ◌∷◌}
 use Rattle.std.specs.Prelude.{map, length}
 use Rattle.std.specs.List.{filter, range_with_len}
 use Rattle.ffv1_wire.specs.Runs.{LineStep, Line, Grows}
@@ -9,6 +9,7 @@ use Rattle.ffv1_range.specs.Standard.{standard}
 use Rattle.ffv1_range.specs.Renormalising.{decisions_a_byte}
 use Rattle.ffv1_record.specs.Configuration.{Configuration}
 use Rattle.ffv1_record.specs.Accepted.{Accepted}
+use Rattle.ffv1_record.specs.Accepted.{is_rice}
 use Rattle.ffv1_record.specs.Held.{held_of}
 use Rattle.ffv1_record.specs.declared.config.Profile.TheVariants as profile
 use Rattle.ffv1_record.specs.declared.checked.Held.{Held}
@@ -61,13 +62,13 @@ module _ {S : Type 0} (takes refuses : LineStep S) (a : Accepted) (old new : S)
       (λ f. (f.fault ≡ fault.Sink)
       × wire.Refuses takes refuses old (lines_of a.configuration planes) new)
 
-  -- decoding accepts exactly the payloads that code a picture, every encoded frame among them, and
-  -- hands over each sample, once and in its place; such a frame is short; whatever bytes come, few
-  -- decisions are made, at most 63 for each sample that a slice codes and 559 a slice, with
-  -- transparency 621, and in Wide few for what the payload weighs: by the standard's table at most
-  -- 197 for each coded byte and 197 a slice, and beside them 63 for each sample of one line of its
-  -- cell; and no more is held than the configuration says, of which the height says only whether
-  -- two lines of chroma are kept
+  -- decoding accepts exactly the payloads that code a picture, every range coded frame of an
+  -- encoder among them, and hands over each sample, once and in its place; such a frame is short;
+  -- whatever bytes come, few decisions are made, at most 63 for each sample that a slice codes and
+  -- 559 a slice, with transparency 621, and in Wide few for what the payload weighs: by the
+  -- standard's table at most 197 for each coded byte and 197 a slice, and beside them 63 for each
+  -- sample of one line of its cell; and no more is held than the configuration says, of which the
+  -- height says only whether two lines of chroma are kept
   pub record Headline (payload : List ℕ) (tally : Tally) (held : Held) : Type 0 where
     pub found : (info : Said) → result ≡ Ok info →
         (planes : Planes) × CodesPicture a payload planes info
@@ -75,9 +76,9 @@ module _ {S : Type 0} (takes refuses : LineStep S) (a : Accepted) (old new : S)
     pub only : (planes : Planes) (info : Said) → CodesPicture a payload planes info →
         DecodesTo planes info
     pub once : (planes : Planes) → StandsOnce a planes
-    pub encoded : (planes : Planes) (info : Said) → IsPicture a.configuration planes →
-        IsSaid info → (HasLongSlice a planes info → ⊥) → payload ≡ frame_of a planes info →
-        DecodesTo planes info
+    pub encoded : is_rice a.configuration.coder ≡ false → (planes : Planes) (info : Said) →
+        IsPicture a.configuration planes → IsSaid info → (HasLongSlice a planes info → ⊥) →
+        payload ≡ frame_of a planes info → DecodesTo planes info
     pub short : AreShort a
     pub few : decided_by tally ≤ most_decisions a.configuration
     pub few_by_bytes : a.profile ≡ profile.Wide → decided_by tally

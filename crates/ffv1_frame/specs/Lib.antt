@@ -1,13 +1,15 @@
 pub mod Windows
 pub mod Picture
 pub mod SliceList
+pub mod RiceLines
+pub mod Overread
+pub mod Ending
+pub mod CodedSlice
 pub mod Frame
 pub mod Length
 pub mod Worked
 pub mod Runs
 pub mod Order
-pub mod Overread
-pub mod Ending
 pub mod Decoding
 pub mod Lines
 pub mod Answer

@@ -6,10 +6,7 @@ use Rattle.std.specs.Prelude.{if◌then◌else◌, List, [], ◌∷◌, ◌++◌
 use Rattle.std.specs.Prelude.{slice_get, Option, Some, None}
 use Rattle.std.proofs.Common.{zero, suc}
 use Rattle.std.specs.List.{flat_map, range_with_len}
-use Rattle.ffv1_range.specs.Interval.{Decision}
-use Rattle.ffv1_range.specs.Codes.{Codes}
 use Rattle.ffv1_range.specs.Symbols.{Step, shifted}
-use Rattle.ffv1_range.specs.History.{decisions_after}
 use Rattle.ffv1_plane.specs.Quantisation.{Set}
 use Rattle.ffv1_line.specs.Cell.{Cell}
 use Rattle.ffv1_line.specs.Row.{AreSuiting, row_steps, chosen_row}
@@ -18,8 +15,7 @@ use Rattle.ffv1_record.specs.Sets.{most_contexts}
 use Rattle.ffv1_record.specs.declared.config.Profile.{Profile}
 use Rattle.ffv1_record.specs.Accepted.{Accepted}
 use Rattle.ffv1_slice.specs.declared.head.SliceHead.{SliceHead}
-use Rattle.ffv1_slice.specs.Head.{IsHead, key_steps, head_steps, aspect_of}
-use Rattle.ffv1_frame.specs.Ending.{HasEnding}
+use Rattle.ffv1_slice.specs.Head.{key_steps, head_steps, aspect_of}
 use Rattle.ffv1_frame.specs.Picture.{Planes, plane_count, cell_in, cell_height}
 use Rattle.ffv1_line.specs.Coding.{coding_by, RowCoding}
 
@@ -118,27 +114,6 @@ said_by p h = record {
   sar_num = (said_aspect p h.sar_num h.sar_den).0;
   sar_den = (said_aspect p h.sar_num h.sar_den).1;
 }
-
--- the bytes code slice n of a picture: its key, a head that says this, and its samples; in Wide
--- they end there
-pub record CodesSlice (bytes : List ℕ) (a : Accepted) (planes : Planes) (info : Said) (n : ℕ)
-    : Type 0 where
-  pub head : SliceHead
-  pub is_head : IsHead a.profile a.configuration head
-  pub says : said_by a.profile head ≡ info
-  pub body : List Step
-  pub is_body : IsBody a.configuration head (cell_in a.configuration planes n)
-      (lines_in a.configuration n) body
-  pub codes : Codes bytes (decisions_after a.table []
-      (key_steps n ++ (head_steps a.configuration n head ++ body)))
-  pub ending : HasEnding a bytes (key_steps n ++ (head_steps a.configuration n head ++ body))
-
--- its decisions
-abbrev pub decided_by_slice : {bytes : List ℕ} → {a : Accepted} → {planes : Planes} →
-    {info : Said} → {n : ℕ} → CodesSlice bytes a planes info n → List Decision
-decided_by_slice {a = a} {n = n} slice =
-    decisions_after a.table []
-    (key_steps n ++ (head_steps a.configuration n slice.head ++ slice.body))
 
 -- the head that an encoder takes: class k has set k, or the last one
 abbrev pub chosen_index : Configuration → ℕ → ℕ

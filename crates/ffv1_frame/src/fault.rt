@@ -33,6 +33,16 @@ pub enum CodecFault {
     /// slice has coded bytes.
     #[error("9 Ending")]
     Ending,
+    /// At `Wide` the bits of a slice end within a line of Golomb-Rice coded samples.
+    #[error("27 BitsEnd")]
+    BitsEnd,
+    /// At `Wide` the bits of a slice are those of nothing that can stand at a sample.
+    #[error("28 BadCode")]
+    BadCode,
+    /// At `Wide` something other than zeros to the end of a byte stands behind the last bit of a
+    /// slice.
+    #[error("29 Padding")]
+    Padding,
     /// The keyframe is 0.
     #[error("30 NotKey")]
     NotKey,

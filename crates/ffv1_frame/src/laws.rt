@@ -18,9 +18,11 @@ ghost use Rattle.ffv1_frame.specs.Sides.{Sides};
 ghost use Rattle.ffv1_frame.specs.Worked.{small_pictures, unknown};
 ghost use Rattle.ffv1_frame.specs.Frame.{IsSaid, CodesPicture, HasLongSlice, slice_bytes};
 ghost use Rattle.ffv1_frame.specs.Frame.{frame_of};
+ghost use Rattle.ffv1_record.specs.Accepted.{is_rice};
 
 pub mod answer;
 pub mod decoding;
+pub mod rice;
 pub mod sink;
 
 use crate::laws;
@@ -76,8 +78,8 @@ pub fn chosen_slices_suit_their_picture()
 /// coded bytes than its footer can say.
 pub fn encoded_frame_codes_its_picture()
     ensures { (a : Accepted) (planes : Planes) (info : Said) →
-        IsAccepted a.configuration a.table → IsPicture a.configuration planes → IsSaid info →
-        (HasLongSlice a planes info → ⊥) →
+        IsAccepted a.configuration a.table → is_rice a.configuration.coder ≡ false →
+        IsPicture a.configuration planes → IsSaid info → (HasLongSlice a planes info → ⊥) →
         CodesPicture a (frame_of a planes info) planes info }
 {
     laws::chosen_slices_suit_their_picture();

@@ -1,6 +1,7 @@
 //! The words in which lines are coded.
 
-ghost use Rattle.std.specs.Prelude.{◌≡◌, ℕ, ◌*◌, ◌≤◌, ◌<◌, IfErr, OnErr, OnOk, length, replicate};
+ghost use Rattle.std.specs.Prelude.{◌≡◌, ◌⊎◌, ℕ, ◌*◌, ◌^◌, ◌≤◌, ◌<◌, IfErr, OnErr, OnOk, length};
+ghost use Rattle.std.specs.Prelude.{replicate};
 ghost use Rattle.std.specs.Prelude.{vec_capacity};
 ghost use Rattle.std.proofs.Common.{rules};
 ghost use Rattle.ffv1_range.specs.Symbols.{AllHeld};
@@ -10,6 +11,9 @@ ghost use Rattle.ffv1_line.specs.Encoded.{FailsForGood, Written, MayBeRefusedRow
 ghost use Rattle.ffv1_line.specs.Coding.{coding_by};
 ghost use Rattle.ffv1_line.specs.Coder.{decoder_by, encoder_by};
 ghost use Rattle.ffv1_line.specs.Above.{rows_above};
+ghost use Rattle.ffv1_rice.specs.Kept.{AreStates, state_at};
+ghost use Rattle.ffv1_rice.specs.Row.{begins};
+ghost use Rattle.ffv1_rice.specs.Rows.{AreSamples, IsRefused, RowRead, reading_of};
 ghost use Rattle.ffv1_frame.specs.SliceList.{bits_of};
 
 use ffv1_line::{
@@ -19,6 +23,7 @@ use ffv1_line::{
 use ffv1_plane::QuantSet;
 use ffv1_range::{Fault, RangeDecoder, RangeEncoder, StateTable};
 use ffv1_record::{Checked, Colour, laws as record_laws};
+use ffv1_rice::{Below, Bits, Fault as RiceFault, Refused, decode_row};
 use std::alloc::{AllocError, Allocator};
 
 /// The two lines above one that is read.
@@ -72,6 +77,41 @@ pub trait LineWord: Word {
             (Self.samples above.now.one.now)) (Self.samples cur.new) e.x) }
         ensures inside { IfErr result (λ e. e.x < length (Self.samples cur.new)) }
         ensures held { AllHeld coding.now.table.now states.new };
+
+    /// Reads a row of a cell of Golomb-Rice coded samples, as `ffv1_rice::decode_row` does, if lines
+    /// of so many bits are coded in words of this type. They have 8 or 9 bits, which words of 32
+    /// bits are never for, and these read nothing.
+    fn decode_bits<B: Allocator>(
+        bits: &mut Bits<'_>,
+        coding: &LineCoding<'_, B>,
+        states: &mut [u8],
+        index: &mut u32,
+        above: &Above<'_, Self>,
+        cur: &mut [Self],
+    ) -> Result<(), Refused>
+        requires bits { (coding.now.bits ≡ 8) ⊎ (coding.now.bits ≡ 9) }
+        requires two_long { length above.now.two.now ≡ length cur.old }
+        requires one_long { length above.now.one.now ≡ length cur.old }
+        requires wide { length cur.old < 2 ^ 16 }
+        requires index { index.old ≤ 32 }
+        requires rows { length states.old ≡ contexts_of coding.now.set.now * 32 }
+        requires states { AreStates coding.now.bits (contexts_of coding.now.set.now) states.old }
+        ensures ok { holds coding.now.bits → OnOk result (RowRead (reading_of coding.now.set.now
+            coding.now.bits (Self.samples above.now.two.now) (Self.samples above.now.one.now)
+            (begins (state_at states.old) index.old) bits.old) (Self.samples cur.new)
+            (state_at states.new) index.new bits.new) }
+        ensures refused { holds coding.now.bits → IfErr result (λ e. IsRefused
+            (reading_of coding.now.set.now coding.now.bits (Self.samples above.now.two.now)
+            (Self.samples above.now.one.now) (begins (state_at states.old) index.old) bits.old)
+            (Self.samples cur.new) e.x e.fault) }
+        ensures inside { holds coding.now.bits →
+            IfErr result (λ e. e.x < length (Self.samples cur.new)) }
+        ensures samples { holds coding.now.bits → OnOk result (AreSamples coding.now.bits
+            (length (Self.samples cur.new)) (Self.samples cur.new)) }
+        ensures samples_before { holds coding.now.bits →
+            IfErr result (λ e. AreSamples coding.now.bits e.x (Self.samples cur.new)) }
+        ensures index { index.new ≤ 32 }
+        ensures states { AreStates coding.now.bits (contexts_of coding.now.set.now) states.new };
 
     /// Codes a row of a cell, as `ffv1_line::encode_line` does.
     fn encode<R: Allocator, B: Allocator>(
@@ -143,6 +183,24 @@ impl LineWord for u16 {
     }
 
     #[inline(always)]
+    fn decode_bits<B: Allocator>(
+        bits: &mut Bits<'_>,
+        coding: &LineCoding<'_, B>,
+        states: &mut [u8],
+        index: &mut u32,
+        above: &Above<'_, u16>,
+        cur: &mut [u16],
+    ) -> Result<(), Refused> {
+        let below = Below {
+            set: coding.set,
+            depth: coding.bits,
+            two: above.two,
+            one: above.one,
+        };
+        decode_row(bits, &below, states, index, cur)
+    }
+
+    #[inline(always)]
     fn encode<R: Allocator, B: Allocator>(
         encoder: &mut RangeEncoder<R>,
         coding: &LineCoding<'_, B>,
@@ -194,6 +252,21 @@ impl LineWord for u32 {
             one: above.one,
         };
         decode_wide(decoder, &coding, states, &above, cur)
+    }
+
+    #[inline(always)]
+    fn decode_bits<B: Allocator>(
+        _bits: &mut Bits<'_>,
+        _coding: &LineCoding<'_, B>,
+        _states: &mut [u8],
+        _index: &mut u32,
+        _above: &Above<'_, u32>,
+        _cur: &mut [u32],
+    ) -> Result<(), Refused> {
+        Err(Refused {
+            x: 0,
+            fault: RiceFault::BadCode,
+        })
     }
 
     #[inline(always)]

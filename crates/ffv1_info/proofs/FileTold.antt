@@ -48,7 +48,7 @@ head_told form p r same writes = subst (λ (z : Head). WritesFrame (head_facts f
 
 -- a record that is not accepted
 pub lacks_record : (profile : Profile) (head : Head) (r : RecordFault) →
-    (r ≡ record_fault.OutOfMemory) ⊎ IsRefused (record_profile profile) (greatest_depth profile) head.config_record head.width head.height r → (r ≡ record_fault.OutOfMemory → ReachesSets (greatest_depth profile) head.config_record) →
+    (r ≡ record_fault.OutOfMemory) ⊎ IsRefused (record_profile profile) (greatest_depth profile) head.config_record head.width head.height r → (r ≡ record_fault.OutOfMemory → ReachesSets (record_profile profile) (greatest_depth profile) head.config_record) →
     (r ≡ record_fault.OutOfMemory → HasSoundRecord profile head) → LacksRecord profile head (of_record r)
 lacks_record profile head r why reaches sound = elim why [
   | inl memory ↦ (r, refl, inl (memory, reaches memory, sound memory))

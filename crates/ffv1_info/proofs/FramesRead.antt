@@ -1,38 +1,53 @@
 -- The first frame of a file is read, and then the others.
-use Rattle.std.proofs.Common.{◌≡◌, refl, ℕ, true, false, Option, Some, None, Ok, List, [], ◌∷◌, length, ap, sym, subst, ◌∙◌, arith}
+use Rattle.std.proofs.Common.{◌≡◌, refl, ℕ, Bool, true, false, Option, Some, None, Ok, List, [], ◌∷◌, length, ap, sym, subst, ◌∙◌, arith}
 use Rattle.ffv1_wire.specs.Failures.{one_more}
-use Rattle.ffv1_wire.specs.Passage.{between}
+use Rattle.ffv1_wire.specs.Passage.{Passage, between}
 use Rattle.ffv1_record.specs.Accepted.{Accepted}
+use Rattle.ffv1_files.specs.Behind.{EndsThere}
 use Rattle.ffv1_files.specs.Endings.{endings_from}
 use Rattle.ffv1_files.specs.Files.{frame_read}
+use Rattle.ffv1_files.specs.Noted.{NotesNext, NotesReached}
+use Rattle.ffv1_files.specs.Offsets.{LocatedNext, Reached}
 use Rattle.ffv1_files.specs.Places.{Place}
+use Rattle.ffv1_files.specs.Readers.{Standing}
+use Rattle.ffv1_files.specs.declared.container.Scope.{Scope}
 use Rattle.ffv1_reads.specs.Known.{Known}
 use Rattle.ffv1_video.specs.declared.fault.Fault.{Fault}
 use Rattle.ffv1_video.specs.Faults.{Cause}
 use Rattle.ffv1_video.specs.Faults.Cause.{Reading, Writing, Memory, Content}
 use Rattle.ffv1_video.proofs.KnownTexts.{known_map, known_then}
+use Rattle.ffv1_unpack.specs.Internal.Located.{StaysReached}
 use Rattle.ffv1_unpack.specs.Internal.Passing.{Passes}
-use Rattle.ffv1_unpack.specs.Internal.Play.{NextIs, ReadsEnd}
+use Rattle.ffv1_unpack.specs.Internal.Play.{NextIs}
 use Rattle.ffv1_unpack.specs.Internal.Told.{FileStopsBy}
-use Rattle.ffv1_unpack.specs.Plays.{HasThen, NextHasFault, NextOver, NextPayloadLacks, NextReadFails, NextStays}
+use Rattle.ffv1_unpack.specs.Plays.{HasThen, FrameHasFault, FramesEnd, NextPayloadLacks, FrameReadFails, NextStays}
 use Rattle.ffv1_unpack.specs.Stream.{Frame}
 use Rattle.ffv1_unpack.proofs.FramesPlayed.{has_then}
 use Rattle.ffv1_info.specs.StreamInfo.{BeginsWith, EndsBy, ReadsMost, said_of}
-use Rattle.ffv1_info.specs.Internal.Frames.{ReadsFirst, ReadsOthers, has_some, with_others}
+use Rattle.ffv1_info.specs.Internal.Frames.{ReadsFirst, ReadsNone, ReadsOthers, has_some, with_others}
+
+-- where a reader stands that has read a frame
+pub stands_next : (old new : Standing) (p : Passage) (more : Bool) → more ≡ true → ((scope : Scope) (text : Option (List ℕ)) → Reached scope text p.old old → LocatedNext scope text p (Ok more) new) →
+    (EndsThere old → more ≡ true → EndsThere new) → ((scope : Scope) (text : Option (List ℕ)) → Reached scope text p.old old → NotesReached scope text p.old old → NotesNext scope text p (Ok more) new) → StaysReached old new p
+stands_next old new p more is located ends noted scope text stands = record {
+  reached = subst (λ (b : Bool). LocatedNext scope text p (Ok b) new) is (located scope text stands.reached);
+  ends = ends stands.ends is;
+  noted = subst (λ (b : Bool). NotesNext scope text p (Ok b) new) is (noted scope text stands.reached stands.noted);
+}
 
 -- ---- payloads that are counted
 
 module _ (from to : Place) (i0 i1 i2 : Option (List ℕ)) (ib im ia : ℕ) (ps : List (List ℕ)) (so : Passes from to (between i0 i1 ib im) ps) where
   -- why they are not read on
   pub ends_by : (f : Fault) (why : Cause) → FileStopsBy (endings_from to) (frame_read to) (between i1 i2 im ia) f why → EndsBy (HasThen from) (between i0 i2 ib ia) ps f why
-  ends_by f Reading h = (h.0 ∙ ap one_more so.kept, has_then from to i0 i1 i2 ps NextReadFails so.read h.1)
+  ends_by f Reading h = (h.0 ∙ ap one_more so.kept, has_then from to i0 i1 i2 ps FrameReadFails so.read h.1)
   ends_by f Writing h = h
   ends_by f Memory h = (h.0 ∙ so.kept, has_then from to i0 i1 i2 ps NextPayloadLacks so.read h.1)
-  ends_by f Content h = (h.0 ∙ so.kept, has_then from to i0 i1 i2 ps (NextHasFault f) so.read h.1)
+  ends_by f Content h = (h.0 ∙ so.kept, has_then from to i0 i1 i2 ps (FrameHasFault f) so.read h.1)
 
   -- there is no further one
-  pub others_read : ReadsEnd to (between i1 i2 im ia) → ReadsOthers true from (between i0 i2 ib ia) ps
-  others_read over = (over.kept ∙ so.kept, has_then from to i0 i1 i2 ps NextOver so.read over.over)
+  pub others_read : ReadsNone to (between i1 i2 im ia) → ReadsOthers true from (between i0 i2 ib ia) ps
+  others_read over = (over.kept ∙ so.kept, has_then from to i0 i1 i2 ps FramesEnd so.read over.over)
 
 -- ---- the first one, and those
 
@@ -44,14 +59,14 @@ module _ (from mid : Place) (i0 i1 i2 : Option (List ℕ)) (payload : List ℕ) 
       (known_then i0 i1 i2 (λ text rest. frame_read from text ≡ Ok (Some (payload, mid), rest)) (HasThen mid others Next) next h)
 
   behind_ends : (ib im ia : ℕ) (others : List (List ℕ)) (f : Fault) (why : Cause) → im ≡ ib → EndsBy (HasThen mid) (between i1 i2 im ia) others f why → EndsBy (HasThen from) (between i0 i2 ib ia) (payload ∷ others) f why
-  behind_ends ib im ia others f Reading kept h = (h.0 ∙ ap one_more kept, has_behind others NextReadFails h.1)
+  behind_ends ib im ia others f Reading kept h = (h.0 ∙ ap one_more kept, has_behind others FrameReadFails h.1)
   behind_ends ib im ia others f Writing kept h = h
   behind_ends ib im ia others f Memory kept h = (h.0 ∙ kept, has_behind others NextPayloadLacks h.1)
-  behind_ends ib im ia others f Content kept h = (h.0 ∙ kept, has_behind others (NextHasFault f) h.1)
+  behind_ends ib im ia others f Content kept h = (h.0 ∙ kept, has_behind others (FrameHasFault f) h.1)
 
 module _ (from mid : Place) (i0 i1 : Option (List ℕ)) where
-  pub first_over : NextIs from i0 i1 None → Known i0 i1 (HasThen from [] NextOver)
-  first_over next = known_map i0 i1 (λ text rest. frame_read from text ≡ Ok (None, rest)) (HasThen from [] NextOver) (λ text rest is. (from, text, (refl, refl), is)) next
+  pub first_over : NextIs from i0 i1 None → Known i0 i1 (HasThen from [] FramesEnd)
+  first_over next = known_map i0 i1 (λ text rest. frame_read from text ≡ Ok (None, rest)) (HasThen from [] FramesEnd) (λ text rest is. (from, text, (refl, refl), is)) next
 
   pub first_alone : (payload : List ℕ) → NextIs from i0 i1 (Some (payload, mid)) → Known i0 i1 (HasThen from (payload ∷ []) NextStays)
   first_alone payload next =
@@ -68,12 +83,12 @@ module _ (a : Accepted) (from mid : Place) (i0 i1 i2 : Option (List ℕ)) (ib im
   abbrev pub all_read : (first : Option Frame) → ReadsFirst a from mid (between i0 i1 ib im) first → (others : List (List ℕ)) → ReadsOthers (has_some (said_of first)) mid (between i1 i2 im ia) others →
       ReadsMost (HasThen from) (between i0 i2 ib ia) a None first
   all_read None reads others more =
-      record { held = []; begins = refl; few = tt; has = subst (λ z. Known i0 z (HasThen from [] NextOver)) (sym more.1) (first_over from mid i0 i1 reads.over); kept = more.2 ∙ reads.kept }
+      record { held = []; begins = refl; few = tt; has = subst (λ z. Known i0 z (HasThen from [] FramesEnd)) (sym more.1) (first_over from mid i0 i1 reads.over); kept = more.2 ∙ reads.kept }
   all_read (Some f) reads others more = record {
     held = f.payload ∷ others;
     begins = (reads.is, others, refl);
     few = tt;
-    has = has_behind from mid i0 i1 i2 f.payload reads.reads.next others NextOver more.1;
+    has = has_behind from mid i0 i1 i2 f.payload reads.reads.next others FramesEnd more.1;
     kept = more.0 ∙ reads.reads.kept;
   }
 

@@ -13,9 +13,9 @@ use Rattle.ffv1_video.specs.Faults.{Cause, cause_of}
 use Rattle.ffv1_video.specs.Faults.Cause.{Reading, Writing, Memory, Content}
 use Rattle.ffv1_outline.specs.declared.facts.Form.{Form}
 use Rattle.ffv1_unpack.specs.Internal.Told.{WritesFrame}
-use Rattle.ffv1_unpack.specs.Plays.{HasThen, NextBehind, NextHasFault, NextIsPayload, NextPayloadLacks, NextReadFails, NextStays}
+use Rattle.ffv1_unpack.specs.Plays.{FrameHasFault, FrameReadFails, HasThen, NextIsPayload, NextPayloadLacks, NextStays}
 use Rattle.ffv1_unpack.specs.Stream.{Frame, Stream}
-use Rattle.ffv1_info.specs.StreamInfo.{CountStops, CountedStops, EndsBy, FirstStops, FramesDone, FramesStop, PictureStops, ReadsMost, Wrote, first_facts, said_of}
+use Rattle.ffv1_info.specs.StreamInfo.{CountStops, CountedStops, EndsBehind, EndsBy, FirstStops, FramesDone, FramesStop, PictureStops, ReadsMost, Wrote, first_facts, said_of}
 use Rattle.ffv1_info.specs.StreamFacts.{counted_facts, picture_facts}
 use Rattle.ffv1_info.specs.Internal.Frames.{ReadsFirst, ReadsOthers, has_some, with_others}
 use Rattle.ffv1_info.proofs.FramesRead.{all_counted, all_read, one_read, others_end}
@@ -94,13 +94,13 @@ module _ (form : Form) (s : Stream) (from mid : Place) (i0 i1 : Option (List ℕ
 module _ (Here There : List (List ℕ) → (Place → List ℕ → List ℕ → Type 0) → List ℕ → List ℕ → Type 0) (i0 i1 i2 : Option (List ℕ)) (ib im ia : ℕ)
     (leads : (ps : List (List ℕ)) (Next : Place → List ℕ → List ℕ → Type 0) → Known i1 i2 (Here ps Next) → Known i0 i2 (There ps Next)) (kept : im ≡ ib) where
   abbrev reads_there : (a : Accepted) (most : Option ℕ) (first : Option Frame) → ReadsMost Here (between i1 i2 im ia) a most first → ReadsMost There (between i0 i2 ib ia) a most first
-  reads_there a most first h = record { held = h.held; begins = h.begins; few = h.few; has = leads h.held (NextBehind most (length h.held)) h.has; kept = h.kept ∙ kept }
+  reads_there a most first h = record { held = h.held; begins = h.begins; few = h.few; has = leads h.held (EndsBehind most (length h.held)) h.has; kept = h.kept ∙ kept }
 
   ends_there : (held : List (List ℕ)) (f : Fault) (why : Cause) → EndsBy Here (between i1 i2 im ia) held f why → EndsBy There (between i0 i2 ib ia) held f why
-  ends_there held f Reading h = (h.0 ∙ ap one_more kept, leads held NextReadFails h.1)
+  ends_there held f Reading h = (h.0 ∙ ap one_more kept, leads held FrameReadFails h.1)
   ends_there held f Writing h = h
   ends_there held f Memory h = (h.0 ∙ kept, leads held NextPayloadLacks h.1)
-  ends_there held f Content h = (h.0 ∙ kept, leads held (NextHasFault f) h.1)
+  ends_there held f Content h = (h.0 ∙ kept, leads held (FrameHasFault f) h.1)
 
   first_there : (a : Accepted) (f : Fault) → FirstStops Here (between i1 i2 im ia) a f → FirstStops There (between i0 i2 ib ia) a f
   first_there a f h = elim h [

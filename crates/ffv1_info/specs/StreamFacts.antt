@@ -84,6 +84,7 @@ chroma_fact form true across down =
 
 -- RFC 9043, 4.2.3
 abbrev pub coder_name : Coder → List ℕ
+coder_name coder.Rice = codes "Golomb-Rice coder"
 coder_name coder.One = codes "range coder, default table"
 coder_name (coder.Two deltas) = codes "range coder, custom table"
 

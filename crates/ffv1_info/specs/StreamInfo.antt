@@ -29,8 +29,8 @@ use Rattle.ffv1_video.specs.declared.profile.Profile.{Profile}
 use Rattle.ffv1_outline.specs.declared.facts.Form.{Form}
 use Rattle.ffv1_unpack.specs.Opens.{HasSoundRecord, OpeningWants, OpensKnown}
 use Rattle.ffv1_unpack.specs.Play.{FaultsRead}
-use Rattle.ffv1_unpack.specs.Plays.{AtMost, FileThen, NextBehind, NextHasFault, NextIsPayload}
-use Rattle.ffv1_unpack.specs.Plays.{NextPayloadLacks, NextReadFails, NextStays}
+use Rattle.ffv1_unpack.specs.Plays.{AtMost, FileThen, FrameHasFault, FrameReadFails, FramesEnd}
+use Rattle.ffv1_unpack.specs.Plays.{NextIsPayload, NextPayloadLacks, NextStays, has_more}
 use Rattle.ffv1_unpack.specs.Show.{IsShowFault}
 use Rattle.ffv1_unpack.specs.Stream.{Frame, IsFrame, IsStream, Stream}
 use Rattle.ffv1_info.specs.StreamFacts.{counted_facts, head_facts, picture_facts, record_facts}
@@ -85,6 +85,15 @@ abbrev pub most_read : Bool → Option ℕ
 most_read false = Some 1
 most_read true = None
 
+-- what comes after so many of at most so many: if one more may come, there is none; else nothing
+-- more was read
+abbrev pub EndsBehindBy : Bool → Place → List ℕ → List ℕ → Type 0
+EndsBehindBy true = FramesEnd
+EndsBehindBy false = NextStays
+
+abbrev pub EndsBehind : Option ℕ → ℕ → Place → List ℕ → List ℕ → Type 0
+EndsBehind most n = EndsBehindBy (has_more most n)
+
 -- by how a file has payloads
 module _ (Has : List (List ℕ) → (Place → List ℕ → List ℕ → Type 0) → List ℕ → List ℕ → Type 0)
     (input : Passage) where
@@ -94,19 +103,19 @@ module _ (Has : List (List ℕ) → (Place → List ℕ → List ℕ → Type 0)
     pub held : List (List ℕ)
     pub begins : BeginsWith a first held
     pub few : AtMost most (length held)
-    pub has : Known input.old input.new (Has held (NextBehind most (length held)))
+    pub has : Known input.old input.new (Has held (EndsBehind most (length held)))
     pub kept : input.after ≡ input.before
 
   -- why the file is not read on after these payloads, by the cause: a read of the next frame
   -- failed, which was counted; memory was refused for its payload; or the file has this fault
   abbrev pub EndsBy : List (List ℕ) → Fault → Cause → Type 0
   EndsBy held f Reading =
-      (input.after ≡ one_more input.before) × Known input.old input.new (Has held NextReadFails)
+      (input.after ≡ one_more input.before) × Known input.old input.new (Has held FrameReadFails)
   EndsBy held f Writing = ⊥
   EndsBy held f Memory =
       (input.after ≡ input.before) × Known input.old input.new (Has held NextPayloadLacks)
   EndsBy held f Content =
-      (input.after ≡ input.before) × Known input.old input.new (Has held (NextHasFault f))
+      (input.after ≡ input.before) × Known input.old input.new (Has held (FrameHasFault f))
 
   -- a decoder was refused its memory, and no frame was read
   pub record NoDecoder (f : Fault) : Type 0 where
@@ -191,7 +200,8 @@ pub record HasHead (profile : Profile) (input : Passage) (head : Head) : Type 0 
 -- why the record of a head is not accepted: memory was refused for its sets, or it has this fault
 abbrev pub LacksRecord : Profile → Head → Fault → Type 0
 LacksRecord profile head f = (r : RecordFault) × (f ≡ of_record r)
-    × (((r ≡ record_fault.OutOfMemory) × ReachesSets (greatest_depth profile) head.config_record
+    × (((r ≡ record_fault.OutOfMemory)
+    × ReachesSets (record_profile profile) (greatest_depth profile) head.config_record
     × HasSoundRecord profile head)
     ⊎ IsRefused (record_profile profile) (greatest_depth profile) head.config_record head.width
     head.height r)

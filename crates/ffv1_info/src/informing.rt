@@ -8,6 +8,7 @@ ghost use Rattle.ffv1_reads.specs.Head.{head_of};
 ghost use Rattle.ffv1_record.specs.Accepted.{IsAccepted};
 ghost use Rattle.ffv1_files.specs.Places.{container_of};
 ghost use Rattle.ffv1_video.specs.Faults.{cause_of};
+ghost use Rattle.ffv1_unpack.specs.Internal.Located.{StaysReached};
 ghost use Rattle.ffv1_unpack.specs.Internal.Opens.{stream_of};
 ghost use Rattle.ffv1_unpack.specs.Internal.Told.{IsToldFault, WritesFrame};
 ghost use Rattle.ffv1_unpack.specs.Plays.{HasThen};
@@ -129,7 +130,9 @@ fn read_first<R: ByteIn, A: Allocator>(
     ensures sound { OnOk result (reader.new.fault ≡ None) }
     ensures head { OnOk result (reader.new.head ≡ reader.old.head) }
     ensures container { container_of reader.new.place ≡ container_of reader.old.place }
-    ensures own { IfErr result (IsToldFault (container_of reader.old.place)) }
+    ensures stays { IfOk result (λ said. has_some said ≡ true → StaysReached reader.old reader.new
+        (passage R.remaining R.failures input.old input.new)) }
+    ensures own { IfErr result (IsToldFault reader.old (R.remaining input.old)) }
 {
     codec_laws::answer::answer_is_ok_for_coded_pictures::<DropLines>();
     codec_laws::answer::answered_fault_is_of_decoding::<DropLines>();
@@ -162,7 +165,9 @@ fn read_picture<R: ByteIn, A: Allocator + Copy>(
     ensures sound { OnOk result (reader.new.fault ≡ None) }
     ensures head { OnOk result (reader.new.head ≡ reader.old.head) }
     ensures container { container_of reader.new.place ≡ container_of reader.old.place }
-    ensures own { IfErr result (IsToldFault (container_of reader.old.place)) }
+    ensures stays { IfOk result (λ said. has_some said ≡ true → StaysReached reader.old reader.new
+        (passage R.remaining R.failures input.old input.new)) }
+    ensures own { IfErr result (IsToldFault reader.old (R.remaining input.old)) }
 {
     let mut decoder = FrameDecoder::new(alloc, checked)?;
     let mut payload = Vec::new(alloc);
@@ -186,7 +191,7 @@ fn count_frames<R: ByteIn, A: Allocator>(
         × EndsBy (HasThen reader.old.place)
         (passage R.remaining R.failures input.old input.new) others f (cause_of f))) }
     ensures head { OnOk result (reader.new.head ≡ reader.old.head) }
-    ensures own { IfErr result (IsToldFault (container_of reader.old.place)) }
+    ensures own { IfErr result (IsToldFault reader.old (R.remaining input.old)) }
 {
     if !some {
         return Ok(0);
@@ -241,7 +246,7 @@ fn tell_frames<R: ByteIn, W: ByteOut, A: Allocator + Copy>(
     ensures err { IfErr result (FramesStop (HasThen reader.place) asked.form
         (stream_of reader checked) [] (passage R.remaining R.failures input.old input.new)
         (passage W.contents W.failures output.old output.new) asked.count) }
-    ensures own { IfErr result (IsToldFault (container_of reader.place)) }
+    ensures own { IfErr result (IsToldFault reader (R.remaining input.old)) }
 {
     let mut reader = reader;
     let count = asked.count;
@@ -316,7 +321,8 @@ pub fn stream_info<R: ByteIn, W: ByteOut, A: Allocator + Copy>(
         (passage W.contents W.failures output.old output.new)) }
     ensures own { IfErr result (IsStreamInfoFault profile) }
 {
-    let reader = FileReader::open(alloc, profile.scope(), input)?;
+    let mut offset = 0u64;
+    let reader = FileReader::open_located(alloc, profile.scope(), input, &mut offset)?;
     write_head(alloc, output, form, reader.head())?;
     let checked = read_head(alloc, profile, reader.head())?;
     write_record(alloc, output, form, &checked)?;

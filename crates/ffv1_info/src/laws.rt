@@ -4,7 +4,7 @@ ghost use Rattle.std.specs.Prelude.{◌≡◌, ℕ, ◌%◌, ◌<◌, ◌≤◌,
 ghost use Rattle.ffv1_matroska.specs.Rates.{common_up_to};
 ghost use Rattle.ffv1_reads.specs.Head.{Head};
 ghost use Rattle.ffv1_video.specs.declared.profile.Profile.{Profile};
-ghost use Rattle.ffv1_unpack.specs.Plays.{FileThen, NextOver};
+ghost use Rattle.ffv1_unpack.specs.Plays.{FileThen, FramesEnd};
 ghost use Rattle.ffv1_unpack.specs.Stream.{HoldsPayloads};
 
 use ffv1_files::laws as files_laws;
@@ -14,7 +14,7 @@ use ffv1_files::laws as files_laws;
 /// Matroska file. So many are counted.
 pub fn counted_frames_are_those_of_the_file()
     ensures { (profile : Profile) (head : Head) (held : List (List ℕ)) (file rest : List ℕ) →
-        FileThen profile head held NextOver file rest →
+        FileThen profile head held FramesEnd file rest →
         HoldsPayloads profile file rest head held }
 {
     files_laws::frames_come_in_turn();

@@ -177,6 +177,7 @@ fn coder_name(coder: &Coder) -> &'static [u8]
     ensures { result.now ≡ coder_name coder.now }
 {
     match coder {
+        Coder::Rice => b"Golomb-Rice coder",
         Coder::One => b"range coder, default table",
         Coder::Two(_) => b"range coder, custom table",
     }

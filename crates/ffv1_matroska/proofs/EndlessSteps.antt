@@ -10,6 +10,7 @@ use Rattle.ffv1_ebml.specs.declared.element.Element.{Element}
 use Rattle.ffv1_ebml.specs.declared.sum.Sum.{Sum}
 use Rattle.ffv1_ebml.specs.declared.sum.Sum.TheVariants.{Absent, Begins, Awaits}
 use Rattle.ffv1_matroska.specs.Blocks.{block_read, block_rest, fields_read, frame_judged, is_unknown, lacing_of, passed_on}
+use Rattle.ffv1_matroska.specs.Offsets.{element_taken, frame_taken, step_taken}
 use Rattle.ffv1_matroska.specs.Places.{amount, closed, cluster_at, cluster_entered, frame_at, group_at, is_sound, segment_at, step_to, summed_at}
 use Rattle.ffv1_matroska.specs.Segments.{block, block_group, child_by, cluster, cluster_child, cluster_read, cluster_rest, crc_read, first_child, group_child, group_read, group_rest, header_read, is_filler, is_of_cluster, is_section, known_child, other_read, segment_child, segment_read, segment_rest, simple_block, step_read, is_outside}
 use Rattle.ffv1_matroska.specs.declared.place.Place.{Place}
@@ -121,6 +122,22 @@ segment_stays track place = gives_any (Stays place.endless) (header_read place) 
 step_stays : (track : TrackNumbers) (place : Place) → Gives (Stays place.endless) (step_read track place)
 unfolding step_read
 step_stays track place = gives_if (Stays place.endless) (nat_lt 0 place.group) (group_read track place) _ (group_stays track place) (gives_if (Stays place.endless) (nat_lt 0 place.cluster) (cluster_read track place) (segment_read track place) (cluster_stays track place) (segment_stays track place))
+
+-- nor does an element, with its frame
+pub element_stays : (track : TrackNumbers) (place : Place) → Gives (λ (to : Place). to.endless ≡ place.endless) (element_taken track place)
+unfolding element_taken
+element_stays track place = gives_then (Stays place.endless) P (step_read track place) (step_taken place) (step_stays track place) on_step
+  where
+    P : Place → Type 0
+    P to = to.endless ≡ place.endless
+
+    on_frame : (f : Option ℕ) (p : Place) → p.endless ≡ place.endless → Gives P (frame_taken p f)
+    on_frame None p h = gives_given P p h
+    on_frame (Some size) p h = gives_any P (kept_summed size p.sum) _ (λ q. gives_if P (is_sound (summed_at p q.1)) _ _ (gives_given P (summed_at p q.1) h) (gives_refused P fault.Checksum))
+
+    on_step : (o : Option Step) → Stays place.endless o → Gives P (step_taken place o)
+    on_step None h = gives_given P place refl
+    on_step (Some s) h = on_frame s.frame s.place h
 
 -- nor does a turn, which leaves less
 abbrev pub TurnLessens : Bool → ℕ → Turn → Type 0

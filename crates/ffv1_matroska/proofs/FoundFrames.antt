@@ -28,7 +28,7 @@ begins_all (Some text) (Some left) size sum q read =
     (size, omega arith, sym bytes ∙ sym (cut_front size first.0.0 first.0.1 all.1) ∙ ap (λ z. take size z) (sym (read.consumed ∙ all.0)))
 
 -- if nothing is left, there is no step and no frame
-step_none : (track : TrackNumbers) (place : Place) → place.segment ≡ 0 → place.cluster ≡ 0 → place.group ≡ 0 → (text : List ℕ) → step_read track place text ≡ Ok (None, text)
+pub step_none : (track : TrackNumbers) (place : Place) → place.segment ≡ 0 → place.cluster ≡ 0 → place.group ≡ 0 → (text : List ℕ) → step_read track place text ≡ Ok (None, text)
 unfolding step_read segment_read header_read
 step_none track place segment cluster group text = rw (group, cluster, segment) refl
 

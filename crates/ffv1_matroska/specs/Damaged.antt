@@ -11,7 +11,7 @@ use Rattle.ffv1_matroska.specs.declared.track.TrackNumbers.{TrackNumbers}
 
 -- the ID of a Cluster
 abbrev pub cluster_bytes : List ℕ
-cluster_bytes = 31 ∷ 67 ∷ 182 ∷ 117 ∷ []
+cluster_bytes = 0x1F ∷ 0x43 ∷ 0xB6 ∷ 0x75 ∷ []
 
 -- it stands nowhere in these bytes
 abbrev pub HasNoCluster : List ℕ → Type 0

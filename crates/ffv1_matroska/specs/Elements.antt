@@ -213,10 +213,10 @@ AreParts track (p ∷ ps) = IsPart track p × AreParts track ps
 -- the same in words, of its ID and its size: a SimpleBlock; Timestamp, Position or PrevSize of at
 -- most 8 bytes; or SilentTracks, EncryptedBlock, Void or CRC-32
 abbrev pub IsNumberIdent : ℕ → Type 0
-IsNumberIdent ident = (ident ≡ 231) ⊎ ((ident ≡ 167) ⊎ (ident ≡ 171))
+IsNumberIdent ident = (ident ≡ 0xE7) ⊎ ((ident ≡ 0xA7) ⊎ (ident ≡ 0xAB))
 
 abbrev pub IsPassedIdent : ℕ → Type 0
-IsPassedIdent ident = (ident ≡ 22612) ⊎ ((ident ≡ 175) ⊎ ((ident ≡ 236) ⊎ (ident ≡ crc_ident)))
+IsPassedIdent ident = (ident ≡ 0x5854) ⊎ ((ident ≡ 0xAF) ⊎ ((ident ≡ 0xEC) ⊎ (ident ≡ crc_ident)))
 
 abbrev pub IsListed : ℕ → ℕ → Type 0
 IsListed ident size =

@@ -11,6 +11,7 @@ pub mod Opened
 pub mod Readers
 pub mod Internal
 pub mod Offsets
+pub mod Cues
 pub mod WrittenIdents
 pub mod WrittenPlaces
 pub mod Written

@@ -18,10 +18,10 @@ use Rattle.ffv1_matroska.specs.declared.place.Place.{Place}
 
 -- the IDs of EBML and of Tracks
 abbrev pub ebml : ℕ
-ebml = 440786851
+ebml = 0x1A45DFA3
 
 abbrev pub tracks : ℕ
-tracks = 374648427
+tracks = 0x1654AE6B
 
 -- what was kept says this, or has a fault, which is met after all of it
 abbrev pub told : {X : Type 0} → Result X FileFault → Reading X

@@ -17,21 +17,21 @@ use Rattle.ffv1_matroska.specs.declared.place.Place.{Place}
 
 -- the ID of Segment
 abbrev pub segment : ℕ
-segment = 408125543
+segment = 0x18538067
 
 -- the ID of Void, which has one byte
 abbrev pub void : ℕ
-void = 236
+void = 0xEC
 
 -- the IDs of DocType, EBMLReadVersion and DocTypeReadVersion
 abbrev pub doc_type : ℕ
-doc_type = 17026
+doc_type = 0x4282
 
 abbrev pub read_version : ℕ
-read_version = 17143
+read_version = 0x42F7
 
 abbrev pub type_read_version : ℕ
-type_read_version = 17029
+type_read_version = 0x4285
 
 -- the number of the first element with this ID, and 1 if there is none or it has no bytes
 abbrev pub version_at : ℕ → List ℕ → Result ℕ FileFault

@@ -1,17 +1,21 @@
 -- Where a reader stands.
-use Rattle.std.specs.Prelude.{◌≡◌, ℕ, ◌≤◌, Bool, true, false, List, [], take, Option, Some, None}
-use Rattle.std.specs.Prelude.{Result, Ok, Err, ⊤, ◌⊎◌}
+use Rattle.std.specs.Prelude.{◌≡◌, ℕ, ◌≤◌, Bool, true, false, not, List, [], take, Option, Some}
+use Rattle.std.specs.Prelude.{None, Result, Ok, Err, ⊤, ◌⊎◌}
+use Rattle.ffv1_reads.specs.Behind.{behind_read}
+use Rattle.ffv1_reads.specs.Offsets.{offset_after}
+use Rattle.ffv1_reads.specs.Reads.{Reading, given}
 use Rattle.ffv1_reads.specs.declared.fault.FileFault.{FileFault}
 use Rattle.ffv1_reads.specs.declared.fault.FileFault.TheVariants as fault
 use Rattle.ffv1_matroska.specs.Files.{frame_found}
 use Rattle.ffv1_matroska.specs.Opened.{Opened}
-use Rattle.ffv1_matroska.specs.Places.{ended}
+use Rattle.ffv1_matroska.specs.Places.{amount, ended}
 use Rattle.ffv1_matroska.specs.Tracks.{Track}
 use Rattle.ffv1_matroska.specs.declared.place.Place.{Place}
 use Rattle.ffv1_matroska.specs.declared.track.TrackNumbers.{TrackNumbers}
 
 -- the track that is read, the size of the Segment, the place in that, the fault that it has met,
--- for how many bytes its record has room, and the bytes before that place
+-- for how many bytes its record has room, the bytes before that place, those before the end of the
+-- Segment, and whether Cues came after the last Cluster before that place
 pub record Standing : Type 0 where
   pub track : Track
   pub segment : Option ℕ
@@ -19,10 +23,27 @@ pub record Standing : Type 0 where
   pub fault : Option FileFault
   pub room : ℕ
   pub offset : ℕ
+  pub end : ℕ
+  pub cued : Bool
 
 -- what is known of its file, and where it stands
 abbrev pub opened_at : Standing → Opened
 opened_at r = record { track = r.track; segment = r.segment; place = r.place }
+
+-- the Segment ends where all that it has left was read
+abbrev pub EndsThere : Standing → Type 0
+EndsThere r = r.end ≡ offset_after r.offset (amount r.place)
+
+-- nothing says that the Segment is whole: it has no size, and no Cues came after its last Cluster
+unfoldable pub is_open : Option ℕ → Bool → Bool
+is_open (Some size) cued = false
+is_open None cued = not cued
+
+-- whether any bytes stand behind a Segment of this size, and no other file: behind one that has no
+-- size nothing can
+unfoldable pub segment_behind : Option ℕ → Reading Bool
+segment_behind None = given false
+segment_behind (Some size) = behind_read
 
 -- a file that ends before its frames begin
 abbrev pub HasEnded : Opened → Type 0

@@ -21,34 +21,34 @@ use Rattle.ffv1_matroska.specs.declared.track.TrackNumbers.{TrackNumbers}
 
 -- the IDs of Cluster, and of what holds frames
 abbrev pub cluster : ℕ
-cluster = 524531317
+cluster = 0x1F43B675
 
 abbrev pub simple_block : ℕ
-simple_block = 163
+simple_block = 0xA3
 
 abbrev pub block_group : ℕ
-block_group = 160
+block_group = 0xA0
 
 abbrev pub block : ℕ
-block = 161
+block = 0xA1
 
 -- an element of a Segment whose CRC-32 is judged: SeekHead, Info, Tracks, Cues, Attachments,
 -- Chapters or Tags
 unfoldable pub is_section : ℕ → Bool
 is_section ident =
-    ident == 290298740 || ident == 357149030 || ident == 374648427 || ident == 475249515
-    || ident == 423732329 || ident == 272869232 || ident == 307544935
+    ident == 0x114D9B74 || ident == 0x1549A966 || ident == 0x1654AE6B || ident == 0x1C53BB6B
+    || ident == 0x1941A469 || ident == 0x1043A770 || ident == 0x1254C367
 
 -- one that may stand anywhere (RFC 8794, 11.3): Void or CRC-32
 unfoldable pub is_filler : ℕ → Bool
-is_filler ident = ident == 236 || ident == crc_ident
+is_filler ident = ident == 0xEC || ident == crc_ident
 
 -- one of a Cluster, as which it stands after the header of one of unknown size: SimpleBlock,
 -- BlockGroup, Timestamp, Position, PrevSize, SilentTracks or EncryptedBlock
 unfoldable pub is_of_cluster : ℕ → Bool
 is_of_cluster ident =
-    ident == simple_block || ident == block_group || ident == 231 || ident == 167 || ident == 171
-    || ident == 22612 || ident == 175
+    ident == simple_block || ident == block_group || ident == 0xE7 || ident == 0xA7 || ident == 0xAB
+    || ident == 0x5854 || ident == 0xAF
 
 -- an element of a BlockGroup, after its header; its size must be known
 unfoldable pub group_child : TrackNumbers → ℕ → Place → Option ℕ → Reading (Option Step)
@@ -87,8 +87,8 @@ block_sought (suc most) track place =
 -- most 8 bytes; SilentTracks, EncryptedBlock, Void or CRC-32
 unfoldable pub is_beside : ℕ → ℕ → Bool
 is_beside ident size =
-    if ident == 231 || ident == 167 || ident == 171 then nat_le size 8
-    else ident == 22612 || ident == 175 || is_filler ident
+    if ident == 0xE7 || ident == 0xA7 || ident == 0xAB then nat_le size 8
+    else ident == 0x5854 || ident == 0xAF || is_filler ident
 
 -- an element of a Cluster, of so many bytes, after its header, and a BlockGroup up to its first
 -- Block: any other may not stand there
@@ -128,8 +128,8 @@ cluster_rest track place p = known_child track p.0.ident (cluster_at place p.0.l
 -- Info, Tracks, Cues, Attachments, Chapters, Tags and Cluster; and EBML and Segment
 unfoldable pub outside_idents : List ℕ
 outside_idents =
-    290298740 ∷ 357149030 ∷ 374648427 ∷ 475249515 ∷ 423732329 ∷ 272869232 ∷ 307544935 ∷ 524531317
-    ∷ 440786851 ∷ 408125543 ∷ []
+    0x114D9B74 ∷ 0x1549A966 ∷ 0x1654AE6B ∷ 0x1C53BB6B ∷ 0x1941A469 ∷ 0x1043A770 ∷ 0x1254C367
+    ∷ 0x1F43B675 ∷ 0x1A45DFA3 ∷ 0x18538067 ∷ []
 
 -- if one of these elements begins in a Cluster, the Cluster says more bytes than it has; so the
 -- element is refused before its size is looked at

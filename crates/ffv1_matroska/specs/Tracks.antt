@@ -17,34 +17,34 @@ use Rattle.ffv1_matroska.specs.declared.track.TrackNumbers.{TrackNumbers}
 
 -- the IDs of TrackEntry and of what is looked for in it
 abbrev pub entry : ℕ
-entry = 174
+entry = 0xAE
 
 abbrev pub track_number : ℕ
-track_number = 215
+track_number = 0xD7
 
 abbrev pub track_type : ℕ
-track_type = 131
+track_type = 0x83
 
 abbrev pub codec_id : ℕ
-codec_id = 134
+codec_id = 0x86
 
 abbrev pub codec_private : ℕ
-codec_private = 25506
+codec_private = 0x63A2
 
 abbrev pub content_encodings : ℕ
-content_encodings = 28032
+content_encodings = 0x6D80
 
 abbrev pub default_duration : ℕ
-default_duration = 2352003
+default_duration = 0x23E383
 
 abbrev pub video : ℕ
-video = 224
+video = 0xE0
 
 abbrev pub pixel_width : ℕ
-pixel_width = 176
+pixel_width = 0xB0
 
 abbrev pub pixel_height : ℕ
-pixel_height = 186
+pixel_height = 0xBA
 
 -- a track by the number that its blocks have, and those of all tracks, with the head that it says
 pub record Track : Type 0 where

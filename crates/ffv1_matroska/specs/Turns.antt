@@ -239,10 +239,10 @@ open_turn track place =
 -- is 1F
 abbrev pub byte_matched : ℕ → ℕ → ℕ
 byte_matched matched byte =
-    if byte == 31 then 1
-    else if (matched == 1) && (byte == 67) then 2
-    else if (matched == 2) && (byte == 182) then 3
-    else if (matched == 3) && (byte == 117) then 4
+    if byte == 0x1F then 1
+    else if (matched == 1) && (byte == 0x43) then 2
+    else if (matched == 2) && (byte == 0xB6) then 3
+    else if (matched == 3) && (byte == 0x75) then 4
     else 0
 
 abbrev pub scanned_on : (ℕ → Reading (Option ℕ)) → ℕ → ℕ → Reading (Option ℕ)

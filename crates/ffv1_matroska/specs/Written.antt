@@ -224,7 +224,7 @@ tracks_element head details = long_element tracks (checked (entry_element head d
 
 -- of the track 1, at the Cluster's own time, a key frame (10.2)
 abbrev pub block_header : List ℕ
-block_header = 129 ∷ 0 ∷ 0 ∷ 128 ∷ []
+block_header = 0x81 ∷ 0x00 ∷ 0x00 ∷ 0x80 ∷ []
 
 unfoldable pub cluster_content : ℕ → List ℕ → List ℕ
 cluster_content number frame =

@@ -7,6 +7,7 @@ ghost use Rattle.ffv1_wire.specs.Passage.{passage};
 ghost use Rattle.ffv1_matroska.specs.Files.{frame_found, frame_read};
 ghost use Rattle.ffv1_reads.specs.Ends.{AnswersOrNone};
 ghost use Rattle.ffv1_reads.specs.Room.{HasRoom};
+ghost use Rattle.ffv1_matroska.specs.Cues.{FindsCued, ReadsCued};
 ghost use Rattle.ffv1_matroska.specs.Offsets.{FindsFrom, ReadsFrom};
 ghost use Rattle.ffv1_matroska.specs.Places.{amount};
 ghost use Rattle.ffv1_matroska.specs.Readers.{Leaves, next_with};
@@ -21,12 +22,14 @@ use ffv1_wire::ByteIn;
 use std::alloc::Allocator;
 
 /// The size of the next frame, and the place after it, except its sum; None at the end. `here` is
-/// then the place before its element, or before the one that was refused.
+/// then the place before its element, or before the one that was refused, or at the end; and `cued`
+/// is whether Cues came after the last Cluster.
 fn find_frame<R: ByteIn>(
     input: &mut R,
     track: TrackNumbers,
     place: Place,
     here: &mut Place,
+    cued: &mut bool,
 ) -> Result<Option<(u64, Place)>, FileFault>
     ensures answer { AnswersOrNone (λ (p : Option (ℕ × Place)). p) (frame_found track place)
         (passage R.remaining R.failures input.old input.new) result }
@@ -34,9 +37,13 @@ fn find_frame<R: ByteIn>(
     ensures less { IfOk result (λ o. IfSome o (λ p. amount p.1 < amount place)) }
     ensures from { FindsFrom track place (passage R.remaining R.failures input.old input.new) result
         here.new }
+    ensures cued { FindsCued track (place, cued.old)
+        (passage R.remaining R.failures input.old input.new) result (here.new, cued.new) }
 {
     *here = place;
-    while let Some(next) = step(input, track, *here)? {
+    let mut came = *cued;
+    while let Some(next) = step(input, track, *here, &mut came)? {
+        *cued = came;
         if let Some(size) = next.frame {
             return Ok(Some((size, next.place)));
         }
@@ -46,12 +53,14 @@ fn find_frame<R: ByteIn>(
 }
 
 /// The next frame in place of what the vector has, and the place after it; None at the end. After a
-/// fault `here` is the place before the element that was refused.
+/// fault `here` is the place before the element that was refused, and at the end where that is.
+/// `cued` is whether Cues came after the last Cluster, if there is no fault.
 pub(crate) fn read_frame<R: ByteIn, A: Allocator>(
     input: &mut R,
     track: TrackNumbers,
     place: Place,
     here: &mut Place,
+    cued: &mut bool,
     frame: &mut Vec<u8, A>,
 ) -> Result<Option<Place>, FileFault>
     ensures answer { AnswersOrNone (λ (after : Option Place). next_with frame.new.items after)
@@ -65,9 +74,11 @@ pub(crate) fn read_frame<R: ByteIn, A: Allocator>(
         (length frame.new.items) result }
     ensures from { ReadsFrom track place (passage R.remaining R.failures input.old input.new) result
         here.new }
+    ensures cued { ReadsCued track (place, cued.old)
+        (passage R.remaining R.failures input.old input.new) result (here.new, cued.new) }
 {
     frame.clear();
-    let Some((size, after)) = find_frame(input, track, place, here)? else {
+    let Some((size, after)) = find_frame(input, track, place, here, cued)? else {
         return Ok(None);
     };
     let mut sum = after.sum;

@@ -21,6 +21,8 @@ ghost use Rattle.ffv1_matroska.specs.Elements.{IsListed, IsPiece, Leaf, Single, 
 ghost use Rattle.ffv1_matroska.specs.Elements.{AreLeaves, Group, HasIdent, leaves_text};
 ghost use Rattle.ffv1_matroska.specs.Elements.{stands_single};
 ghost use Rattle.ffv1_ebml.specs.declared.sum.Sum.{Sum};
+ghost use Rattle.ffv1_reads.specs.Behind.{behind_read};
+ghost use Rattle.ffv1_matroska.specs.Cues.{cued_behind, cued_by, cues};
 ghost use Rattle.ffv1_matroska.specs.Offsets.{element_taken};
 ghost use Rattle.ffv1_matroska.specs.Places.{cluster_at, segment_at};
 ghost use Rattle.ffv1_matroska.specs.Segments.{block};
@@ -32,7 +34,7 @@ ghost use Rattle.ffv1_matroska.specs.Opened.{file_read, open_read};
 ghost use Rattle.ffv1_matroska.specs.Opening.{doc_type};
 ghost use Rattle.ffv1_matroska.specs.Places.{cluster_entered};
 ghost use Rattle.ffv1_matroska.specs.Rates.{IsTimed};
-ghost use Rattle.std.specs.Prelude.{None, ◌≤◌};
+ghost use Rattle.std.specs.Prelude.{Bool, None, ◌≤◌};
 ghost use Rattle.ffv1_reads.specs.Reads.{read_on};
 ghost use Rattle.ffv1_matroska.specs.Files.{frame_read, frames_read, more_frames};
 ghost use Rattle.ffv1_matroska.specs.Places.{ended};
@@ -247,4 +249,32 @@ pub fn what_is_read_is_a_file()
     ensures { (file : List ℕ) (head : Head) (frames : List (List ℕ)) (rest : List ℕ) →
         file_read file ≡ Ok ((head, frames), rest) →
         (is : MatroskaFile file head frames) × (is.rest ≡ rest) }
+{}
+
+/// If nothing is found behind a file whose frames were read, it ends there: it is a file of that
+/// head and those frames, by its elements, and nothing comes after its Segment.
+pub fn nothing_stands_behind_a_file()
+    ensures { (file : List ℕ) (head : Head) (frames : List (List ℕ)) (rest after : List ℕ) →
+        file_read file ≡ Ok ((head, frames), rest) → behind_read rest ≡ Ok (false, after) →
+        (is : MatroskaFile file head frames) × (is.rest ≡ []) }
+{}
+
+/// Whether Cues came after the last Cluster is told by the IDs of a Segment's elements, in order: a
+/// Cluster comes after all Cues before it, Cues come after it, and any other element changes
+/// nothing. Nor does an element in a Cluster of known size or in a BlockGroup.
+pub fn cues_are_told_by_their_ids()
+    ensures sized { (base : Place) (loose cued : Bool) (ident size rest : List ℕ)
+        (known left : ℕ) → IsVint ident → length ident ≤ 4 → SaysSize size (Some known) →
+        cued_behind (segment_at base loose (length (ident ++ size) + (known + left)))
+        ((ident ++ size) ++ rest) cued ≡ cued_by (number_of ident) cued }
+    ensures unknown { (base : Place) (loose cued : Bool) (ident size rest : List ℕ) (left : ℕ) →
+        IsVint ident → length ident ≤ 4 → SaysSize size None →
+        cued_behind (segment_at base loose (length (ident ++ size) + left))
+        ((ident ++ size) ++ rest) cued ≡ cued_by (number_of ident) cued }
+    ensures cluster { (cued : Bool) → cued_by cluster cued ≡ false }
+    ensures cues { (cued : Bool) → cued_by cues cued ≡ true }
+    ensures others { (ident : ℕ) (cued : Bool) → (ident == cluster) ≡ false →
+        (ident == cues) ≡ false → cued_by ident cued ≡ cued }
+    ensures inside { (place : Place) (text : List ℕ) (cued : Bool) →
+        0 < place.cluster + place.group → cued_behind place text cued ≡ cued }
 {}

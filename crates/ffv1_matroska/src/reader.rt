@@ -4,7 +4,7 @@ ghost use Rattle.std.specs.Prelude.{◌≡◌, ◌<◌, ◌≤◌, Bool, List, [
 ghost use Rattle.std.specs.Prelude.{IfErr, IfOk, OnErr, Ok, Err, length, max, ◌+◌, ◌*◌};
 ghost use Rattle.std.specs.Vec.{vec_capacity};
 ghost use Rattle.ffv1_wire.specs.Passage.{passage};
-ghost use Rattle.ffv1_reads.specs.Ends.{AnswersOrFaults, AnswersOrNone};
+ghost use Rattle.ffv1_reads.specs.Ends.{AnswersOrEnds, AnswersOrFaults, AnswersOrNone};
 ghost use Rattle.ffv1_reads.specs.First.{bytes_with, passage_with};
 ghost use Rattle.ffv1_reads.specs.Head.{head_of};
 ghost use Rattle.ffv1_reads.specs.Room.{HasRoom, RoomRead};
@@ -14,10 +14,12 @@ ghost use Rattle.ffv1_matroska.specs.Files.{frame_read};
 ghost use Rattle.ffv1_matroska.specs.Items.{ItemAnswers, course_at, item_read};
 ghost use Rattle.ffv1_matroska.specs.declared.items.Item.TheVariants as item;
 ghost use Rattle.ffv1_matroska.specs.Opened.{open_read};
+ghost use Rattle.ffv1_matroska.specs.Cues.{CuedAfter};
 ghost use Rattle.ffv1_matroska.specs.Offsets.{OffsetAfter, OffsetOpened};
 ghost use Rattle.ffv1_matroska.specs.Places.{amount, ended};
-ghost use Rattle.ffv1_matroska.specs.Readers.{HasEnded, Leaves, Standing, StandsAfter};
-ghost use Rattle.ffv1_matroska.specs.Readers.{is_frame_fault, is_opening_fault, next_of};
+ghost use Rattle.ffv1_matroska.specs.Readers.{EndsThere, HasEnded, Leaves, Standing, StandsAfter};
+ghost use Rattle.ffv1_matroska.specs.Readers.{is_frame_fault, is_open, is_opening_fault};
+ghost use Rattle.ffv1_matroska.specs.Readers.{next_of, segment_behind};
 ghost use Rattle.ffv1_matroska.specs.Readers.{opened_at};
 
 use crate::beginning::read_opening;
@@ -26,7 +28,7 @@ use crate::frames::read_frame;
 use crate::items::{Item, read_item};
 use crate::place::{Place, ended, passed};
 use crate::track::TrackNumbers;
-use ffv1_reads::{FileFault, FileHead};
+use ffv1_reads::{FileFault, FileHead, look_behind};
 use ffv1_wire::ByteIn;
 use std::alloc::{Allocator, Global};
 use std::marker::Model;
@@ -43,6 +45,8 @@ pub struct MatroskaReader<A: Allocator = Global> {
     place: Place,
     fault: Option<FileFault>,
     offset: u64,
+    end: u64,
+    cued: bool,
 }
 
 impl<A: Allocator> Model for MatroskaReader<A> {
@@ -55,6 +59,8 @@ impl<A: Allocator> Model for MatroskaReader<A> {
       fault = r.fault;
       room = vec_capacity r.head.config_record;
       offset = r.offset;
+      end = r.end;
+      cued = r.cued;
     } };
 }
 
@@ -123,6 +129,8 @@ impl<A: Allocator + Copy> MatroskaReader<A> {
             (R.remaining input.new) 0 r.room) }
         ensures offset { OffsetOpened (passage_with first R.remaining R.failures input.old
             input.new) result offset.new }
+        ensures end { IfOk result EndsThere }
+        ensures uncued { IfOk result (λ r. r.cued ≡ false) }
     {
         let mut content = Vec::new(alloc);
         let mut config_record = Vec::new(alloc);
@@ -147,6 +155,8 @@ impl<A: Allocator + Copy> MatroskaReader<A> {
             place,
             fault: None,
             offset: *offset,
+            end: offset.saturating_add(passed(place, ended())),
+            cued: false,
         })
     }
 }
@@ -173,6 +183,42 @@ impl<A: Allocator> MatroskaReader<A> {
         ensures { result ≡ self.now.offset }
     {
         self.offset
+    }
+
+    /// The number of bytes of the file before the end of its Segment, if the size of that is known.
+    /// No greater than 2^64 - 1.
+    pub fn end(&self) -> u64
+        ensures { result ≡ self.now.end }
+    {
+        self.end
+    }
+
+    /// Whether nothing says that the Segment is whole, once `next_frame` has answered false: its
+    /// size is unknown, and no Cues stand behind its last Cluster. A program that was broken off
+    /// leaves such a file, and so do some that write to a pipe.
+    #[tactic(auto, unfolding(crate::specs::Readers::is_open))]
+    pub fn is_open(&self) -> bool
+        ensures { result ≡ is_open self.now.segment self.now.cued }
+    {
+        self.segment.is_none() && !self.cued
+    }
+
+    /// Looks at what stands behind the Segment, once `next_frame` has answered false: whether there
+    /// are bytes, at `end`. If the size of the Segment is known, four of them are read, or as many
+    /// as there are. If it is unknown, the Segment ends with the input: the answer is false, and
+    /// nothing is read.
+    ///
+    /// `Another` if another file begins there: these four bytes are the ID of EBML, or RIFF. `Read`
+    /// if a read failed.
+    #[tactic(auto, unfolding(crate::specs::Readers::segment_behind))]
+    pub fn look_behind<R: ByteIn>(&self, input: &mut R) -> Result<bool, FileFault>
+        ensures { AnswersOrEnds (λ (some : Bool). some) (segment_behind self.now.segment)
+            (passage R.remaining R.failures input.old input.new) result }
+    {
+        match self.segment {
+            None => Ok(false),
+            Some(_) => look_behind(input),
+        }
     }
 
     /// Reads the next frame in place of what the vector has, and answers true; or false at the end.
@@ -224,6 +270,10 @@ impl<A: Allocator> MatroskaReader<A> {
         ensures idle { self.old.fault ≡ None → self.old.place ≡ ended →
             vec_capacity frame.new ≡ vec_capacity frame.old }
         ensures kept { self.new.room ≡ self.old.room }
+        ensures behind { self.new.end ≡ self.old.end }
+        ensures ends { EndsThere self.old → IfOk result (λ more. more ≡ true → EndsThere self.new) }
+        ensures cued { self.old.fault ≡ None → CuedAfter self.old
+            (passage R.remaining R.failures input.old input.new) result self.new }
         ensures offset { self.old.fault ≡ None → OffsetAfter self.old
             (passage R.remaining R.failures input.old input.new) result self.new }
     {
@@ -236,14 +286,17 @@ impl<A: Allocator> MatroskaReader<A> {
             return Ok(false);
         }
         let mut here = self.place;
-        match read_frame(input, self.track, self.place, &mut here, frame) {
+        let mut cued = self.cued;
+        match read_frame(input, self.track, self.place, &mut here, &mut cued, frame) {
             Ok(Some(place)) => {
                 self.offset = self.offset.saturating_add(passed(self.place, place));
                 self.place = place;
+                self.cued = cued;
                 Ok(true)
             }
             Ok(None) => {
                 self.place = ended();
+                self.cued = cued;
                 Ok(false)
             }
             Err(fault) => {

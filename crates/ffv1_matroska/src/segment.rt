@@ -8,6 +8,7 @@ ghost use Rattle.ffv1_ebml.specs.declared.element.Element.{Element};
 ghost use Rattle.ffv1_reads.specs.Reads.{Answers};
 ghost use Rattle.ffv1_matroska.specs.Internal.{bytes_of};
 ghost use Rattle.ffv1_reads.specs.Ends.{AnswersOrNone};
+ghost use Rattle.ffv1_matroska.specs.Cues.{CuedStep, cued_by};
 ghost use Rattle.ffv1_matroska.specs.Places.{amount};
 ghost use Rattle.ffv1_matroska.specs.Segments.{block_sought};
 ghost use Rattle.ffv1_matroska.specs.Segments.{child_by, cluster_child, cluster_read, crc_read};
@@ -16,6 +17,7 @@ ghost use Rattle.ffv1_matroska.specs.Segments.{is_beside, is_filler, is_of_clust
 ghost use Rattle.ffv1_matroska.specs.Segments.{known_child};
 ghost use Rattle.ffv1_matroska.specs.Segments.{other_read, segment_child, segment_read, step_read};
 ghost use Rattle.ffv1_matroska.specs.declared.place.Step.{Step};
+ghost use Rattle.std.specs.Prelude.{Bool};
 
 use crate::block::{pass_on, read_block};
 use crate::place::{
@@ -29,6 +31,8 @@ use ffv1_reads::{FileFault, take};
 use ffv1_wire::ByteIn;
 
 pub(crate) const CLUSTER: u32 = 0x1F43_B675;
+
+const CUES: u32 = 0x1C53_BB6B;
 
 pub(crate) const SIMPLE_BLOCK: u32 = 0xA3;
 
@@ -420,38 +424,59 @@ pub(crate) fn next_header<R: ByteIn>(
     Ok(Some(element))
 }
 
-/// The next element of a Segment; None at its end.
+/// Whether Cues came after the last Cluster, behind an element of the Segment.
+#[tactic(auto, unfolding(crate::specs::Cues::cued_by))]
+fn cued_by(ident: u32, cued: bool) -> bool
+    ensures { result ≡ cued_by ident cued }
+{
+    if ident == CLUSTER {
+        return false;
+    }
+    cued || ident == CUES
+}
+
+/// The next element of a Segment; None at its end. `cued` is then whether Cues came after the last
+/// Cluster.
 #[tactic(auto, unfolding(crate::specs::Segments::segment_read))]
 fn read_segment<R: ByteIn>(
     input: &mut R,
     track: TrackNumbers,
     place: Place,
+    cued: &mut bool,
 ) -> Result<Option<Step>, FileFault>
     ensures answer { AnswersOrNone (λ (s : Option Step). s) (segment_read track place)
         (passage R.remaining R.failures input.old input.new) result }
     ensures sized { IfOk result (λ o. IfSome o (λ s. IfSome s.frame
         (λ n. (0 < n) × (n ≤ 1073741824)))) }
     ensures less { IfOk result (λ o. IfSome o (λ s. amount s.place < amount place)) }
+    ensures cued { place.group ≡ 0 → place.cluster ≡ 0 → IfOk result (λ o. IfSome o
+        (λ s. CuedStep track (place, cued.old) (R.remaining input.old) (R.remaining input.new) s
+        cued.new)) }
 {
     let Some(element) = next_header(input, place)? else {
         return Ok(None);
     };
+    *cued = cued_by(element.ident, *cued);
     let after = segment_at(place, place.loose, element.left);
     segment_child(input, track, element, after)
 }
 
-/// The next step, in the innermost that has bytes left; None at the end of the Segment.
+/// The next step, in the innermost that has bytes left; None at the end of the Segment. `cued` is
+/// then whether Cues came after the last Cluster.
 #[tactic(auto, unfolding(crate::specs::Segments::step_read))]
 pub(crate) fn step<R: ByteIn>(
     input: &mut R,
     track: TrackNumbers,
     place: Place,
+    cued: &mut bool,
 ) -> Result<Option<Step>, FileFault>
     ensures answer { AnswersOrNone (λ (s : Option Step). s) (step_read track place)
         (passage R.remaining R.failures input.old input.new) result }
     ensures sized { IfOk result (λ o. IfSome o (λ s. IfSome s.frame
         (λ n. (0 < n) × (n ≤ 1073741824)))) }
     ensures less { IfOk result (λ o. IfSome o (λ s. amount s.place < amount place)) }
+    ensures cued { IfOk result (λ o. IfSome o (λ s. CuedStep track (place, cued.old)
+        (R.remaining input.old) (R.remaining input.new) s cued.new)) }
 {
     if place.group > 0 {
         return read_group(input, track, place);
@@ -459,5 +484,5 @@ pub(crate) fn step<R: ByteIn>(
     if place.cluster > 0 {
         return read_cluster(input, track, place);
     }
-    read_segment(input, track, place)
+    read_segment(input, track, place, cued)
 }

@@ -3,6 +3,7 @@ use Rattle.std.proofs.Common.{◌≡◌, ℕ, zero, suc, ◌+◌, ◌≤◌, ◌
 use Rattle.std.proofs.lemmas.List.{take_more, take-append-drop, map-append}
 use Rattle.std.proofs.lemmas.List.Elements.{All-append}
 use Rattle.std.specs.Prelude.{◌≢◌, All, IsOk}
+use Rattle.ffv1_files.specs.declared.notes.Notes.{Notes}
 use Rattle.ffv1_orders.specs.declared.refusal.Refusal.{Refusal}
 use Rattle.ffv1_orders.specs.Looked.{Outcome, Look, Looked, ArePrinted, LooksAtEach, StopsAt, paths_of, status_of_each, unprinted}
 
@@ -23,7 +24,7 @@ printed_then : (os : List Outcome) (o : Outcome) → ArePrinted os → o ≢ Err
 printed_then os o h k = All-append (λ z. z ≢ Err unprinted) os (o ∷ []) h (all_one (λ z. z ≢ Err unprinted) o k)
 
 -- the exit status with one outcome more
-status_then_done : (os : List Outcome) (u : Unit {0}) → status_of_each (os ++ Ok u ∷ []) ≡ status_of_each os
+status_then_done : (os : List Outcome) (u : Notes) → status_of_each (os ++ Ok u ∷ []) ≡ status_of_each os
 status_then_done [] u = refl
 status_then_done (Ok v ∷ os) u = status_then_done os u
 status_then_done (Err r ∷ os) u = refl
@@ -74,13 +75,13 @@ module _ {L : Type 0} (looks : Look L) {s m t : L} {paths : List (Bor (List ℕ)
       let P : _ → Type 0 = λ z. Looked looks s z (so_far.outcomes ++ o ∷ []) t in
       subst P (sym parts) (looked_then looks s m t (paths_of (take i paths)) so_far.outcomes (get_or paths i d).now o so_far.looked look)
 
-  -- a look that is refused ends a beginning of the paths
-  pub stops_at : (r : Refusal) → o ≡ Err r → StopsAt looks s (paths_of paths) so_far.outcomes r t
-  stops_at r is = record {
+  -- a look ends a beginning of the paths
+  pub stops_at : StopsAt looks s (paths_of paths) so_far.outcomes o t
+  stops_at = record {
     before = paths_of (take (i + 1) paths);
     after = paths_of (drop (i + 1) paths);
     parts = ap paths_of (sym (take-append-drop (i + 1) paths)) ∙ map-append (λ path. path.now) (take (i + 1) paths) (drop (i + 1) paths);
-    looked = let P : _ → Type 0 = λ z. Looked looks s (paths_of (take (i + 1) paths)) (so_far.outcomes ++ z ∷ []) t in subst P is looked_next;
+    looked = looked_next;
     printed = so_far.printed;
   }
 
@@ -98,6 +99,6 @@ module _ {L : Type 0} (looks : Look L) {s m t : L} {paths : List (Bor (List ℕ)
       → (outcomes : List Outcome) × LooksAtEach looks s (paths_of paths) outcomes t × (status ≡ status_of_each outcomes)
   looks_last refused is = (
     so_far.outcomes ++ Err unprinted ∷ [],
-    inr (so_far.outcomes, refl, stops_at unprinted is),
+    inr (so_far.outcomes, refl, subst (λ (z : Outcome). StopsAt looks s (paths_of paths) so_far.outcomes z t) is stops_at),
     refused unprinted is ∙ sym (status_then_refused so_far.outcomes unprinted),
   )

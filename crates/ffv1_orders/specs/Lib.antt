@@ -1,3 +1,4 @@
+pub mod Noted
 pub mod Looked
 pub mod Statuses
 pub mod Telling

@@ -3,6 +3,8 @@ use Rattle.std.specs.Prelude.{◌≡◌, ◌≢◌, ◌⊎◌, ◌++◌, ℕ, Bo
 use Rattle.std.specs.Prelude.{Result, Ok, Err, All}
 use Rattle.std.specs.Borrow.{Bor}
 use Rattle.ffv1_video.specs.declared.fault.Fault.TheVariants as fault
+use Rattle.ffv1_files.specs.declared.notes.Notes.{Notes}
+use Rattle.ffv1_orders.specs.Noted.{is_noted}
 use Rattle.ffv1_orders.specs.declared.refusal.Refusal.{Refusal}
 use Rattle.ffv1_orders.specs.declared.refusal.Refusal.TheVariants as refusal
 
@@ -10,9 +12,19 @@ use Rattle.ffv1_orders.specs.declared.refusal.Refusal.TheVariants as refusal
 abbrev pub paths_of : List (Bor (List ℕ)) → List (List ℕ)
 paths_of paths = map (λ path. path.now) paths
 
--- what comes of a look: it is done, or refused
+-- what comes of a part of an order: it is done, and this is noted of a file that was read; or it is
+-- refused
 abbrev pub Outcome : Type 0
-Outcome = Result (Unit {0}) Refusal
+Outcome = Result Notes Refusal
+
+-- what comes of printing: it is done, or refused
+abbrev pub Printed : Type 0
+Printed = Result (Unit {0}) Refusal
+
+-- it is told on standard error: it is refused, or something is noted
+abbrev pub IsTold : Outcome → Type 0
+IsTold (Ok notes) = is_noted notes ≡ true
+IsTold (Err r) = Unit {0}
 
 -- a look: the looker before, the path, what came of it, and the looker after
 abbrev pub Look : Type 0 → Type 1
@@ -42,14 +54,14 @@ Looked looks s (p ∷ ps) [] t = ⊥
 abbrev pub ArePrinted : List Outcome → Type 0
 ArePrinted outcomes = All (λ o. o ≢ Err unprinted) outcomes
 
--- a beginning of the paths was looked at, and the last of these looks was refused so; no earlier
--- one was refused because a line could not be printed
+-- a beginning of the paths was looked at, and of the last of these looks this came; no earlier one
+-- was refused because a line could not be printed
 pub record StopsAt {L : Type 0} (looks : Look L) (s : L) (paths : List (List ℕ))
-    (earlier : List Outcome) (r : Refusal) (t : L) : Type 0 where
+    (earlier : List Outcome) (last : Outcome) (t : L) : Type 0 where
   pub before : List (List ℕ)
   pub after : List (List ℕ)
   pub parts : paths ≡ before ++ after
-  pub looked : Looked looks s before (earlier ++ Err r ∷ []) t
+  pub looked : Looked looks s before (earlier ++ last ∷ []) t
   pub printed : ArePrinted earlier
 
 -- all the paths were looked at, or those up to the first whose look was refused because a line
@@ -58,7 +70,7 @@ abbrev pub LooksAtEach : {L : Type 0} → Look L → L → List (List ℕ) → L
 LooksAtEach looks s paths outcomes t =
     (Looked looks s paths outcomes t × ArePrinted outcomes)
     ⊎ ((earlier : List Outcome) × (outcomes ≡ earlier ++ Err unprinted ∷ [])
-    × StopsAt looks s paths earlier unprinted t)
+    × StopsAt looks s paths earlier (Err unprinted) t)
 
 -- the exit status of several files: 1 if any is refused, and else 0
 abbrev pub status_of_each : List Outcome → ℕ

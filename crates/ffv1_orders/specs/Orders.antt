@@ -16,17 +16,18 @@ use Rattle.ffv1_words.specs.declared.order.ContainerChoice.{ContainerChoice}
 use Rattle.ffv1_words.specs.declared.order.FrameRange.{FrameRange}
 use Rattle.ffv1_words.specs.declared.order.Order.{Order}
 use Rattle.ffv1_words.specs.declared.order.Order.TheVariants as order
-use Rattle.ffv1_orders.specs.Looked.{Look, LooksAtEach, LooksNamed, Naming, Outcome, StopsAt}
-use Rattle.ffv1_orders.specs.Looked.{paths_of, status_of_each}
+use Rattle.ffv1_orders.specs.Looked.{IsTold, Look, LooksAtEach, LooksNamed, Naming, Outcome}
+use Rattle.ffv1_orders.specs.Looked.{StopsAt, paths_of, status_of_each}
 use Rattle.ffv1_orders.specs.Statuses.{status_of}
 use Rattle.ffv1_orders.specs.declared.checking.Checking.{Checking}
 use Rattle.ffv1_orders.specs.declared.comparing.Comparing.{Comparing}
+use Rattle.ffv1_orders.specs.declared.hashing.Hashing.{Hashing}
 use Rattle.ffv1_orders.specs.declared.informing.Informing.{Informing}
 use Rattle.ffv1_orders.specs.declared.making.Making.{Making}
 use Rattle.ffv1_orders.specs.declared.orders.Looker.{Looker}
 use Rattle.ffv1_orders.specs.declared.orders.Looking.{Looking}
 use Rattle.ffv1_orders.specs.declared.orders.Looking.TheVariants as looking
-use Rattle.ffv1_orders.specs.declared.refusal.Refusal.{Refusal}
+use Rattle.ffv1_orders.specs.declared.unpacking.Unpacking.{Unpacking}
 use Rattle.ffv1_orders.specs.declared.telling.Telling.{Telling}
 use Rattle.ffv1_orders.specs.declared.telling.Telling.TheVariants as telling
 
@@ -34,8 +35,8 @@ use Rattle.ffv1_orders.specs.declared.telling.Telling.TheVariants as telling
 abbrev pub Packing : Type 0 → Type 1
 Packing D = D → Making → ContainerChoice → Choice → Outcome → D → Type 0
 
-abbrev pub Unpacking : Type 0 → Type 1
-Unpacking D = D → Making → FrameRange → Bool → Outcome → D → Type 0
+abbrev pub UnpackingOf : Type 0 → Type 1
+UnpackingOf D = D → Making → Unpacking → Outcome → D → Type 0
 
 abbrev pub ComparingOf : Type 0 → Type 1
 ComparingOf D = D → Comparing → Outcome → D → Type 0
@@ -50,7 +51,7 @@ LookingAt D = D → Looking → List ℕ → Outcome → D → Type 0
 
 pub record Doing (D : Type 0) : Type 1 where
   pub packs : Packing D
-  pub unpacks : Unpacking D
+  pub unpacks : UnpackingOf D
   pub compares : ComparingOf D
   pub names : NamingOf D
   pub looks : LookingAt D
@@ -72,8 +73,8 @@ pub record LooksOver {L E : Type 0} (names : Naming L) (looks : Look L) (s : L)
       (outcome : Outcome) × looks s path outcome t × IfOk status (λ n. n ≡ status_of outcome)
   pub each : length paths ≢ 1 → IfOk status (λ n. (outcomes : List Outcome)
       × LooksAtEach (LooksNamed names looks) s paths outcomes t × (n ≡ status_of_each outcomes))
-  pub stopped : length paths ≢ 1 → OnErr status ((earlier : List Outcome) × (r : Refusal)
-      × StopsAt (LooksNamed names looks) s paths earlier r t)
+  pub stopped : length paths ≢ 1 → OnErr status ((earlier : List Outcome) × (last : Outcome)
+      × IsTold last × StopsAt (LooksNamed names looks) s paths earlier last t)
 
 -- all of the files of an order are, in this way
 pub record LooksAll {D E : Type 0} (does : Doing D) (s : D) (way : Looking)
@@ -111,6 +112,7 @@ ChecksBy does s how (Some list) (Some input) inputs status t =
       list = list;
       told = how.told;
       progress = how.progress;
+      notes_as_faults = how.notes_as_faults;
     })) status t
 
 abbrev pub ChecksAll : {D E : Type 0} → Doing D → D → Checking → Option (Bor (List ℕ)) →
@@ -124,14 +126,25 @@ telling_of quiet true = telling.Object
 telling_of true false = telling.Line
 telling_of false false = telling.Frames
 
-abbrev pub checking : Bool → Bool → Telling → Bool → FrameRange → Checking
-checking all place told progress range = record {
+abbrev pub checking : Bool → Bool → Telling → Bool → FrameRange → Bool → Checking
+checking all place told progress range notes_as_faults = record {
   all = all;
   place = place;
   told = told;
   progress = progress;
   range = range;
+  notes_as_faults = notes_as_faults;
 }
+
+abbrev pub unpacking : FrameRange → Bool → Bool → Unpacking
+unpacking range all notes_as_faults = record {
+  range = range;
+  all = all;
+  notes_as_faults = notes_as_faults;
+}
+
+abbrev pub hashing : FrameRange → Bool → Hashing
+hashing range notes_as_faults = record { range = range; notes_as_faults = notes_as_faults }
 
 abbrev pub informing : Bool → Bool → Informing
 informing count json = record { count = count; json = json }
@@ -152,7 +165,7 @@ names_files way = true
 abbrev pub looks_at_files : Order → Bool
 looks_at_files (order.Show inputs cost) = true
 looks_at_files (order.Info inputs count json) = true
-looks_at_files (order.FrameMd5 inputs range) = true
+looks_at_files (order.FrameMd5 inputs range noted) = true
 looks_at_files (order.Trial input) = true
 looks_at_files o = false
 
@@ -160,17 +173,18 @@ looks_at_files o = false
 abbrev pub DoesOrder : {D E : Type 0} → Doing D → D → Order → Result ℕ E → D → Type 0
 DoesOrder does s (order.Pack input output choice container no_clobber progress) status t =
     Does (does.packs s (making input output no_clobber progress) container choice) status t
-DoesOrder does s (order.Unpack input output no_clobber progress range all) status t =
-    Does (does.unpacks s (making input output no_clobber progress) range all) status t
-DoesOrder does s (order.Check inputs all place quiet json progress against range) status t =
-    ChecksAll does s (checking all place (telling_of quiet json) progress range) against
+DoesOrder does s (order.Unpack input output no_clobber progress range all noted) status t =
+    Does (does.unpacks s (making input output no_clobber progress) (unpacking range all noted))
+    status t
+DoesOrder does s (order.Check inputs all place quiet json progress against range noted) status t =
+    ChecksAll does s (checking all place (telling_of quiet json) progress range noted) against
     inputs.now status t
 DoesOrder does s (order.Show inputs cost) status t =
     LooksAll does s (looking.Show cost) (paths_of inputs.now) status t
 DoesOrder does s (order.Info inputs count json) status t =
     LooksAll does s (looking.Info (informing count json)) (paths_of inputs.now) status t
-DoesOrder does s (order.FrameMd5 inputs range) status t =
-    LooksAll does s (looking.FrameMd5 range) (paths_of inputs.now) status t
+DoesOrder does s (order.FrameMd5 inputs range noted) status t =
+    LooksAll does s (looking.FrameMd5 (hashing range noted)) (paths_of inputs.now) status t
 DoesOrder does s (order.Trial input) status t =
     LooksAll does s looking.Trial (input.now ∷ []) status t
 

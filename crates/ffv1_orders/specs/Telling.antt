@@ -1,7 +1,7 @@
 -- Why what became of a file is not told.
-use Rattle.std.specs.Prelude.{◌≡◌, ◌⊎◌, Err}
+use Rattle.std.specs.Prelude.{◌≡◌, ◌⊎◌}
 use Rattle.ffv1_video.specs.declared.fault.Fault.TheVariants as fault
-use Rattle.ffv1_orders.specs.Looked.{Outcome, unprinted}
+use Rattle.ffv1_orders.specs.Looked.{unprinted}
 use Rattle.ffv1_orders.specs.declared.refusal.Refusal.{Refusal}
 use Rattle.ffv1_orders.specs.declared.refusal.Refusal.TheVariants as refusal
 use Rattle.ffv1_orders.specs.declared.telling.Telling.{Telling}
@@ -12,8 +12,7 @@ abbrev pub IsUntold : Refusal → Type 0
 IsUntold r = (r ≡ unprinted) ⊎ (r ≡ refusal.Fault fault.OutOfMemory)
 
 -- one line of a file could not be printed, or memory of it was refused
-abbrev pub Untold : Telling → Outcome → Type 0
-Untold telling.Frames outcome = ⊥
-Untold telling.Line outcome = outcome ≡ Err unprinted
-Untold telling.Object outcome =
-    (outcome ≡ Err unprinted) ⊎ (outcome ≡ Err (refusal.Fault fault.OutOfMemory))
+abbrev pub Untold : Telling → Refusal → Type 0
+Untold telling.Frames r = ⊥
+Untold telling.Line r = r ≡ unprinted
+Untold telling.Object r = IsUntold r

@@ -4,7 +4,7 @@
 /// Of each fault, those of the engine in the order of its type and then those of the program: its
 /// number and name, when it comes, and what to do, a line each. If more lines say that, what was
 /// met says which.
-pub static ROWS: [&str; 66] = [
+pub static ROWS: [&str; 70] = [
     "1 StateTable\n  A state transition table leads a state out of its range.\n  Not read. Use \
      another program, such as FFmpeg.",
     "2 OutOfMemory\n  Memory was refused.\n  Free some, or give more slices: a decoder holds one \
@@ -43,8 +43,8 @@ pub static ROWS: [&str; 66] = [
     "17 Version\n  The version is not 3.\n  Not read. Use another program, such as FFmpeg.",
     "18 MicroVersion\n  The micro version is not 4.\n  Not read. Use another program, such as \
      FFmpeg.",
-    "19 Coder\n  The coder type is not 1 or 2: 0 is Golomb-Rice.\n  Not read. Use another \
-     program, such as FFmpeg.",
+    "19 Coder\n  The coder type is not 0, 1 or 2; or it is 0, Golomb-Rice, with samples of more \
+     than 8 bits.\n  Not read. Use another program, such as FFmpeg.",
     "20 ColourSpace\n  The colour space type is not 0 or 1.\n  Not read. Use another program, \
      such as FFmpeg.",
     "21 Depth\n  Samples are not of 8, 9, 10, 12, 14 or 16 bits.\n  Not read. Use another \
@@ -55,6 +55,13 @@ pub static ROWS: [&str; 66] = [
     "24 Intra\n  intra is above 1.\n  Not read. Use another program, such as FFmpeg.",
     "25 ExtraPlane\n  There is a plane of transparency, but no chroma.\n  Not read. Use another \
      program, such as FFmpeg.",
+    "27 BitsEnd\n  Golomb-Rice: a sample wants a bit behind its slice's last one.\n  Damage. \
+     Fetch another copy of the file.",
+    "28 BadCode\n  Golomb-Rice: bits are those of no difference: a number is too large, or is not \
+     written in the shortest way, or a run leaves its line.\n  Damage. Fetch another copy of the \
+     file.",
+    "29 Padding\n  Golomb-Rice: behind a slice's last sample come other bits than zeros up to a \
+     byte.\n  Damage. Fetch another copy of the file.",
     "30 NotKey\n  The frame is no key frame.\n  Not read. Use another program, such as FFmpeg.",
     "31 Place\n  A slice's head names another cell than its own, or more than one cell.\n  \
      Damage, or not read. Fetch another copy of the file.",
@@ -83,13 +90,11 @@ pub static ROWS: [&str; 66] = [
     "50 NotAvi\n  The file is no AVI, and no Matroska either: it begins otherwise, a list is too \
      short for its own name, scale or rate is zero alone, or there is no movi. It may also come \
      later: a chunk stands in movi that is not allowed there, whatever its size, or a frame after \
-     it, or what stands after a RIFF is no RIFF AVIX.\n  QuickTime or MP4: copy the stream into \
-     Matroska (ffmpeg -i file.mov -map 0:v -c copy file.mkv).\n  An AVI that is broken, before \
-     its first frame or after it: the frames before are good, so copy them into Matroska (ffmpeg \
-     -i file.avi -map 0:v -c copy file.mkv), or fetch another copy.\n  Bytes after the end of an \
-     AVI: the frames are good, so copy them into Matroska (ffmpeg -i file.avi -map 0:v -c copy \
-     file.mkv), or cut the bytes off.\n  Another kind of file: give AVI or Matroska; a video of \
-     YUV4MPEG2 or PPM is for ffv1 pack.",
+     it, or a RIFF after the first one has no room for its form.\n  QuickTime or MP4: copy the \
+     stream into Matroska (ffmpeg -i file.mov -map 0:v -c copy file.mkv).\n  An AVI that is \
+     broken, before its first frame or after it: the frames before are good, so copy them into \
+     Matroska (ffmpeg -i file.avi -map 0:v -c copy file.mkv), or fetch another copy.\n  Another \
+     kind of file: give AVI or Matroska; a video of YUV4MPEG2 or PPM is for ffv1 pack.",
     "51 NoFfv1\n  No stream is FFV1 video: in AVI of the first hundred, before movi; in Matroska \
      of the first Tracks.\n  Another codec is not read. To make FFV1 of it, ffmpeg -i IN -f \
      yuv4mpegpipe -strict -1 - | ffv1 pack - OUT.",
@@ -160,6 +165,9 @@ pub static ROWS: [&str; 66] = [
      or thousandths, as 24975:1000 for 999:40; or pack into AVI.",
     "87 NotSame\n  pack --verify: a frame does not decode to its picture. The proofs exclude it, \
      so memory or a processor failed.\n  Test the machine, and pack again on another one.",
+    "88 Another\n  Another file stands behind the end of this one, as cat of two files makes it: \
+     the ID of EBML, or RIFF. It comes after all frames.\n  The frames of the first one are good; \
+     take the files apart, or join them by mkvmerge: mkvmerge -o BOTH.mkv FIRST.mkv + SECOND.mkv.",
     "89 Differs\n  The picture of the frame has another MD5 than the list, or the list or the \
      file has no such frame.\n  See whether the list is of this file, and of its pixel format; if \
      it is, fetch another copy of the file.",

@@ -19,12 +19,21 @@ pub struct Checking {
     pub progress: bool,
     /// The frames that are checked.
     pub range: FrameRange,
+    /// Whether a note of the file is a fault.
+    pub notes_as_faults: bool,
 }
 
 impl Checking {
     /// Puts together what an order says of it.
-    pub fn new(all: bool, place: bool, told: Telling, progress: bool, range: FrameRange) -> Checking
-        ensures { result ≡ checking all place told progress range }
+    pub fn new(
+        all: bool,
+        place: bool,
+        told: Telling,
+        progress: bool,
+        range: FrameRange,
+        notes_as_faults: bool,
+    ) -> Checking
+        ensures { result ≡ checking all place told progress range notes_as_faults }
     {
         Checking {
             all,
@@ -32,6 +41,7 @@ impl Checking {
             told,
             progress,
             range,
+            notes_as_faults,
         }
     }
 }

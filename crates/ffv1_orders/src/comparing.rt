@@ -16,6 +16,8 @@ pub struct Comparing<'a> {
     pub told: Telling,
     /// Whether it says how much of the file is read.
     pub progress: bool,
+    /// Whether a note of the file is a fault.
+    pub notes_as_faults: bool,
 }
 
 /// Prints what came of comparing: how many frames there are, if all agree; in one line of the file

@@ -20,10 +20,8 @@ pub enum Beginning {
     QuickTime,
     /// Matroska.
     Matroska,
-    /// AVI, of whose first RIFF no byte after the end was read.
+    /// AVI.
     Avi,
-    /// AVI that was read past the end of its first RIFF.
-    PastAvi,
     /// No byte was read.
     Nothing,
     /// None of these.
@@ -138,14 +136,10 @@ impl Met {
         if head.starts_with(&[0x1A, 0x45, 0xDF, 0xA3]) {
             return Beginning::Matroska;
         }
-        if !head.starts_with(b"RIFF") || !head.ends_with(b"AVI ") {
-            return Beginning::Other;
-        }
-        let end = u64::from(u32::from_le_bytes(kind)) + 8;
-        if self.read.get() > end {
-            Beginning::PastAvi
-        } else {
+        if head.starts_with(b"RIFF") && head.ends_with(b"AVI ") {
             Beginning::Avi
+        } else {
+            Beginning::Other
         }
     }
 }

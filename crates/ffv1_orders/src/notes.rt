@@ -1,37 +1,54 @@
-//! What the program says on standard error of a file that it packed, beside the count.
+//! What is noted of a file: what comes of it, and how it is said on standard error.
 
-use crate::told::Paths;
-use ffv1_words::is_hyphen;
+ghost use Rattle.std.specs.Prelude.{◌≡◌, ◌⊎◌, Err, IfErr, OnErr, true};
+ghost use Rattle.ffv1_orders.specs.Noted.{IsOfNotes, is_noted, noted, notes_of};
+
+use crate::refusal::Refusal;
+use ffv1_files::Notes;
 use std::io;
 
-/// What is not in the file as a user may think.
-#[derive(Clone, Copy)]
-pub struct Notes {
-    /// An AVI does not hold what its video says of colours.
-    pub loses_colour: bool,
-    /// The line gives a rate, and the video says its own.
-    pub keeps_rate: bool,
+/// Whether anything is noted.
+fn is_noted(notes: Notes) -> bool
+    ensures { result ≡ is_noted notes }
+{
+    notes.is_open || notes.after.is_some()
 }
 
-/// Says so, in a line of each.
-pub fn tell_notes(rt: &impl Eprint, paths: Paths<'_>, notes: Notes) -> io::Result<()> {
-    if notes.keeps_rate {
-        let path = if is_hyphen(paths.input) {
-            "standard input"
-        } else {
-            paths.input
-        };
-        eprintln!(rt; "ffv1: {path}: --rate and --scale are for PPM: the rate of the text stands")?;
+/// What comes of an order by what was done of its file: if that is done, what is noted of the file,
+/// or a refusal if a note is to be a fault, and there is one.
+pub fn noted(as_faults: bool, done: Result<Notes, Refusal>) -> Result<Notes, Refusal>
+    ensures value { result ≡ noted as_faults done }
+    ensures refused { IfErr result (λ r. (done ≡ Err r) ⊎ IsOfNotes r) }
+{
+    match done {
+        Ok(notes) if as_faults && is_noted(notes) => Err(Refusal::Notes(notes)),
+        Ok(notes) => Ok(notes),
+        Err(refusal) => Err(refusal),
     }
-    if notes.loses_colour {
-        let path = if is_hyphen(paths.output) {
-            "standard output"
-        } else {
-            paths.output
-        };
-        eprintln!(rt;
-            "ffv1: {path}: AVI holds no range of colours and no siting of chroma, but .mkv does"
-        )?;
+}
+
+/// What is noted of a file by what came of its order.
+pub(crate) fn notes_of(done: Result<Notes, Refusal>) -> Notes
+    ensures { result ≡ notes_of done }
+{
+    match done {
+        Ok(notes) | Err(Refusal::Notes(notes) | Refusal::Judged(_, notes)) => notes,
+        Err(_) => Notes::NONE,
+    }
+}
+
+/// Says on standard error what is noted of a file, in a line of each note, in the order of their
+/// numbers; `path` stands before it, if there is one.
+pub(crate) fn tell_notes(rt: &impl Eprint, path: Option<&str>, notes: Notes) -> io::Result<()>
+    ensures { OnErr result (is_noted notes ≡ true) }
+{
+    let colon = if path.is_some() { ": " } else { "" };
+    let path = path.unwrap_or("");
+    if notes.is_open {
+        eprintln!(rt; "ffv1: {path}{colon}note 90 Open")?;
+    }
+    if let Some(byte) = notes.after {
+        eprintln!(rt; "ffv1: {path}{colon}note 94 After byte {byte}")?;
     }
     Ok(())
 }

@@ -3,14 +3,15 @@
 ghost use Rattle.std.specs.Prelude.{◌≡◌, ◌≤◌, IfErr, IfOk, true};
 ghost use Rattle.ffv1_orders.specs.Looked.{paths_of};
 ghost use Rattle.ffv1_orders.specs.Orders.{ChecksAll, ComparingOf, Does, DoesOrder, Doing};
-ghost use Rattle.ffv1_orders.specs.Orders.{LookingAt, LooksAll, NamingOf, Packing, Unpacking};
+ghost use Rattle.ffv1_orders.specs.Orders.{LookingAt, LooksAll, NamingOf, Packing, UnpackingOf};
 ghost use Rattle.ffv1_orders.specs.Orders.{looks_at_files, looks_in, names_files, names_in};
-ghost use Rattle.ffv1_orders.specs.Statuses.{IsAnyFault, IsComparingRefusal, IsMakingRefusal};
+ghost use Rattle.ffv1_orders.specs.Statuses.{IsComparingRefusal, IsLookingRefusal, IsMakingRefusal};
 ghost use Rattle.ffv1_orders.specs.Statuses.{IsStatus, makes_file};
 ghost use Rattle.ffv1_orders.specs.declared.orders.Looking.TheVariants as looking;
 
 use crate::checking::Checking;
 use crate::comparing::Comparing;
+use crate::hashing::Hashing;
 use crate::informing::Informing;
 use crate::making::Making;
 use crate::met::Met;
@@ -19,7 +20,9 @@ use crate::several::{self, Looks};
 use crate::statuses::tell;
 use crate::telling::Telling;
 use crate::told::Paths;
-use ffv1_words::{Choice, ContainerChoice, FrameRange, Order};
+use crate::unpacking::Unpacking;
+use ffv1_files::Notes;
+use ffv1_words::{Choice, ContainerChoice, Order};
 use std::io;
 
 /// What is done with each file of an order.
@@ -31,8 +34,8 @@ pub enum Looking {
     Show { cost: bool },
     /// Its facts are printed so.
     Info(Informing),
-    /// The MD5s of its pictures are printed.
-    FrameMd5(FrameRange),
+    /// The MD5s of its pictures are printed so.
+    FrameMd5(Hashing),
     /// Its picture is coded and decoded again.
     Trial,
 }
@@ -56,7 +59,7 @@ pub trait Doer {
     ghost packs: { Packing Self };
 
     /// A file was unpacked.
-    ghost unpacks: { Unpacking Self };
+    ghost unpacks: { UnpackingOf Self };
 
     /// A file was compared with a list.
     ghost compares: { ComparingOf Self };
@@ -73,17 +76,17 @@ pub trait Doer {
         files: &Making<'_>,
         container: ContainerChoice,
         choice: &Choice,
-    ) -> Result<(), Refusal>
+    ) -> Result<Notes, Refusal>
         ensures packs { packs self.old files.now container choice.now result self.new }
         ensures refused { IfErr result (IsMakingRefusal files.now.no_clobber) };
 
-    /// Unpacks frames of a file into a text; with `all` all of one that may be damaged.
-    fn unpack(&mut self, files: &Making<'_>, range: FrameRange, all: bool) -> Result<(), Refusal>
-        ensures unpacks { unpacks self.old files.now range all result self.new }
+    /// Unpacks frames of a file into a text, or all of one that may be damaged.
+    fn unpack(&mut self, files: &Making<'_>, how: Unpacking) -> Result<Notes, Refusal>
+        ensures unpacks { unpacks self.old files.now how result self.new }
         ensures refused { IfErr result (IsMakingRefusal files.now.no_clobber) };
 
     /// Compares a file with a list of MD5s. Answers also the path of what is refused.
-    fn compare<'a>(&mut self, comparing: Comparing<'a>) -> (Paths<'a>, Result<(), Refusal>)
+    fn compare<'a>(&mut self, comparing: Comparing<'a>) -> (Paths<'a>, Result<Notes, Refusal>)
         ensures compares { compares self.old comparing.entry result.1 self.new }
         ensures refused { IfErr result.1 IsComparingRefusal };
 
@@ -92,9 +95,9 @@ pub trait Doer {
         ensures { names self.old looking path.now result self.new };
 
     /// Looks at the file of a path.
-    fn look(&mut self, looking: Looking, path: &str) -> Result<(), Refusal>
+    fn look(&mut self, looking: Looking, path: &str) -> Result<Notes, Refusal>
         ensures looks { looks self.old looking path.now result self.new }
-        ensures fault { IfErr result IsAnyFault };
+        ensures fault { IfErr result IsLookingRefusal };
 }
 
 /// What looks at files in one way.
@@ -114,7 +117,7 @@ impl<D: Doer> Looks for Looker<D> {
         self.doer.name(looking, path)
     }
 
-    fn look(&mut self, path: &str) -> Result<(), Refusal> {
+    fn look(&mut self, path: &str) -> Result<Notes, Refusal> {
         let looking = self.looking;
         self.doer.look(looking, path)
     }
@@ -173,6 +176,7 @@ fn check_all<D: Doer>(
         list,
         told: checking.told,
         progress: checking.progress,
+        notes_as_faults: checking.notes_as_faults,
     };
     let mut doer = doer;
     let (paths, done) = doer.compare(comparing);
@@ -204,14 +208,13 @@ fn unpack_file<D: Doer>(
     met: &Met,
     doer: D,
     files: &Making<'_>,
-    range: FrameRange,
-    all: bool,
+    how: Unpacking,
 ) -> (D, io::Result<u8>)
-    ensures does { Does (D.unpacks doer files.now range all) result.1 result.0 }
+    ensures does { Does (D.unpacks doer files.now how) result.1 result.0 }
     ensures status { IfOk result.1 (IsStatus true) }
 {
     let mut doer = doer;
-    let done = doer.unpack(files, range, all);
+    let done = doer.unpack(files, how);
     (doer, tell(rt, met, files.paths(), done))
 }
 
@@ -236,11 +239,57 @@ fn look_in<D: Doer>(rt: &impl Eprint, met: &Met, doer: D, order: Order<'_>) -> (
             let informing = Informing::new(count, json);
             look_all(rt, met, doer, Looking::Info(informing), inputs)
         }
-        Order::FrameMd5 { inputs, range } => {
-            look_all(rt, met, doer, Looking::FrameMd5(range), inputs)
+        Order::FrameMd5 {
+            inputs,
+            range,
+            notes_as_faults,
+        } => {
+            let hashing = Hashing::new(range, notes_as_faults);
+            look_all(rt, met, doer, Looking::FrameMd5(hashing), inputs)
         }
         Order::Trial { input } => look_all(rt, met, doer, Looking::Trial, &[input]),
         Order::Pack { .. } | Order::Unpack { .. } | Order::Check { .. } => (doer, Ok(0)),
+    }
+}
+
+/// Makes the file of an order that makes one. Answers the exit status.
+fn make_file<D: Doer>(rt: &impl Eprint, met: &Met, doer: D, order: Order<'_>) -> (D, io::Result<u8>)
+    ensures does { makes_file order.entry ≡ true → DoesOrder (record {
+      packs = D.packs;
+      unpacks = D.unpacks;
+      compares = D.compares;
+      names = D.names;
+      looks = D.looks;
+    }) doer order.entry result.1 result.0 }
+    ensures status { IfOk result.1 (IsStatus true) }
+{
+    match order {
+        Order::Pack {
+            input,
+            output,
+            choice,
+            container,
+            no_clobber,
+            progress,
+        } => {
+            let files = Making::new(input, output, no_clobber, progress);
+            pack_file(rt, met, doer, &files, container, &choice)
+        }
+        Order::Unpack {
+            input,
+            output,
+            no_clobber,
+            progress,
+            range,
+            all,
+            notes_as_faults,
+        } => {
+            let files = Making::new(input, output, no_clobber, progress);
+            let how = Unpacking::new(range, all, notes_as_faults);
+            unpack_file(rt, met, doer, &files, how)
+        }
+        Order::Check { .. } | Order::Show { .. } | Order::Info { .. } => (doer, Ok(0)),
+        Order::FrameMd5 { .. } | Order::Trial { .. } => (doer, Ok(0)),
     }
 }
 
@@ -262,28 +311,7 @@ pub fn run_order<D: Doer>(
     ensures status { IfOk result.1 (IsStatus (makes_file order.entry)) }
 {
     match order {
-        Order::Pack {
-            input,
-            output,
-            choice,
-            container,
-            no_clobber,
-            progress,
-        } => {
-            let files = Making::new(input, output, no_clobber, progress);
-            pack_file(rt, met, doer, &files, container, &choice)
-        }
-        Order::Unpack {
-            input,
-            output,
-            no_clobber,
-            progress,
-            range,
-            all,
-        } => {
-            let files = Making::new(input, output, no_clobber, progress);
-            unpack_file(rt, met, doer, &files, range, all)
-        }
+        Order::Pack { .. } | Order::Unpack { .. } => make_file(rt, met, doer, order),
         Order::Check {
             inputs,
             all,
@@ -293,8 +321,10 @@ pub fn run_order<D: Doer>(
             progress,
             against,
             range,
+            notes_as_faults,
         } => {
-            let checking = Checking::new(all, place, Telling::new(quiet, json), progress, range);
+            let told = Telling::new(quiet, json);
+            let checking = Checking::new(all, place, told, progress, range, notes_as_faults);
             check_all(rt, met, doer, checking, inputs, against)
         }
         Order::Show { .. } | Order::Info { .. } | Order::FrameMd5 { .. } | Order::Trial { .. } => {

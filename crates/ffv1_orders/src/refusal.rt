@@ -4,6 +4,7 @@ ghost use Rattle.std.specs.Prelude.{◌≡◌};
 ghost use Rattle.ffv1_orders.specs.declared.refusal.Refusal.TheVariants as refusal;
 ghost use Rattle.ffv1_video.specs.declared.fault.Fault.TheVariants as fault;
 
+use ffv1_files::Notes;
 use ffv1_video::Fault;
 use std::alloc::AllocError;
 use thiserror::Error;
@@ -27,6 +28,13 @@ pub enum Refusal {
     /// A list of MD5s is none from this line on, counted from 1.
     #[error("66 List")]
     List(u64),
+    /// A file was read to its end, and this is noted of it; but frames of it were refused, or it
+    /// had faults of its own, the first of which this is.
+    #[error("{0}")]
+    Judged(Fault, Notes),
+    /// This is noted of a file, and the order makes a note a fault.
+    #[error("notes")]
+    Notes(Notes),
 }
 
 impl From<Fault> for Refusal {

@@ -1,7 +1,7 @@
 //! What `check` prints of a file, and what prints it.
 
-ghost use Rattle.std.specs.Prelude.{◌≡◌, ℕ, List, Option, Result, Err, IfErr, false};
-ghost use Rattle.ffv1_orders.specs.Looked.{Outcome};
+ghost use Rattle.std.specs.Prelude.{◌≡◌, ℕ, List, Option, Result, IfErr, false};
+ghost use Rattle.ffv1_orders.specs.Looked.{Printed};
 ghost use Rattle.ffv1_orders.specs.Telling.{IsUntold, Untold};
 ghost use Rattle.ffv1_orders.specs.Orders.{is_of_frames, telling_of};
 ghost use Rattle.ffv1_orders.specs.Statuses.{IsAnyFault, IsComparingRefusal};
@@ -59,17 +59,17 @@ impl Telling {
 pub trait Tells {
     /// What a check answered was printed, or could not be: what prints it, the bytes of the path,
     /// in which way, what the check answered, and what came of printing it.
-    ghost tells: { Self → List ℕ → Telling → Result (Option Fault) Fault → Outcome → Type 0 };
+    ghost tells: { Self → List ℕ → Telling → Result (Option Fault) Fault → Printed → Type 0 };
 
     /// The same of a file that is compared with a list: what prints it, the bytes of the path, in
     /// which way, of how many MD5s the list is, what came of comparing, and of printing.
-    ghost compared: { Self → List ℕ → Telling → ℕ → Outcome → Outcome → Type 0 };
+    ghost compared: { Self → List ℕ → Telling → ℕ → Printed → Printed → Type 0 };
 
     /// An object of facts was begun: what prints it, the bytes of the path, and what came of it.
-    ghost begins: { Self → List ℕ → Outcome → Type 0 };
+    ghost begins: { Self → List ℕ → Printed → Type 0 };
 
     /// An object of facts was ended: what prints it, what came of the facts, and of printing.
-    ghost ends: { Self → Outcome → Outcome → Type 0 };
+    ghost ends: { Self → Printed → Printed → Type 0 };
 
     /// Prints one line of a file that was checked, or an object of JSON on one. `answer` is what
     /// the check answered, and `lines` has what it wrote, with places.
@@ -83,7 +83,7 @@ pub trait Tells {
     ) -> Result<(), Refusal>
         ensures tells { tells self.now input.now checking.told answer result }
         ensures told { is_of_frames checking.told ≡ false →
-            IfErr result (λ r. Untold checking.told (Err r)) }
+            IfErr result (Untold checking.told) }
         ensures untold { IfErr result IsUntold }
         ensures fault { IfErr result IsAnyFault };
 
@@ -103,13 +103,13 @@ pub trait Tells {
     /// Prints the beginning of an object of facts, the path.
     fn begin(&self, alloc: Global, path: &str) -> Result<(), Refusal>
         ensures begins { begins self.now path.now result }
-        ensures untold { IfErr result (λ r. Untold telling.Object (Err r)) }
+        ensures untold { IfErr result (Untold telling.Object) }
         ensures fault { IfErr result IsAnyFault };
 
     /// Prints the end of an object of facts, what came of them.
     fn end(&self, alloc: Global, done: Result<(), Refusal>) -> Result<(), Refusal>
         ensures ends { ends self.now done result }
-        ensures untold { IfErr result (λ r. Untold telling.Object (Err r)) }
+        ensures untold { IfErr result (Untold telling.Object) }
         ensures fault { IfErr result IsAnyFault };
 }
 

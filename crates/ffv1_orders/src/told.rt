@@ -44,7 +44,8 @@ fn told_place(refusal: Refusal) -> Option<(u32, &'static str, u64)> {
     match refusal {
         Refusal::Differs(frame) => Some((89, "frame", frame)),
         Refusal::List(line) => Some((66, "line", line)),
-        Refusal::Fault(_) | Refusal::OneFile | Refusal::Exists => None,
+        Refusal::Fault(_) | Refusal::Judged(_, _) => None,
+        Refusal::OneFile | Refusal::Exists | Refusal::Notes(_) => None,
     }
 }
 
@@ -66,7 +67,7 @@ pub fn known_of(refusal: Refusal) -> &'static str {
         return row_numbered(number).unwrap_or("");
     }
     match refusal {
-        Refusal::Fault(fault) => row_of(fault),
+        Refusal::Fault(fault) | Refusal::Judged(fault, _) => row_of(fault),
         _ => "",
     }
 }
@@ -97,8 +98,7 @@ fn place_of_file(beginning: Beginning) -> usize {
     match beginning {
         Beginning::QuickTime => 0,
         Beginning::Avi => 1,
-        Beginning::PastAvi => 2,
-        Beginning::Matroska | Beginning::Nothing | Beginning::Other => 3,
+        Beginning::Matroska | Beginning::Nothing | Beginning::Other => 2,
     }
 }
 
@@ -153,7 +153,7 @@ pub fn advise(rt: &impl Eprint, met: &Met, paths: Paths<'_>, refusal: Refusal) -
         eprintln!(rt; "  {path}: {kind} {place}")?;
         return tell_advice(rt, row_numbered(number).unwrap_or(""), 2);
     }
-    let Refusal::Fault(fault) = refusal else {
+    let (Refusal::Fault(fault) | Refusal::Judged(fault, _)) = refusal else {
         return Ok(());
     };
     let path = path_of(paths, fault);

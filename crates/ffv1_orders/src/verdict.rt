@@ -73,7 +73,8 @@ impl<'a> Told<'a> {
                 line: Some(line),
                 ..told
             },
-            Refusal::Fault(_) | Refusal::OneFile | Refusal::Exists => told,
+            Refusal::Fault(_) | Refusal::Judged(_, _) => told,
+            Refusal::OneFile | Refusal::Exists | Refusal::Notes(_) => told,
         }
     }
 }

@@ -54,6 +54,7 @@ own_finish p w file_fault.Encoded h = absurd h
 own_finish p w file_fault.Laced h = absurd h
 own_finish p w file_fault.Checksum h = absurd h
 own_finish p w file_fault.Rate h = absurd h
+own_finish p w file_fault.Another h = absurd h
 
 -- ---- what a writer's calls make of the file
 
@@ -286,6 +287,7 @@ module _ (i o : Passage) (a : Accepted) (r s : VideoReading) (w v : Writer) (fra
         put_stops_by file_fault.Laced h = absurd h
         put_stops_by file_fault.Checksum h = absurd h
         put_stops_by file_fault.Rate h = absurd h
+        put_stops_by file_fault.Another h = absurd h
 
         pub put_stops : (f : FileFault) → Puts z v frame u (Err f) → StopsPutting a r w (joined i q) (joined o z) (of_avi f)
         put_stops f h = put_stops_by f h

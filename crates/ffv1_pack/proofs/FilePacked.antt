@@ -78,6 +78,7 @@ module _ (profile : Profile) (choice : Choice) (i o : Passage) (head : Head) (fr
   file_refused avi.Laced w = absurd w.1
   file_refused avi.Checksum w = absurd w.1
   file_refused avi.Rate w = absurd w.1
+  file_refused avi.Another w = absurd w.1
 
   pub file_written : (u : Unit {0}) (packed : Packed) → WritesFile o head frames (Ok u) → packed.frames ≡ length frames → packed.bytes ≡ bytes_in frames → packed.loses_colour ≡ loses_colour head.colour → Packs profile choice i o packed
   file_written u packed w many bytes loses = record {
@@ -111,3 +112,4 @@ refused_own profile o head frames avi.Encoded w = absurd w.1
 refused_own profile o head frames avi.Laced w = absurd w.1
 refused_own profile o head frames avi.Checksum w = absurd w.1
 refused_own profile o head frames avi.Rate w = absurd w.1
+refused_own profile o head frames avi.Another w = absurd w.1

@@ -130,6 +130,7 @@ not_made profile choice p r a head details file_fault.NoTracks h for same makes 
 not_made profile choice p r a head details file_fault.Encoded h for same makes = absurd makes
 not_made profile choice p r a head details file_fault.Laced h for same makes = absurd makes
 not_made profile choice p r a head details file_fault.Checksum h for same makes = absurd makes
+not_made profile choice p r a head details file_fault.Another h for same makes = absurd makes
 
 -- a writer that is made
 pub made : (profile : Profile) (choice : Choice) (p : Passage) (r : VideoReading) (a : Accepted) (head : Head) (details : TrackEntry) (w : Writer) → HeadRead (greatest_depth profile) p r → IsHeadOf r → IsFor profile (choice_for profile choice r.head) r.ppm r.head a →
@@ -354,6 +355,7 @@ module _ (profile : Profile) (choice : Choice) (p : Passage) (r : VideoReading) 
             fails file_fault.Laced e = absurd e
             fails file_fault.Checksum e = absurd e
             fails file_fault.Rate e = absurd e
+            fails file_fault.Another e = absurd e
 
         whole_by : (b : Bool) → Finishes z (writing_of head (details_for choice r.head) (frames_for a r.head pictures)) (Ok b) → (z.after ≡ z.before) × Appends o.old z.new (whole_file b choice (video_of r pictures) a)
         whole_by true (after, (mid, cues, over)) = (

@@ -1,12 +1,15 @@
 -- Which checks the configuration of a video passes.
 use Rattle.std.specs.Prelude.{◌≡◌, ◌≤◌, ℕ, Bool, true, false, IsTrue, nat_le, ◌&&◌, ◌||◌, not, ◌==◌, replicate, pos}
-use Rattle.std.proofs.Common.{ap, arith, refl, inl, inr, zero, suc}
+use Rattle.std.proofs.Common.{◌∙◌, ap, arith, refl, inl, inr, zero, suc}
 use Rattle.std.proofs.lemmas.Grind.{common_steps}
 use Rattle.ffv1_range.specs.Deltas.{IsTableOf}
 use Rattle.ffv1_range.specs.Standard.{standard}
 use Rattle.ffv1_range.specs.Table.{Table}
-use Rattle.ffv1_record.specs.Accepted.{IsFirstIn, IsFirstUpTo, IsFirstWhere, checks, has_depth, IsTableFor, is_sized, is_subsampled, is_transparent}
+use Rattle.ffv1_record.specs.Accepted.{Accepted, IsFirstIn, IsFirstUpTo, IsFirstWhere, checks, has_depth, IsTableFor, is_sized, is_subsampled, is_transparent}
+use Rattle.ffv1_record.specs.Accepted.{is_rice, least_coder, suits_depth, type_of}
+use Rattle.ffv1_record.specs.Configuration.{Configuration}
 use Rattle.ffv1_record.specs.declared.config.Profile.{Profile as RecordProfile}
+use Rattle.ffv1_record.specs.declared.config.Profile.TheVariants as record_profiles
 use Rattle.ffv1_record.specs.declared.fault.RecordFault.{RecordFault}
 use Rattle.ffv1_y4m.specs.VideoHead.{IsSized, is_chroma}
 use Rattle.ffv1_video.specs.Video.{SaidHead}
@@ -19,7 +22,7 @@ use Rattle.ffv1_video.specs.declared.profile.Profile.{Profile}
 use Rattle.ffv1_video.specs.declared.profile.Profile.TheVariants.{Strict, Wide}
 use Rattle.ffv1_pack.specs.Pack.{IsPackFault, is_pack_fault}
 use Rattle.ffv1_video.specs.Profiles.{greatest_depth, record_profile}
-use Rattle.ffv1_pack.specs.Packing.{coder_for, configuration_for}
+use Rattle.ffv1_pack.specs.Packing.{IsFor, coder_for, configuration_for}
 use Rattle.ffv1_pack.specs.VideoReads.{IsHeadBy}
 use Rattle.ffv1_video.proofs.Depths.{first_of_eight}
 
@@ -66,6 +69,20 @@ tabled : (c : CoderChoice) → IsTableOf (replicate 255 (pos 0)) standard → (t
 tabled coder_choice.Standard of = (standard, refl)
 tabled coder_choice.Carried of = (standard, of)
 
+coded : (k : RecordProfile) (c : CoderChoice) (depth : ℕ) → IsTrue (nat_le (least_coder k) (type_of (coder_for c)) && suits_depth (coder_for c) depth)
+coded record_profiles.Strict coder_choice.Standard depth = refl
+coded record_profiles.Strict coder_choice.Carried depth = refl
+coded record_profiles.Wide coder_choice.Standard depth = refl
+coded record_profiles.Wide coder_choice.Carried depth = refl
+
+-- what is packed is range coded
+range_for : (c : CoderChoice) → is_rice (coder_for c) ≡ false
+range_for coder_choice.Standard = refl
+range_for coder_choice.Carried = refl
+
+pub range_coded : (profile : Profile) (choice : Choice) (ppm : Bool) (h : SaidHead) (a : Accepted) → IsFor profile choice ppm h a → is_rice a.configuration.coder ≡ false
+range_coded profile choice ppm h a for = ap (λ (c : Configuration). is_rice c.coder) for.configuration ∙ range_for choice.coder
+
 -- it is refused for its grid, or for an edge in chroma
 own_check : (k : RecordProfile) (choice : Choice) (ppm : Bool) (h : SaidHead) (g : RecordFault) → IsTableOf (replicate 255 (pos 0)) standard → IsHeadBy ppm h.head → IsFirstIn k checks (configuration_for choice ppm h) g → is_pack_fault (of_record g) ≡ true
 own_check k choice ppm h g of is (inl p) = absurd (p.0 (sized choice ppm h (head_sized ppm h.head is)))
@@ -75,7 +92,8 @@ own_check k choice ppm h g of is (inr (a, inr (b, inr (d, inl p)))) = absurd (p.
 own_check k choice ppm h g of is (inr (a, inr (b, inr (d, inr (e, inl p))))) = absurd (p.0 (tabled choice.coder of))
 own_check k choice ppm h g of is (inr (a, inr (b, inr (d, inr (e, inr (f, inl p)))))) = rw p.1 refl
 own_check k choice ppm h g of is (inr (a, inr (b, inr (d, inr (e, inr (f, inr (i, inl p))))))) = rw p.1 refl
-own_check k choice ppm h g of is (inr (a, inr (b, inr (d, inr (e, inr (f, inr (i, inr (j, p)))))))) = absurd p
+own_check k choice ppm h g of is (inr (a, inr (b, inr (d, inr (e, inr (f, inr (i, inr (j, inl p)))))))) = absurd (p.0 (coded k choice.coder h.depth))
+own_check k choice ppm h g of is (inr (a, inr (b, inr (d, inr (e, inr (f, inr (i, inr (j, inr (l, p))))))))) = absurd p
 
 -- or, if that depth is read, for RCT of 16 bits
 own_by : (k : RecordProfile) (b : Bool) (choice : Choice) (ppm : Bool) (h : SaidHead) (g : RecordFault) → IsTableOf (replicate 255 (pos 0)) standard → IsHeadBy ppm h.head → IsFirstWhere k b (configuration_for choice ppm h) g → IsPackFault Wide (of_record g)

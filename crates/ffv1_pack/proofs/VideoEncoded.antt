@@ -40,7 +40,8 @@ first_content k c g (inr (a, inr (b, inr (d, inl p)))) = rw p.1 refl
 first_content k c g (inr (a, inr (b, inr (d, inr (e, inl p))))) = rw p.1 refl
 first_content k c g (inr (a, inr (b, inr (d, inr (e, inr (f, inl p)))))) = rw p.1 refl
 first_content k c g (inr (a, inr (b, inr (d, inr (e, inr (f, inr (i, inl p))))))) = rw p.1 refl
-first_content k c g (inr (a, inr (b, inr (d, inr (e, inr (f, inr (i, inr (j, p)))))))) = absurd p
+first_content k c g (inr (a, inr (b, inr (d, inr (e, inr (f, inr (i, inr (j, inl p)))))))) = rw p.1 refl
+first_content k c g (inr (a, inr (b, inr (d, inr (e, inr (f, inr (i, inr (j, inr (l, p))))))))) = absurd p
 
 pub content_check : (k : RecordProfile) (most : ℕ) (c : Configuration) (g : RecordFault) → IsFirstUpTo k most c g → cause_of (of_record g) ≡ Content
 content_check k most c g first = elim (first_or_depth k most c g first) [

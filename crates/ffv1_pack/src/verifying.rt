@@ -1,7 +1,7 @@
 //! An encoder that decodes each frame again, if that is asked, and compares it with its picture.
 
 ghost use Rattle.std.specs.Prelude.{◌≡◌, ◌⊎◌, ◌↔◌, true, false, is_some, IfOk, IfErr, IsTrue, OnOk};
-ghost use Rattle.ffv1_record.specs.Accepted.{Accepted};
+ghost use Rattle.ffv1_record.specs.Accepted.{Accepted, is_rice};
 ghost use Rattle.ffv1_codec.specs.Frame.{CodesPicture, HasLongSlice, frame_of};
 ghost use Rattle.ffv1_codec.specs.Picture.{AreOf, Fits, planes_of};
 ghost use Rattle.ffv1_video.specs.declared.fault.Fault.TheVariants as fault;
@@ -167,14 +167,15 @@ impl<A: Allocator + Copy> VerifyingEncoder<A> {
         self.encoder.config()
     }
 
-    /// The frame of a picture that fits the configuration. If this verifies, the frame is
+    /// The frame of a picture that fits a range coded configuration. If this verifies, the frame is
     /// decoded, and compared with the picture. They are the same each time, so that `NotSame` is
     /// answered by no encoder whose memory keeps what was written there.
     ///
     /// Answers `SliceTooLong` only if a slice has more than 16777215 coded bytes, and there
     /// never `Ok`; else `OutOfMemory`, if memory was refused.
     pub(crate) fn encode(&mut self, picture: &Picture<A>, info: Info) -> Result<Vec<u8, A>, Fault>
-        requires { Fits self.old.accepted.configuration picture.now }
+        requires fits { Fits self.old.accepted.configuration picture.now }
+        requires range { is_rice self.old.accepted.configuration.coder ≡ false }
         ensures same { self.new ≡ self.old }
         ensures ok { IfOk result (λ bytes.
             bytes.items ≡ frame_of self.old.accepted picture.now info) }

@@ -1,15 +1,17 @@
 -- Which bytes end a list, and what they begin.
-use Rattle.std.proofs.Common.{◌≡◌, refl, ℕ, zero, suc, ◌+◌, ◌-◌, ◌*◌, ◌/◌, ◌<◌, ◌≤◌, false, List, ◌++◌, length, slice_index, arith, ap, ◌∙◌, inl, inr}
+use Rattle.std.proofs.Common.{◌≡◌, refl, ℕ, zero, suc, ◌+◌, ◌-◌, ◌*◌, ◌/◌, ◌<◌, ◌≤◌, ◌^◌, min, Bool, true, false, List, [], ◌∷◌, ◌++◌, length, slice_index, arith, ap, sym, subst, ◌∙◌, inl, inr}
 use Rattle.std.proofs.lemmas.Bool.{cases_lt, lt-ltb, le-ltb}
-use Rattle.std.proofs.Math.Nat.{pow-succ'}
-use Rattle.ffv1_range.specs.Interval.{Interval, share, part, narrow}
-use Rattle.ffv1_range.specs.Codes.{value, raised, rounded_of, sentinel_of, AreBytes, Inside}
-use Rattle.ffv1_range.specs.Ending.{IsEnded}
+use Rattle.std.proofs.Math.Nat.{pow-succ', min-eq_left, min-eq_right}
+use Rattle.ffv1_range.specs.Interval.{Interval, Decision, share, part, narrow, start, interval_of}
+use Rattle.ffv1_range.specs.Reading.{Reading, At}
+use Rattle.ffv1_range.specs.Codes.{value, raised, rounded_of, sentinel_of, AreBytes, Codes, Inside}
+use Rattle.ffv1_range.specs.Ending.{IsEnded, bits_place}
 use Rattle.ffv1_range.specs.Renormalising.{IsNormalised}
 use Rattle.ffv1_range.proofs.Values.{value-append, value-digits, length-digits}
 use Rattle.ffv1_range.proofs.Endings.{take-digits}
 use Rattle.ffv1_range.proofs.EndingCodes.{IsFit, part-fit, renormalised-fit, rounded-inside, sentinel_state, value-past}
 use Rattle.ffv1_range.proofs.Renormalising.{narrow_normalised}
+use Rattle.ffv1_range.proofs.Nested.{narrowed-append}
 
 -- the interval after the last decision, where that renormalises and where it does not
 last_renormalised : (i : Interval) → i.width - share i.width 129 < 256 →
@@ -110,3 +112,66 @@ module _ (xs ys : List ℕ) (are : AreBytes (xs ++ ys)) (i : Interval) (is : IsF
     | inl less ↦ begins_renormalised less
     | inr more ↦ begins_plain more
   ]
+
+  -- behind a last decision that renormalises any byte may follow a 0
+  placed_renormalised : i.width - share i.width 129 < 256 → (bit : Bool) × Inside (xs ++ ys) (narrow i 129 bit) × (bits_place (narrow i 129 bit) ≡ length xs)
+  placed_renormalised less =
+      let last = last_renormalised i less in
+      let count : (narrow i 129 false).count ≡ suc i.count = ap (λ (j : Interval). j.count) last in
+      let long : length xs ≡ i.count = omega (arith, ended.whole, count) in
+      let front = value-append xs ys i.count (omega (arith, long)) in
+      let byte = are i.count in
+      let below = ended.codes.below in
+      let above = ended.codes.above in
+      let low = ap (λ (j : Interval). j.low) last in
+      let width = ap (λ (j : Interval). j.width) last in
+      let old : value xs (narrow i 129 false).count ≡ 256 * value xs i.count = number_at xs (narrow i 129 false).count ended.whole ∙ ap (λ n. 256 * value xs n) long in
+      let new : value (xs ++ ys) (narrow i 129 false).count ≡ 256 * value (xs ++ ys) i.count + slice_index (xs ++ ys) i.count = ap (value (xs ++ ys)) count in
+      (false, record { above = omega (arith, front, above, low, old, new); below = omega (arith, front, byte, below, low, width, old, new) }, omega (arith, count, long))
+
+  -- behind one that does not the byte that follows may make it a 1
+  placed_plain : 256 ≤ i.width - share i.width 129 → (bit : Bool) × Inside (xs ++ ys) (narrow i 129 bit) × (bits_place (narrow i 129 bit) ≡ length xs)
+  placed_plain more =
+      let last = last_plain i more in
+      let count : (narrow i 129 false).count ≡ i.count = ap (λ (j : Interval). j.count) last in
+      let one : i.count ≡ suc (length xs) = omega (arith, ended.whole, count) in
+      let all = begins_plain more in
+      let above = all.above in
+      let below = all.below in
+      elim (cases_lt (value (xs ++ ys) i.count) (i.low + (i.width - share i.width 129))) [
+        | inl less ↦ (false, subst (Inside (xs ++ ys)) (sym last) (record { above = above; below = less }), omega (arith, count, one))
+        | inr least ↦
+            let wide : 256 ≤ share i.width 129 = omega (arith, more) in
+            let whole : narrow i 129 true ≡ part i 129 true = rw (le-ltb (share i.width 129) 256 wide) refl in
+            let same : (narrow i 129 true).count ≡ i.count = ap (λ (j : Interval). j.count) whole in
+            let some : i.low + (i.width - share i.width 129) + share i.width 129 ≡ i.low + i.width = omega (arith, more) in
+            (true, subst (Inside (xs ++ ys)) (sym whole) (record { above = least; below = omega (arith, below, some) }), omega (arith, same, one))
+      ]
+
+  pub placed : (bit : Bool) × Inside (xs ++ ys) (narrow i 129 bit) × (bits_place (narrow i 129 bit) ≡ length xs)
+  placed = elim (cases_lt (i.width - share i.width 129) 256) [
+    | inl less ↦ placed_renormalised less
+    | inr more ↦ placed_plain more
+  ]
+
+-- the same behind a list of decisions
+pub placed_behind : (xs ys : List ℕ) (ds : List Decision) → AreBytes (xs ++ ys) → IsFit (interval_of ds) → IsEnded xs (interval_of ds) →
+    (bit : Bool) × Codes (xs ++ ys) (ds ++ (record { state = 129; bit = bit } ∷ []))
+    × (bits_place (interval_of (ds ++ (record { state = 129; bit = bit } ∷ []))) ≡ length xs)
+placed_behind xs ys ds are is ended =
+    let found = placed xs ys are (interval_of ds) is ended in
+    let joined : narrow (interval_of ds) 129 found.0 ≡ interval_of (ds ++ (record { state = 129; bit = found.0 } ∷ [])) = sym (narrowed-append start ds (record { state = 129; bit = found.0 } ∷ [])) in
+    (found.0, subst (Inside (xs ++ ys)) joined found.1, ap bits_place (sym joined) ∙ found.2)
+
+-- a decoder knows the place by its renormalisations
+pub place_known : (r : Reading) (i : Interval) → At r i → r.renormalisations < 2 ^ 64 - 1 → bits_place i ≡ r.renormalisations + 1
+place_known r i at few =
+    let counted = at.renormalisations in
+    elim (cases_lt i.count (2 ^ 64 + 1)) [
+      | inl less ↦
+          let whole : min i.count (2 ^ 64 + 1) ≡ i.count = min-eq_left (omega (arith, less)) in
+          omega (arith, counted, whole)
+      | inr more ↦
+          let whole : min i.count (2 ^ 64 + 1) ≡ 2 ^ 64 + 1 = min-eq_right more in
+          absurd (omega (arith, counted, whole, few))
+    ]

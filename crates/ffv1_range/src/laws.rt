@@ -7,7 +7,7 @@ ghost use Rattle.ffv1_range.specs.Interval.{Interval, Decision, part, narrow, na
 ghost use Rattle.ffv1_range.specs.Interval.{interval_of};
 ghost use Rattle.ffv1_range.specs.Codes.{value, Codes, AreBytes, IsState, AreStates, ExactlyOne};
 ghost use Rattle.ffv1_range.specs.Codes.{IsOnlyList, sentinel_of, full_of};
-ghost use Rattle.ffv1_range.specs.Ending.{IsEnded};
+ghost use Rattle.ffv1_range.specs.Ending.{IsEnded, bits_place};
 ghost use Rattle.ffv1_range.specs.Table.{Table, Holds, IsTable};
 ghost use Rattle.ffv1_range.specs.Symbols.{Step, exponent, sized_steps, decided, moved_by, shifted};
 ghost use Rattle.ffv1_range.specs.Symbols.{signed_steps, unsigned_steps, too_long, AreHeld};
@@ -264,6 +264,18 @@ pub fn ended_bytes_code_their_list()
         IsEnded bytes (interval_of ds) → Codes bytes ds }
     ensures begins { (xs ys : List ℕ) (ds : List Decision) → AreBytes (xs ++ ys) → AreStates ds →
         IsEnded xs (interval_of ds) → Codes (xs ++ ys) ds }
+{}
+
+/// Behind bytes that end a list any others may stand. They all code the list and one more decision
+/// by state 129, of which either bit is possible; and behind that decision the others begin at the
+/// byte that a coder read last. A decoder that stands there knows it by its renormalisations.
+pub fn bits_begin_behind_ended_bytes()
+    ensures behind { (xs ys : List ℕ) (ds : List Decision) → AreBytes (xs ++ ys) → AreStates ds →
+        IsEnded xs (interval_of ds) →
+        (bit : Bool) × Codes (xs ++ ys) (ds ++ (record { state = 129; bit = bit } ∷ []))
+        × (bits_place (interval_of (ds ++ (record { state = 129; bit = bit } ∷ []))) ≡ length xs) }
+    ensures known { (r : Reading) (i : Interval) → At r i → r.renormalisations < 2 ^ 64 - 1 →
+        bits_place i ≡ r.renormalisations + 1 }
 {}
 
 /// The bytes that end a list are as many as those of its sentinel ending. Their number is no less,

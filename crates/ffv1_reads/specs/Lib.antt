@@ -8,3 +8,4 @@ pub mod Known
 pub mod First
 pub mod Writes
 pub mod Offsets
+pub mod Behind

@@ -61,6 +61,9 @@ pub enum FileFault {
     /// The frame rate is none that whole nanoseconds a frame say.
     #[error("86 Rate")]
     Rate,
+    /// Another file stands behind the end of this one.
+    #[error("88 Another")]
+    Another,
 }
 
 impl From<AllocError> for FileFault {

@@ -1,6 +1,8 @@
 //! Laws of readings.
 
-ghost use Rattle.std.specs.Prelude.{◌≡◌, ◌++◌, ℕ, List, [], Option, Some, Ok, Err};
+ghost use Rattle.std.specs.Prelude.{◌≡◌, ◌++◌, ◌<◌, ℕ, List, [], Option, Some, Ok, Err, true};
+ghost use Rattle.std.specs.Prelude.{drop, false, length, take};
+ghost use Rattle.ffv1_reads.specs.Behind.{begins_file, behind_read};
 ghost use Rattle.ffv1_reads.specs.declared.fault.FileFault.TheVariants as fault;
 ghost use Rattle.std.specs.Io.KnownBytes.{IsAtEnd};
 ghost use Rattle.ffv1_reads.specs.Ends.{Ends, FaultsAtEnd, Stops};
@@ -57,4 +59,14 @@ pub fn refusal_says_where_the_fault_is<S>()
     ensures only { (element : S → Reading S) (from : S) (text : List ℕ) (f g : FileFault)
         (m n : ℕ) → FaultAt element from text f m → FaultAt element from text g n →
         (f ≡ g) × (m ≡ n) }
+{}
+
+/// What stands behind the end of a file is looked at so: if nothing is found, the input has ended;
+/// another file is refused after its four bytes; any other bytes are told.
+pub fn what_stands_behind_is_known()
+    ensures nothing { (text rest : List ℕ) → behind_read text ≡ Ok (false, rest) → text ≡ [] }
+    ensures another { (bytes more : List ℕ) → begins_file bytes ≡ true →
+        behind_read (bytes ++ more) ≡ Err (Met fault.Another more) }
+    ensures other { (text : List ℕ) → 0 < length text → begins_file (take 4 text) ≡ false →
+        behind_read text ≡ Ok (true, drop 4 text) }
 {}

@@ -16,6 +16,7 @@
 //! ```
 #![tactic(auto)]
 
+pub mod behind;
 pub mod bitmap;
 pub mod bytes;
 pub mod colour;
@@ -23,6 +24,7 @@ pub mod fault;
 pub mod head;
 pub mod laws;
 
+pub use behind::{begins_file, look_behind};
 pub use bitmap::is_ffv1;
 pub use bytes::{append, fill, pass, take, take_after};
 pub use colour::Colour;

@@ -205,11 +205,14 @@ refuses_run a b states after n most one many = record {
 }
 
 -- coder_type
+pub rice_coder : (kind : ℕ) (a : Source) → kind ≡ 0 → Gives (λ c. c) (coder_of kind) a a (Ok coder.Rice)
+rice_coder kind a none = rw none (gives_done (λ c. c) a coder.Rice)
+
 pub one_coder : (kind : ℕ) (a : Source) → kind ≡ 1 → Gives (λ c. c) (coder_of kind) a a (Ok coder.One)
 one_coder kind a one = rw one (gives_done (λ c. c) a coder.One)
 
-pub two_kind : (kind : ℕ) → 1 ≤ kind → kind ≤ 2 → (kind ≡ 1 → ⊥) → kind ≡ 2
-two_kind kind least most other = omega arith
+pub two_kind : (kind : ℕ) → kind ≤ 2 → (kind ≡ 0 → ⊥) → (kind ≡ 1 → ⊥) → kind ≡ 2
+two_kind kind most none other = omega arith
 
 pub two_coder : (kind : ℕ) (a b : Source) (deltas : List ℤ) (t : Table) → kind ≡ 2 → Gives (λ ds. ds) (deltas_onto 255 []) a b (Ok deltas) → IsTableOf deltas t → Gives (λ c. c) (coder_of kind) a b (Ok (coder.Two deltas))
 unfolding makes_table

@@ -4,14 +4,17 @@ use Rattle.std.specs.Int.{w32}
 use mir.Val.{SFits}
 use Rattle.std.proofs.Math.IntN.{nat_abs}
 use Rattle.std.proofs.lemmas.Int.{ints}
-use Rattle.std.proofs.lemmas.Bool.{le-leb, leb-true, cases_eq}
+use Rattle.std.proofs.lemmas.Bool.{le-leb, leb-true, eqb-true, cases_eq}
 use Rattle.std.proofs.lemmas.Bool.Decides.{nat_tests}
 use Rattle.ffv1_range.specs.Table.{Table}
 use Rattle.ffv1_range.specs.Deltas.{IsTableOf, HaveNoTable}
 use Rattle.ffv1_record.specs.Configuration.{Configuration, is_rct}
 use Rattle.ffv1_record.specs.Record.{depth_of}
 use Rattle.ffv1_record.specs.Accepted.{is_sized, is_depth, deepest, is_subsampled, is_divided}
-use Rattle.ffv1_record.specs.Accepted.{has_depth, IsFirstUpTo, IsFirstWhere}
+use Rattle.ffv1_record.specs.Accepted.{has_depth, IsFirstUpTo, IsFirstWhere, PassesAll, checks}
+use Rattle.ffv1_record.specs.Accepted.{type_of, least_coder, suits_depth, has_coder}
+use Rattle.ffv1_record.specs.declared.config.Coder.{Coder}
+use Rattle.ffv1_record.specs.declared.config.Coder.TheVariants as coder
 use Rattle.ffv1_record.specs.declared.fault.RecordFault.TheVariants as fault
 use Rattle.ffv1_record.specs.declared.config.Profile.{Profile}
 use Rattle.ffv1_record.specs.declared.config.Profile.TheVariants as profile
@@ -152,3 +155,31 @@ first_size p most c none = by (has_depth most c)
 
 pub first_depth : (p : Profile) (most : ℕ) (c : Configuration) → IsTrue (is_sized c) → IsFalse (has_depth most c) → IsFirstUpTo p most c fault.Depth
 first_depth p most c size none = subst (λ b. IsFirstWhere p b c fault.Depth) (sym none) (inr (size, refl))
+
+-- a profile has no coder below its least one, and Golomb-Rice coded samples have 8 bits
+pub kind_allowed : (p : Profile) (c : Configuration) → IsTrue (has_coder p c) → least_coder p ≤ type_of c.coder
+kind_allowed p c h = leb-true (least_coder p) (type_of c.coder) (both (nat_le (least_coder p) (type_of c.coder)) (suits_depth c.coder c.depth) h).0
+
+pub passed_coder : (p : Profile) (c : Configuration) → PassesAll p checks c → IsTrue (has_coder p c)
+passed_coder p c passes = passes.1.1.1.1.1.1.1.0
+
+pub rice_shallow : (p : Profile) (c : Configuration) → IsTrue (has_coder p c) → c.coder ≡ coder.Rice → c.depth ≡ 8
+rice_shallow p c h is =
+    let suits = (both (nat_le (least_coder p) (type_of c.coder)) (suits_depth c.coder c.depth) h).1 in
+    eqb-true c.depth 8 (subst (λ (z : Coder). IsTrue (suits_depth z c.depth)) is suits)
+
+pub never_strict : (c : Configuration) → IsTrue (has_coder profile.Strict c) → c.coder ≡ coder.Rice → ⊥
+never_strict c h is =
+    let least = kind_allowed profile.Strict c h in
+    let none : type_of c.coder ≡ 0 = ap type_of is in
+    omega (arith, least, none)
+
+-- a coder of `Strict` is one of `Wide`
+pub coder_wide : (c : Configuration) → IsTrue (has_coder profile.Strict c) → IsTrue (has_coder profile.Wide c)
+coder_wide c h =
+    let suits = (both (nat_le 1 (type_of c.coder)) (suits_depth c.coder c.depth) h).1 in
+    rw (le-leb 0 (type_of c.coder) (omega arith)) suits
+
+pub least_few : (p : Profile) → least_coder p ≤ 2
+least_few profile.Strict = omega arith
+least_few profile.Wide = omega arith

@@ -16,7 +16,7 @@ use Rattle.ffv1_record.specs.declared.config.Colour.TheVariants as colour
 use Rattle.ffv1_record.specs.declared.planes.Planes.{Planes}
 use Rattle.ffv1_record.specs.Configuration.{Configuration, is_rct}
 use Rattle.ffv1_record.specs.Sets.{AreSets}
-use Rattle.ffv1_record.specs.Accepted.{IsTableFor, IsAccepted, is_depth, has_depth}
+use Rattle.ffv1_record.specs.Accepted.{IsTableFor, IsAccepted, is_depth, has_depth, type_of}
 use Rattle.ffv1_record.specs.Record.{number_steps, signed_number_steps, truth_steps, deltas_steps, coder_steps, runs_steps, set_steps, sets_steps, uncoded_steps, opening_steps, planes_steps, tables_steps, record_steps, depth_of}
 use Rattle.ffv1_record.specs.Writable.{AreDeltas, IsWritable}
 use Rattle.ffv1_record.specs.Reader.{Spot, behind, ◌>>=◌, done, require, next_table, number, signed_number, truth, number_within, makes_table}
@@ -40,30 +40,33 @@ module _ (b : List ℕ) (are : AreBytes b) where
       (append_assoc acc (d ∷ []) ds) (spot_append s.past (signed_number_steps d) (deltas_steps ds) s.fresh)
 
   -- the kind of a coder, and what follows it
-  pub forced_kind : (s : Spot) (c : Coder) (t : Table) → IsTableFor c t → IsWritable c → Forces (number_within 0 1 2 fault.Coder >>= coder_of) b s c (behind s (coder_steps c))
-  forced_kind s coder.One t is writable =
+  pub forced_kind : (least : ℕ) (s : Spot) (c : Coder) (t : Table) → IsTableFor c t → IsWritable c → least ≤ type_of c → Forces (number_within 0 least 2 fault.Coder >>= coder_of) b s c (behind s (coder_steps c))
+  forced_kind least s coder.Rice t is writable allowed =
+      let u = behind s (number_steps 0 0) in
+      forced_then b are (number_within 0 least 2 fault.Coder) coder_of s u u 0 coder.Rice [] (sym (append-nil u.past)) (forced_within b are 0 least 2 fault.Coder s 0 (omega arith) allowed (omega arith)) (forced_done b u coder.Rice)
+  forced_kind least s coder.One t is writable allowed =
       let u = behind s (number_steps 0 1) in
-      forced_then b are (number_within 0 1 2 fault.Coder) coder_of s u u 1 coder.One [] (sym (append-nil u.past)) (forced_within b are 0 1 2 fault.Coder s 1 (omega arith) (omega arith) (omega arith)) (forced_done b u coder.One)
-  forced_kind s (coder.Two ds) t is writable =
+      forced_then b are (number_within 0 least 2 fault.Coder) coder_of s u u 1 coder.One [] (sym (append-nil u.past)) (forced_within b are 0 least 2 fault.Coder s 1 (omega arith) allowed (omega arith)) (forced_done b u coder.One)
+  forced_kind least s (coder.Two ds) t is writable allowed =
       let u = behind s (number_steps 0 2) in
       let v = behind u (deltas_steps ds) in
       let read = rw writable.0 at (forced_deltas ds [] u writable.1) in
-      forced_as (number_within 0 1 2 fault.Coder >>= coder_of) b s v (behind s (number_steps 0 2 ++ deltas_steps ds)) (coder.Two ds) (coder.Two ds)
-      (forced_then b are (number_within 0 1 2 fault.Coder) coder_of s u v 2 (coder.Two ds) (deltas_steps ds) refl (forced_within b are 0 1 2 fault.Coder s 2 (omega arith) (omega arith) (omega arith))
+      forced_as (number_within 0 least 2 fault.Coder >>= coder_of) b s v (behind s (number_steps 0 2 ++ deltas_steps ds)) (coder.Two ds) (coder.Two ds)
+      (forced_then b are (number_within 0 least 2 fault.Coder) coder_of s u v 2 (coder.Two ds) (deltas_steps ds) refl (forced_within b are 0 least 2 fault.Coder s 2 (omega arith) allowed (omega arith))
       (forced_then b are (deltas_onto 255 []) (λ ds. makes_table ds >>= λ _. done (coder.Two ds)) u v v ds (coder.Two ds) [] (sym (append-nil v.past)) read
       (forced_then b are (makes_table ds) (λ _. done (coder.Two ds)) v v v true (coder.Two ds) [] (sym (append-nil v.past)) (forced_makes b v ds t is) (forced_done b v (coder.Two ds)))))
       refl (spot_append s.past (number_steps 0 2) (deltas_steps ds) s.fresh)
 
-  pub forced_opening : (s : Spot) (c : Coder) (t : Table) → IsTableFor c t → IsWritable c → Forces opening b s c (behind s (number_steps 0 3 ++ number_steps 0 4 ++ coder_steps c))
-  forced_opening s c t is writable =
+  pub forced_opening : (least : ℕ) (s : Spot) (c : Coder) (t : Table) → IsTableFor c t → IsWritable c → least ≤ type_of c → Forces (opening least) b s c (behind s (number_steps 0 3 ++ number_steps 0 4 ++ coder_steps c))
+  forced_opening least s c t is writable allowed =
       let u = behind s (number_steps 0 3) in
       let v = behind u (number_steps 0 4) in
       let w = behind v (coder_steps c) in
-      forced_as opening b s w (behind s (number_steps 0 3 ++ number_steps 0 4 ++ coder_steps c)) c c
-      (forced_then b are (number_within 0 3 3 fault.Version) (λ _. number_within 0 4 4 fault.MicroVersion >>= λ _. number_within 0 1 2 fault.Coder >>= coder_of) s u w 3 c (number_steps 0 4 ++ coder_steps c)
+      forced_as (opening least) b s w (behind s (number_steps 0 3 ++ number_steps 0 4 ++ coder_steps c)) c c
+      (forced_then b are (number_within 0 3 3 fault.Version) (λ _. number_within 0 4 4 fault.MicroVersion >>= λ _. number_within 0 least 2 fault.Coder >>= coder_of) s u w 3 c (number_steps 0 4 ++ coder_steps c)
       (append_assoc u.past (number_steps 0 4) (coder_steps c)) (forced_within b are 0 3 3 fault.Version s 3 (omega arith) (omega arith) (omega arith))
-      (forced_then b are (number_within 0 4 4 fault.MicroVersion) (λ _. number_within 0 1 2 fault.Coder >>= coder_of) u v w 4 c (coder_steps c) refl (forced_within b are 0 4 4 fault.MicroVersion u 4 (omega arith) (omega arith) (omega arith))
-      (forced_kind v c t is writable)))
+      (forced_then b are (number_within 0 4 4 fault.MicroVersion) (λ _. number_within 0 least 2 fault.Coder >>= coder_of) u v w 4 c (coder_steps c) refl (forced_within b are 0 4 4 fault.MicroVersion u 4 (omega arith) (omega arith) (omega arith))
+      (forced_kind least v c t is writable allowed)))
       refl (ap (λ p. spot_of p s.fresh) (append_assoc (s.past ++ number_steps 0 3) (number_steps 0 4) (coder_steps c) ∙ append_assoc s.past (number_steps 0 3) (number_steps 0 4 ++ coder_steps c) ∙ ap (λ q. s.past ++ q) (sym (append_assoc (number_steps 0 3) (number_steps 0 4) (coder_steps c)))))
 
   pub forced_depth : (most : ℕ) (s : Spot) (bits : ℕ) → IsTrue (is_depth most (depth_of bits)) → Forces (depth most) b s (depth_of bits) (behind s (number_steps 0 bits))
@@ -323,9 +326,9 @@ counted n h =
     (leb-true 1 n parts.0, leb-true n 8 parts.1)
 
 module _ (b : List ℕ) (are : AreBytes b) where
-  pub forced_parameters : (most : ℕ) (bits : ℕ) (c : Configuration) (t : Table) → depth_of bits ≡ c.depth → c.depth ≤ most → IsAccepted c t → IsWritable c.coder → Forces (parameters most c.width c.height) b beginning c (ending_of bits c)
+  pub forced_parameters : (least most : ℕ) (bits : ℕ) (c : Configuration) (t : Table) → depth_of bits ≡ c.depth → c.depth ≤ most → IsAccepted c t → IsWritable c.coder → least ≤ type_of c.coder → Forces (parameters least most c.width c.height) b beginning c (ending_of bits c)
   unfolding ending_of
-  forced_parameters most bits c t known low is writable =
+  forced_parameters least most bits c t known low is writable allowed =
       let passes = is.passes in
       let factors = subsampled c passes.1.0 in
       let grid = divided c passes.1.1.1.1.1.0 in
@@ -344,7 +347,7 @@ module _ (b : List ℕ) (are : AreBytes b) where
       let five : Spot = record { past = four.past ++ x; fresh = 32 + 160 * length c.sets } in
       let six = behind five e in
       let seven = behind six i in
-      forced_then b are opening _ beginning one seven c.coder c (q ++ l ++ r ++ x ++ e ++ i) (whole_tail o q l r x e i) (forced_opening b are beginning c.coder t is.table writable)
+      forced_then b are (opening least) _ beginning one seven c.coder c (q ++ l ++ r ++ x ++ e ++ i) (whole_tail o q l r x e i) (forced_opening b are least beginning c.coder t is.table writable allowed)
       (forced_then b are (planes most) _ one two seven (planes_in c) c (l ++ r ++ x ++ e ++ i) (five_tail two.past l r x e i) (forced_planes b are most one bits c known (depth_up_to 16 most c.depth is.depth low) factors.log2_h factors.log2_v passes.1.1.0)
       (forced_then b are count_of _ two three seven c.columns c (r ++ x ++ e ++ i) (four_tail three.past r x e i) (forced_count b are two c.columns grid.some_columns grid.columns)
       (forced_then b are count_of _ three four seven c.rows c (x ++ e ++ i) (three_tail four.past x e i) (forced_count b are three c.rows grid.some_rows grid.rows)

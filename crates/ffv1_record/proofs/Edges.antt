@@ -6,7 +6,7 @@ use Rattle.std.proofs.lemmas.Bool.{cases_eq, eq-eqb, eqb-true}
 use Rattle.ffv1_plane.specs.Quantisation.{Set}
 use Rattle.ffv1_record.specs.Configuration.{Configuration, at_depth, with_sets}
 use Rattle.ffv1_record.specs.declared.config.Profile.{Profile}
-use Rattle.ffv1_record.proofs.Checks.{divided, fits_grid}
+use Rattle.ffv1_record.proofs.Checks.{divided, fits_grid, coder_wide}
 use Rattle.ffv1_record.specs.declared.config.Profile.TheVariants as profile
 use Rattle.ffv1_record.specs.Accepted.{edge, reduced, AreMultiples, AreReached, are_multiples, PassesAll, PassesEdges, checks}
 
@@ -200,7 +200,7 @@ wide_passes c p =
                     multiples_reach c.width c.columns c.log2_h grid.some_columns fits.0 p.1.1.1.1.1.1.0.0,
                     multiples_reach c.height c.rows c.log2_v grid.some_rows fits.1 p.1.1.1.1.1.1.0.1,
                   ),
-                  tt,
+                  (coder_wide c p.1.1.1.1.1.1.1.0, tt),
                 ),
               ),
             ),

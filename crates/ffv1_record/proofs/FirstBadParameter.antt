@@ -108,9 +108,9 @@ module _ (b : List ℕ) (are : AreBytes b) where
   unfolding makes_table
   none_made ds s none = inr (none, refl)
 
-  bad_coder : (s : Spot) (steps : List Step) (f : RecordFault) → IsBadNumber 0 (λ n. (1 ≤ n) × (n ≤ 2)) fault.Coder steps f ⊎ AreBadDeltas steps f → IsCoded b (s.past ++ steps) → (number_within 0 1 2 fault.Coder >>= coder_of) b s (Err f)
-  bad_coder s steps f bad coded = elim bad [
-    | inl e ↦ then_err (number_within 0 1 2 fault.Coder) coder_of b s f (bad_within 0 1 2 fault.Coder s steps f e coded)
+  bad_coder : (least : ℕ) → least ≤ 2 → (s : Spot) (steps : List Step) (f : RecordFault) → IsBadNumber 0 (λ n. (least ≤ n) × (n ≤ 2)) fault.Coder steps f ⊎ AreBadDeltas steps f → IsCoded b (s.past ++ steps) → (number_within 0 least 2 fault.Coder >>= coder_of) b s (Err f)
+  bad_coder least few s steps f bad coded = elim bad [
+    | inl e ↦ then_err (number_within 0 least 2 fault.Coder) coder_of b s f (bad_within 0 least 2 fault.Coder s steps f e coded)
     | inr e ↦
         let ds = e.0 in
         let t = behind s (number_steps 0 2) in
@@ -118,15 +118,15 @@ module _ (b : List ℕ) (are : AreBytes b) where
           | inl d ↦
               let there : IsCoded b (t.past ++ (deltas_steps ds ++ shifted 0 too_long)) = subst (IsCoded b) (ap (λ z. s.past ++ z) d.1 ∙ sym (append_assoc s.past (number_steps 0 2) (deltas_steps ds ++ shifted 0 too_long))) coded in
               let here = coded_front b are t.past (deltas_steps ds ++ shifted 0 too_long) there in
-              subst (λ g. (number_within 0 1 2 fault.Coder >>= coder_of) b s (Err g)) (sym d.2)
-              (then_ok (number_within 0 1 2 fault.Coder) coder_of b s 2 t (Err fault.SymbolTooLong) (good_within 0 1 2 fault.Coder s 2 (omega arith) (omega arith) (omega arith) here)
+              subst (λ g. (number_within 0 least 2 fault.Coder >>= coder_of) b s (Err g)) (sym d.2)
+              (then_ok (number_within 0 least 2 fault.Coder) coder_of b s 2 t (Err fault.SymbolTooLong) (good_within 0 least 2 fault.Coder s 2 (omega arith) few (omega arith) here)
               (then_err (deltas_onto 255 []) _ b t fault.SymbolTooLong (long_deltas ds 255 [] t e.1 d.0 there)))
           | inr d ↦
               let there : IsCoded b (t.past ++ deltas_steps ds) = subst (IsCoded b) (ap (λ z. s.past ++ z) d.2 ∙ sym (append_assoc s.past (number_steps 0 2) (deltas_steps ds))) coded in
               let here = coded_front b are t.past (deltas_steps ds) there in
               let read = rw d.0 at (forced_deltas b are ds [] t e.1) in
-              subst (λ g. (number_within 0 1 2 fault.Coder >>= coder_of) b s (Err g)) (sym d.3)
-              (then_ok (number_within 0 1 2 fault.Coder) coder_of b s 2 t (Err fault.StateTable) (good_within 0 1 2 fault.Coder s 2 (omega arith) (omega arith) (omega arith) here)
+              subst (λ g. (number_within 0 least 2 fault.Coder >>= coder_of) b s (Err g)) (sym d.3)
+              (then_ok (number_within 0 least 2 fault.Coder) coder_of b s 2 t (Err fault.StateTable) (good_within 0 least 2 fault.Coder s 2 (omega arith) few (omega arith) here)
               (then_ok (deltas_onto 255 []) _ b t ds (behind t (deltas_steps ds)) (Err fault.StateTable) (read.reads there)
               (then_err (makes_table ds) _ b (behind t (deltas_steps ds)) fault.StateTable (none_made ds (behind t (deltas_steps ds)) d.1))))
         ]
@@ -278,17 +278,17 @@ module _ (b : List ℕ) (are : AreBytes b) where
     in_number p ps s n is fails good h = step p ps (number 0) s n (behind s (number_steps 0 n)) (ap (λ z. s.past ++ z) (sym is)) (λ steps e coded. long_number 0 s steps f (fails steps e) coded)
         (λ e coded. some_number 0 s n (good e) (subst (λ z. IsCoded b (s.past ++ z)) is coded)) h
 
-    in_opening : (ps : List Parameter) (s : Spot) → FirstBad (version ∷ micro_version ∷ coder_type ∷ ps) b s.past bits c f →
-        Goes opening s c.coder (behind (behind (behind s (number_steps 0 3)) (number_steps 0 4)) (coder_steps c.coder)) ps
-    in_opening ps s h =
+    in_opening : (least : ℕ) → least ≤ 2 → (ps : List Parameter) (s : Spot) → FirstBad (version ∷ micro_version ∷ coder_type least ∷ ps) b s.past bits c f →
+        Goes (opening least) s c.coder (behind (behind (behind s (number_steps 0 3)) (number_steps 0 4)) (coder_steps c.coder)) ps
+    in_opening least few ps s h =
         let one = behind s (number_steps 0 3) in
         let two = behind one (number_steps 0 4) in
         let three = behind two (coder_steps c.coder) in
-        join (number_within 0 3 3 fault.Version) _ s 3 one c.coder three (micro_version ∷ coder_type ∷ ps) ps
-        (step version (micro_version ∷ coder_type ∷ ps) (number_within 0 3 3 fault.Version) s 3 one refl (λ steps e coded. bad_within 0 3 3 fault.Version s steps f e coded) (λ e coded. good_within 0 3 3 fault.Version s 3 (omega arith) (omega arith) (omega arith) coded) h)
-        (λ h. join (number_within 0 4 4 fault.MicroVersion) _ one 4 two c.coder three (coder_type ∷ ps) ps
-        (step micro_version (coder_type ∷ ps) (number_within 0 4 4 fault.MicroVersion) one 4 two refl (λ steps e coded. bad_within 0 4 4 fault.MicroVersion one steps f e coded) (λ e coded. good_within 0 4 4 fault.MicroVersion one 4 (omega arith) (omega arith) (omega arith) coded) h)
-        (λ h. step coder_type ps (number_within 0 1 2 fault.Coder >>= coder_of) two c.coder three refl (λ steps e coded. bad_coder two steps f e coded) (λ e coded. (forced_kind b are two c.coder e.0.0 e.0.1 e.1).reads coded) h))
+        join (number_within 0 3 3 fault.Version) _ s 3 one c.coder three (micro_version ∷ coder_type least ∷ ps) ps
+        (step version (micro_version ∷ coder_type least ∷ ps) (number_within 0 3 3 fault.Version) s 3 one refl (λ steps e coded. bad_within 0 3 3 fault.Version s steps f e coded) (λ e coded. good_within 0 3 3 fault.Version s 3 (omega arith) (omega arith) (omega arith) coded) h)
+        (λ h. join (number_within 0 4 4 fault.MicroVersion) _ one 4 two c.coder three (coder_type least ∷ ps) ps
+        (step micro_version (coder_type least ∷ ps) (number_within 0 4 4 fault.MicroVersion) one 4 two refl (λ steps e coded. bad_within 0 4 4 fault.MicroVersion one steps f e coded) (λ e coded. good_within 0 4 4 fault.MicroVersion one 4 (omega arith) (omega arith) (omega arith) coded) h)
+        (λ h. step (coder_type least) ps (number_within 0 least 2 fault.Coder >>= coder_of) two c.coder three refl (λ steps e coded. bad_coder least few two steps f e coded) (λ e coded. (forced_kind b are least two c.coder e.0.0 e.0.1 e.1 e.2).reads coded) h))
 
     -- the planes that c tells
     planes_read : Planes
@@ -380,9 +380,9 @@ module _ (b : List ℕ) (are : AreBytes b) where
         (λ e coded. (forced_flag b are wrong s x).reads (subst (λ z. IsCoded b (s.past ++ z)) is coded)) h
 
     -- all of them
-    pub ordered : (most width height : ℕ) → FirstBad (in_order most) b [] bits c f → parameters most width height b beginning (Err f)
+    pub ordered : (least : ℕ) → least ≤ 2 → (most width height : ℕ) → FirstBad (in_order least most) b [] bits c f → parameters least most width height b beginning (Err f)
     unfolding Goes planes_end sets_end
-    ordered most width height h = elim whole [ inl e ↦ e | inr e ↦ absurd e.1 ]
+    ordered least few most width height h = elim whole [ inl e ↦ e | inr e ↦ absurd e.1 ]
       where
         one : Spot
         one = behind (behind (behind beginning (number_steps 0 3)) (number_steps 0 4)) (coder_steps c.coder)
@@ -423,9 +423,9 @@ module _ (b : List ℕ) (are : AreBytes b) where
           intra = c.intra;
         }
 
-        whole : Goes (parameters most width height) beginning read end []
+        whole : Goes (parameters least most width height) beginning read end []
         whole =
-            join opening _ beginning c.coder one read end (colorspace_type ∷ bits_per_raw_sample most ∷ chroma_planes ∷ log2_h_chroma_subsample ∷ log2_v_chroma_subsample ∷ extra_plane ∷ num_h_slices ∷ num_v_slices ∷ quant_table_set_count ∷ quant_table_sets ∷ states_coded ∷ ec ∷ intra ∷ []) [] (in_opening (colorspace_type ∷ bits_per_raw_sample most ∷ chroma_planes ∷ log2_h_chroma_subsample ∷ log2_v_chroma_subsample ∷ extra_plane ∷ num_h_slices ∷ num_v_slices ∷ quant_table_set_count ∷ quant_table_sets ∷ states_coded ∷ ec ∷ intra ∷ []) beginning h) (λ h.
+            join (opening least) _ beginning c.coder one read end (colorspace_type ∷ bits_per_raw_sample most ∷ chroma_planes ∷ log2_h_chroma_subsample ∷ log2_v_chroma_subsample ∷ extra_plane ∷ num_h_slices ∷ num_v_slices ∷ quant_table_set_count ∷ quant_table_sets ∷ states_coded ∷ ec ∷ intra ∷ []) [] (in_opening least few (colorspace_type ∷ bits_per_raw_sample most ∷ chroma_planes ∷ log2_h_chroma_subsample ∷ log2_v_chroma_subsample ∷ extra_plane ∷ num_h_slices ∷ num_v_slices ∷ quant_table_set_count ∷ quant_table_sets ∷ states_coded ∷ ec ∷ intra ∷ []) beginning h) (λ h.
             join (planes most) _ one planes_read two read end (num_h_slices ∷ num_v_slices ∷ quant_table_set_count ∷ quant_table_sets ∷ states_coded ∷ ec ∷ intra ∷ []) [] (in_planes most (num_h_slices ∷ num_v_slices ∷ quant_table_set_count ∷ quant_table_sets ∷ states_coded ∷ ec ∷ intra ∷ []) one h) (λ h.
             join count_of _ two (c.columns - 1 + 1) three read end (num_v_slices ∷ quant_table_set_count ∷ quant_table_sets ∷ states_coded ∷ ec ∷ intra ∷ []) [] (in_count num_h_slices (num_v_slices ∷ quant_table_set_count ∷ quant_table_sets ∷ states_coded ∷ ec ∷ intra ∷ []) two (c.columns - 1) refl (λ steps e. e) (λ e. e) h) (λ h.
             join count_of _ three (c.rows - 1 + 1) four read end (quant_table_set_count ∷ quant_table_sets ∷ states_coded ∷ ec ∷ intra ∷ []) [] (in_count num_v_slices (quant_table_set_count ∷ quant_table_sets ∷ states_coded ∷ ec ∷ intra ∷ []) three (c.rows - 1) refl (λ steps e. e) (λ e. e) h) (λ h.

@@ -5,7 +5,7 @@ use Rattle.ffv1_record.specs.declared.fault.RecordFault.{RecordFault}
 use Rattle.ffv1_record.specs.declared.config.Profile.{Profile}
 use Rattle.ffv1_record.specs.declared.judge.Outline.{Outline}
 use Rattle.ffv1_record.specs.Configuration.{Configuration, configuration_of, at_depth, with_sets}
-use Rattle.ffv1_record.specs.Accepted.{IsFirstIn, IsFirstUpTo, PassesAll, checks}
+use Rattle.ffv1_record.specs.Accepted.{IsFirstIn, IsFirstUpTo, PassesAll, checks, least_coder}
 use Rattle.ffv1_record.specs.Parity.{remainder_of}
 use Rattle.ffv1_record.specs.Record.{body_of}
 use Rattle.ffv1_record.specs.Reader.{Spot}
@@ -25,15 +25,15 @@ short low high = omega arith
 
 -- a record of 5 bytes or more, of remainder 0, of which all parameters were judged
 module _ {A : Type 0} (p : Profile) (most : ℕ) (bytes : List ℕ) (width height : ℕ) (a b : Source) (long : 5 ≤ length bytes) (whole : remainder_of bytes ≡ 0) (begun : Stands a (body_of bytes) beginning) where
-  pub not_judged : (f : RecordFault) → Judges {Y = Outline A} Outlines (parameters most width height) a b (Err f) → IsRefused p most bytes width height f
+  pub not_judged : (f : RecordFault) → Judges {Y = Outline A} Outlines (parameters (least_coder p) most width height) a b (Err f) → IsRefused p most bytes width height f
   not_judged f judged = inr (inr (long, whole, inr (inl (judged.judges (body_of bytes) beginning begun))))
 
-  module _ (o : Outline A) (judged : Judges Outlines (parameters most width height) a b (Ok o)) where
+  module _ (o : Outline A) (judged : Judges Outlines (parameters (least_coder p) most width height) a b (Ok o)) where
     pub check_failed : (f : RecordFault) → ((ss : List (List (List ℕ))) → length ss ≡ o.count → IsFirstUpTo p most (with_sets (at_depth (configuration_of o.config) o.depth) ss) f) → IsRefused p most bytes width height f
     check_failed f first =
         let read = judged.judges (body_of bytes) beginning begun in
         let here = subst (λ (c : Configuration). IsFirstUpTo p most c f) (sym read.4.rest) (first read.0.sets read.4.count) in
-        let deep = (parameters_ok most width height (body_of bytes) beginning read.0 read.1 refl read.2).deep in
+        let deep = (parameters_ok (least_coder p) most width height (body_of bytes) beginning read.0 read.1 refl read.2).deep in
         inr (inr (long, whole, inr (inr (read.0, read.1, read.2, first_of p most read.0 f deep here))))
 
     pub nothing_refuses : AreBytes (body_of bytes) → value (body_of bytes) 2 < 65280 → ((ss : List (List (List ℕ))) → length ss ≡ o.count → PassesAll p checks (with_sets (at_depth (configuration_of o.config) o.depth) ss)) →
@@ -41,7 +41,7 @@ module _ {A : Type 0} (p : Profile) (most : ℕ) (bytes : List ℕ) (width heigh
     nothing_refuses are low passes f refused =
         let read = judged.judges (body_of bytes) beginning begun in
         let all = subst (λ (c : Configuration). PassesAll p checks c) (sym read.4.rest) (passes read.0.sets read.4.count) in
-        let one = decides_parameters (body_of bytes) are most width height in
+        let one = decides_parameters (body_of bytes) are (least_coder p) most width height in
         elim refused [
           | inl e ↦ short e.0 long
           | inr e ↦ elim e [

@@ -10,12 +10,13 @@ use Rattle.ffv1_record.specs.declared.config.Coder.{Coder}
 use Rattle.ffv1_record.specs.declared.config.Coder.TheVariants as coder
 use Rattle.ffv1_record.specs.Configuration.{Configuration}
 use Rattle.ffv1_record.specs.declared.config.Profile.{Profile}
-use Rattle.ffv1_record.specs.Accepted.{IsFirstIn, PassesAll, IsAccepted, is_depth, checks}
+use Rattle.ffv1_record.specs.Accepted.{IsFirstIn, PassesAll, IsAccepted, is_depth, checks, least_coder, type_of}
 use Rattle.ffv1_record.specs.Record.{IsCoded, IsRecord, body_of, depth_of, number_steps}
 use Rattle.ffv1_record.specs.Reader.{Reader, Spot, ◌>>=◌, done, require, next_table, number, signed_number, truth, number_within, makes_table}
 use Rattle.ffv1_record.specs.Reading.{deltas_onto, coder_of, opening, depth, planes, count_of, runs_onto, table, set, sets_onto, uncoded, tables, flag, before_sets, parameters, beginning, IsMet, IsRefused}
 use Rattle.ffv1_record.proofs.ReadIsCoded.{ok_same, not_both}
 use Rattle.ffv1_record.proofs.CodedIsRead.{coded_front, forced_number, forced_signed, forced_truth}
+use Rattle.ffv1_record.proofs.Checks.{kind_allowed, passed_coder}
 use Rattle.ffv1_record.proofs.RecordIsRead.{none_stands, good_start, read_so}
 use Rattle.ffv1_record.proofs.CodedRecordIsRead.{ending_of}
 
@@ -106,14 +107,14 @@ module _ (b : List ℕ) (are : AreBytes b) where
 
   decides_coder : (kind : ℕ) → Decides b (coder_of kind)
   decides_coder (suc zero) = decides_done b coder.One
-  decides_coder zero = decides_then b (deltas_onto 255 []) _ (decides_deltas 255 []) (λ ds. decides_then b (makes_table ds) _ (decides_makes b ds) (λ _. decides_done b (coder.Two ds)))
+  decides_coder zero = decides_done b coder.Rice
   decides_coder (suc (suc kind)) = decides_then b (deltas_onto 255 []) _ (decides_deltas 255 []) (λ ds. decides_then b (makes_table ds) _ (decides_makes b ds) (λ _. decides_done b (coder.Two ds)))
 
-  decides_opening : Decides b opening
-  decides_opening =
+  decides_opening : (least : ℕ) → Decides b (opening least)
+  decides_opening least =
       decides_then b (number_within 0 3 3 fault.Version) _ (decides_within 0 3 3 fault.Version) (λ _.
       decides_then b (number_within 0 4 4 fault.MicroVersion) _ (decides_within 0 4 4 fault.MicroVersion) (λ _.
-      decides_then b (number_within 0 1 2 fault.Coder) coder_of (decides_within 0 1 2 fault.Coder) decides_coder))
+      decides_then b (number_within 0 least 2 fault.Coder) coder_of (decides_within 0 least 2 fault.Coder) decides_coder))
 
   decides_depth : (most : ℕ) → Decides b (depth most)
   decides_depth most = decides_then b (number 0) _ (decides_number 0) (λ n. decides_then b (require (is_depth most (depth_of n)) fault.Depth) _ (decides_require b (is_depth most (depth_of n)) fault.Depth) (λ _. decides_done b (depth_of n)))
@@ -160,15 +161,15 @@ module _ (b : List ℕ) (are : AreBytes b) where
   decides_count : Decides b count_of
   decides_count = decides_then b (number 0) _ (decides_number 0) (λ n. decides_done b (n + 1))
 
-  pub decides_before_sets : (most : ℕ) → Decides b (before_sets most)
-  decides_before_sets most = decides_then b opening _ decides_opening (λ c. decides_then b (planes most) _ (decides_planes most) (λ p. decides_then b count_of _ decides_count (λ columns. decides_then b count_of _ decides_count (λ rows. decides_within 0 1 8 fault.Sets))))
+  pub decides_before_sets : (least most : ℕ) → Decides b (before_sets least most)
+  decides_before_sets least most = decides_then b (opening least) _ (decides_opening least) (λ c. decides_then b (planes most) _ (decides_planes most) (λ p. decides_then b count_of _ decides_count (λ columns. decides_then b count_of _ decides_count (λ rows. decides_within 0 1 8 fault.Sets))))
 
   decides_flag : (f : RecordFault) → Decides b (flag f)
   decides_flag f = decides_then b (number_within 0 0 1 f) _ (decides_within 0 0 1 f) (λ n. decides_done b (n == 1))
 
-  pub decides_parameters : (most width height : ℕ) → Decides b (parameters most width height)
-  decides_parameters most width height =
-      decides_then b opening _ decides_opening (λ c. decides_then b (planes most) _ (decides_planes most) (λ p. decides_then b count_of _ decides_count (λ columns. decides_then b count_of _ decides_count (λ rows.
+  pub decides_parameters : (least most width height : ℕ) → Decides b (parameters least most width height)
+  decides_parameters least most width height =
+      decides_then b (opening least) _ (decides_opening least) (λ c. decides_then b (planes most) _ (decides_planes most) (λ p. decides_then b count_of _ decides_count (λ columns. decides_then b count_of _ decides_count (λ rows.
       decides_then b tables _ decides_tables (λ ss. decides_then b (flag fault.Ec) _ (decides_flag fault.Ec) (λ ec. decides_then b (flag fault.Intra) _ (decides_flag fault.Intra) (λ intra. decides_done b _)))))))
 
   -- a reading begins by a good start
@@ -190,16 +191,16 @@ module _ (b : List ℕ) (are : AreBytes b) where
     | inr e ↦ good_number s (Err e.0) past e.1
   ]
 
-  good_opening : (s : Spot) (out : Result (Coder × Spot) RecordFault) → s.past ≡ [] → opening b s out → value b 2 < 65280
-  good_opening s out past h = elim h.either [
+  good_opening : (least : ℕ) (s : Spot) (out : Result (Coder × Spot) RecordFault) → s.past ≡ [] → opening least b s out → value b 2 < 65280
+  good_opening least s out past h = elim h.either [
     | inl e ↦ good_within s (Ok (e.0, e.1)) past e.2
     | inr e ↦ good_within s (Err e.0) past e.1
   ]
 
-  pub good_parameters : (most width height : ℕ) (out : Result (Configuration × Spot) RecordFault) → parameters most width height b beginning out → value b 2 < 65280
-  good_parameters most width height out h = elim h.either [
-    | inl e ↦ good_opening beginning (Ok (e.0, e.1)) refl e.2
-    | inr e ↦ good_opening beginning (Err e.0) refl e.1
+  pub good_parameters : (least most width height : ℕ) (out : Result (Configuration × Spot) RecordFault) → parameters least most width height b beginning out → value b 2 < 65280
+  good_parameters least most width height out h = elim h.either [
+    | inl e ↦ good_opening least beginning (Ok (e.0, e.1)) refl e.2
+    | inr e ↦ good_opening least beginning (Err e.0) refl e.1
   ]
 
 -- of the faults in an order one is the first
@@ -214,8 +215,8 @@ module _ (k : Profile) (most : ℕ) (bytes : List ℕ) (are : AreBytes (body_of 
   one_met : (f g : RecordFault) → IsMet k most bytes width height f → IsMet k most bytes width height g → f ≡ g
   one_met f g p q =
       let b = body_of bytes in
-      let read = decides_parameters b are most width height in
-      let good = good_parameters b are most width height in
+      let read = decides_parameters b are (least_coder k) most width height in
+      let good = good_parameters b are (least_coder k) most width height in
       elim p [
         | inl e ↦ elim q [
           | inl d ↦ e.1 ∙ sym d.1
@@ -275,16 +276,19 @@ no_refusal k most bytes are c t f is passes below stored refused = elim refused 
   | inr e ↦ elim e [
     | inl y ↦ y.1 stored.whole
     | inr y ↦ elim y.2 [
-      | inl low ↦ good_start bytes are c t is stored most below low.0
+      | inl low ↦ good_start bytes are c t is stored most below (least_coder k) allowed low.0
       | inr met ↦ elim met [
-        | inl x ↦ not_both (c, ending_of stored.bits c) f (sym (read_so bytes are c t is stored most below (Err f) x))
+        | inl x ↦ not_both (c, ending_of stored.bits c) f (sym (read_so bytes are c t is stored most below (least_coder k) allowed (Err f) x))
         | inr x ↦
-            let same = ok_same (x.0, x.1) (c, ending_of stored.bits c) (read_so bytes are c t is stored most below (Ok (x.0, x.1)) x.2) in
+            let same = ok_same (x.0, x.1) (c, ending_of stored.bits c) (read_so bytes are c t is stored most below (least_coder k) allowed (Ok (x.0, x.1)) x.2) in
             none_stands k checks c f passes (subst (λ (z : Configuration). IsFirstIn k checks z f) (ap (λ (z : Configuration × Spot). z.0) same) x.3)
       ]
     ]
   ]
 ]
   where
+    allowed : least_coder k ≤ type_of c.coder
+    allowed = kind_allowed k c (passed_coder k c passes)
+
     short : {n : ℕ} → n < 5 → 5 ≤ n → ⊥
     short low high = omega arith

@@ -143,12 +143,14 @@ makes_ok ds b s x t h = elim h [
   | inr e ↦ absurd (not_both (x, t) fault.StateTable e.1)
 ]
 
-pub coder_ok : (kind : ℕ) (b : List ℕ) (r s : Spot) (c : Coder) (t : Spot) → 1 ≤ kind → kind ≤ 2 → After r (number_steps 0 kind) s 0 → coder_of kind b s (Ok (c, t)) → After r (coder_steps c) t 0
-coder_ok zero b r s c t least most before h = absurd (omega arith)
-coder_ok (suc zero) b r s c t least most before h =
+pub coder_ok : (kind : ℕ) (b : List ℕ) (r s : Spot) (c : Coder) (t : Spot) → kind ≤ 2 → After r (number_steps 0 kind) s 0 → coder_of kind b s (Ok (c, t)) → After r (coder_steps c) t 0
+coder_ok zero b r s c t most before h =
+    let end = done_ok coder.Rice b s c t h in
+    subst (λ (z : Coder). After r (coder_steps z) t 0) (sym end.0) (after_same r s t (number_steps 0 0) 0 before end.1)
+coder_ok (suc zero) b r s c t most before h =
     let end = done_ok coder.One b s c t h in
     subst (λ (z : Coder). After r (coder_steps z) t 0) (sym end.0) (after_same r s t (number_steps 0 1) 0 before end.1)
-coder_ok (suc (suc zero)) b r s c t least most before h =
+coder_ok (suc (suc zero)) b r s c t most before h =
     let one = bind_ok (deltas_onto 255 []) (λ ds. makes_table ds >>= λ _. done (coder.Two ds)) b s c t h in
     let two = bind_ok (makes_table one.0) (λ _. done (coder.Two one.0)) b one.1 c t one.3 in
     let same = makes_ok one.0 b one.1 two.0 two.1 two.2 in
@@ -156,19 +158,19 @@ coder_ok (suc (suc zero)) b r s c t least most before h =
     let deltas = deltas_ok 255 [] b s one.0 one.1 one.2 in
     let all = after_then r s one.1 (number_steps 0 2) (deltas_steps deltas.0) 0 0 before deltas.4 in
     subst (λ (z : Coder). After r (coder_steps z) t 0) (sym (end.0 ∙ ap coder.Two deltas.1)) (after_same r one.1 t (number_steps 0 2 ++ deltas_steps deltas.0) 0 all (end.1 ∙ same))
-coder_ok (suc (suc (suc kind))) b r s c t least most before h = absurd (omega arith)
+coder_ok (suc (suc (suc kind))) b r s c t most before h = absurd (omega arith)
 
-pub opening_ok : (b : List ℕ) (s : Spot) (c : Coder) (t : Spot) → opening b s (Ok (c, t)) → After s (number_steps 0 3 ++ number_steps 0 4 ++ coder_steps c) t 0
-opening_ok b s c t h =
-    let one = bind_ok (number_within 0 3 3 fault.Version) (λ _. number_within 0 4 4 fault.MicroVersion >>= λ _. number_within 0 1 2 fault.Coder >>= coder_of) b s c t h in
-    let two = bind_ok (number_within 0 4 4 fault.MicroVersion) (λ _. number_within 0 1 2 fault.Coder >>= coder_of) b one.1 c t one.3 in
-    let three = bind_ok (number_within 0 1 2 fault.Coder) coder_of b two.1 c t two.3 in
+pub opening_ok : (least : ℕ) (b : List ℕ) (s : Spot) (c : Coder) (t : Spot) → opening least b s (Ok (c, t)) → After s (number_steps 0 3 ++ number_steps 0 4 ++ coder_steps c) t 0
+opening_ok least b s c t h =
+    let one = bind_ok (number_within 0 3 3 fault.Version) (λ _. number_within 0 4 4 fault.MicroVersion >>= λ _. number_within 0 least 2 fault.Coder >>= coder_of) b s c t h in
+    let two = bind_ok (number_within 0 4 4 fault.MicroVersion) (λ _. number_within 0 least 2 fault.Coder >>= coder_of) b one.1 c t one.3 in
+    let three = bind_ok (number_within 0 least 2 fault.Coder) coder_of b two.1 c t two.3 in
     let version = within_ok 0 3 3 fault.Version b s one.0 one.1 one.2 in
     let micro = within_ok 0 4 4 fault.MicroVersion b one.1 two.0 two.1 two.2 in
-    let kind = within_ok 0 1 2 fault.Coder b two.1 three.0 three.1 three.2 in
+    let kind = within_ok 0 least 2 fault.Coder b two.1 three.0 three.1 three.2 in
     let is_three : one.0 ≡ 3 = omega (arith, version.least, version.most) in
     let is_four : two.0 ≡ 4 = omega (arith, micro.least, micro.most) in
-    let code = coder_ok three.0 b two.1 three.1 c t kind.least kind.most kind.after three.3 in
+    let code = coder_ok three.0 b two.1 three.1 c t kind.most kind.after three.3 in
     after_then s two.1 t (number_steps 0 3 ++ number_steps 0 4) (coder_steps c) 0 0
     (after_then s one.1 two.1 (number_steps 0 3) (number_steps 0 4) 0 0 (rw is_three at version.after) (rw is_four at micro.after)) code
 
@@ -372,9 +374,9 @@ pub record Read (most width height : ℕ) (s : Spot) (c : Configuration) (t : Sp
   pub deep : IsTrue (has_depth most c)
   pub past : t.past ≡ s.past ++ record_steps bits c
 
-pub parameters_ok : (most width height : ℕ) (b : List ℕ) (s : Spot) (c : Configuration) (t : Spot) → s.fresh ≡ 32 → parameters most width height b s (Ok (c, t)) → Read most width height s c t
-parameters_ok most width height b s c t fresh h =
-    let one = bind_ok opening _ b s c t h in
+pub parameters_ok : (least most width height : ℕ) (b : List ℕ) (s : Spot) (c : Configuration) (t : Spot) → s.fresh ≡ 32 → parameters least most width height b s (Ok (c, t)) → Read most width height s c t
+parameters_ok least most width height b s c t fresh h =
+    let one = bind_ok (opening least) _ b s c t h in
     let two = bind_ok (planes most) _ b one.1 c t one.3 in
     let three = bind_ok count_of _ b two.1 c t two.3 in
     let four = bind_ok count_of _ b three.1 c t three.3 in
@@ -400,7 +402,7 @@ parameters_ok most width height b s c t fresh h =
     } in
     let end = done_ok read b seven.1 c t seven.3 in
     let seen = planes_ok most b one.1 two.0 two.1 two.2 in
-    let opened = opening_ok b s one.0 one.1 one.2 in
+    let opened = opening_ok least b s one.0 one.1 one.2 in
     let columns = count_ok b two.1 three.0 three.1 three.2 in
     let rows = count_ok b three.1 four.0 four.1 four.2 in
     let sets = tables_ok b four.1 five.0 five.1 five.2 in

@@ -9,7 +9,7 @@ use Rattle.ffv1_record.specs.declared.fault.RecordFault.{RecordFault}
 use Rattle.ffv1_record.specs.declared.fault.RecordFault.TheVariants as fault
 use Rattle.ffv1_record.specs.Configuration.{Configuration}
 use Rattle.ffv1_record.specs.declared.config.Profile.{Profile}
-use Rattle.ffv1_record.specs.Accepted.{IsAccepted, IsFirstIn, PassesIn, PassesAll}
+use Rattle.ffv1_record.specs.Accepted.{IsAccepted, IsFirstIn, PassesIn, PassesAll, type_of}
 use Rattle.ffv1_record.specs.Record.{IsRecord, IsCoded, body_of, record_steps}
 use Rattle.ffv1_record.specs.Reader.{Spot}
 use Rattle.ffv1_record.specs.Reading.{parameters, beginning}
@@ -54,24 +54,24 @@ fails_first p (g ∷ gs) c f first passes = elim first [
   | inr later ↦ fails_first p gs c f later.1 passes
 ]
 
-module _ (bytes : List ℕ) (are : AreBytes (body_of bytes)) (c : Configuration) (t : Table) (is : IsAccepted c t) (stored : IsRecord bytes c) (most : ℕ) (low : c.depth ≤ most) where
+module _ (bytes : List ℕ) (are : AreBytes (body_of bytes)) (c : Configuration) (t : Table) (is : IsAccepted c t) (stored : IsRecord bytes c) (most : ℕ) (low : c.depth ≤ most) (least : ℕ) (allowed : least ≤ type_of c.coder) where
   pub good_start : 65280 ≤ value (body_of bytes) 2 → ⊥
   good_start high =
       let start = coded_front (body_of bytes) are [] (record_steps stored.bits c) stored.coded in
       let below = start.below in
       absurd (omega arith)
 
-  pub read_so : (out : Result (Configuration × Spot) RecordFault) → parameters most c.width c.height (body_of bytes) beginning out → out ≡ Ok (c, ending_of stored.bits c)
-  read_so out h = (forced_parameters (body_of bytes) are most stored.bits c t (known_depth stored.bits c.depth stored.known (depth_bounds 16 c.depth is.depth).0) low is is.writable).forces (subst (IsCoded (body_of bytes)) (sym (ending_past stored.bits c)) stored.coded) out h
+  pub read_so : (out : Result (Configuration × Spot) RecordFault) → parameters least most c.width c.height (body_of bytes) beginning out → out ≡ Ok (c, ending_of stored.bits c)
+  read_so out h = (forced_parameters (body_of bytes) are least most stored.bits c t (known_depth stored.bits c.depth stored.known (depth_bounds 16 c.depth is.depth).0) low is is.writable allowed).forces (subst (IsCoded (body_of bytes)) (sym (ending_past stored.bits c)) stored.coded) out h
 
   module _ (width height : ℕ) (wide : c.width ≡ width) (high : c.height ≡ height) (a b : Source) (begun : Stands a (body_of bytes) beginning) where
-    pub read_is : (x : Configuration) → Gives (λ z. z) (parameters most width height) a b (Ok x) → x ≡ c
+    pub read_is : (x : Configuration) → Gives (λ z. z) (parameters least most width height) a b (Ok x) → x ≡ c
     read_is x gives =
         let told = gives.gives (body_of bytes) beginning begun in
-        ap (λ p. p.0) (ok_same (x, told.0) (c, ending_of stored.bits c) (read_so (Ok (x, told.0)) (subst (λ h. parameters most c.width h (body_of bytes) beginning (Ok (x, told.0))) (sym high) (subst (λ w. parameters most w height (body_of bytes) beginning (Ok (x, told.0))) (sym wide) told.1))))
+        ap (λ p. p.0) (ok_same (x, told.0) (c, ending_of stored.bits c) (read_so (Ok (x, told.0)) (subst (λ h. parameters least most c.width h (body_of bytes) beginning (Ok (x, told.0))) (sym high) (subst (λ w. parameters least most w height (body_of bytes) beginning (Ok (x, told.0))) (sym wide) told.1))))
 
-    pub refused_by_memory : (f : RecordFault) → Gives {Y = Configuration} (λ z. z) (parameters most width height) a b (Err f) → f ≡ fault.OutOfMemory
+    pub refused_by_memory : (f : RecordFault) → Gives {Y = Configuration} (λ z. z) (parameters least most width height) a b (Err f) → f ≡ fault.OutOfMemory
     refused_by_memory f gives = elim (gives.gives (body_of bytes) beginning begun) [
       | inl memory ↦ memory
-      | inr refused ↦ absurd (not_both (c, ending_of stored.bits c) f (sym (read_so (Err f) (subst (λ h. parameters most c.width h (body_of bytes) beginning (Err f)) (sym high) (subst (λ w. parameters most w height (body_of bytes) beginning (Err f)) (sym wide) refused)))))
+      | inr refused ↦ absurd (not_both (c, ending_of stored.bits c) f (sym (read_so (Err f) (subst (λ h. parameters least most c.width h (body_of bytes) beginning (Err f)) (sym high) (subst (λ w. parameters least most w height (body_of bytes) beginning (Err f)) (sym wide) refused)))))
     ]

@@ -12,7 +12,7 @@ use Rattle.ffv1_record.specs.declared.config.Coder.TheVariants as coder
 use Rattle.ffv1_record.specs.declared.config.Colour.TheVariants as colour
 use Rattle.ffv1_record.specs.declared.planes.Planes.{Planes}
 use Rattle.ffv1_record.specs.Configuration.{Configuration, is_rct}
-use Rattle.ffv1_record.specs.Accepted.{is_depth}
+use Rattle.ffv1_record.specs.Accepted.{is_depth, least_coder}
 use Rattle.ffv1_record.specs.Sets.{AreSets}
 use Rattle.ffv1_record.specs.Record.{IsCoded, body_of, number_steps, truth_steps, coder_steps, sets_steps, uncoded_steps, depth_of}
 use Rattle.ffv1_record.specs.Reader.{Spot, behind, ◌>>=◌, done, require, number, truth, number_within}
@@ -35,46 +35,46 @@ module _ (b : List ℕ) where
   past_of s t steps e = ap (λ (z : Spot). z.past) e
 
   -- of the first three parameters
-  opening_err : (ps : List Parameter) (s : Spot) (f : RecordFault) (bits : ℕ) (c : Configuration) → opening b s (Err f) → FirstBad (version ∷ micro_version ∷ coder_type ∷ ps) b s.past bits c f
-  opening_err ps s f bits c h = elim (bind_err (number_within 0 3 3 fault.Version) _ b s f h) [
-    | inr e ↦ let k = within_err b 0 3 3 fault.Version s f e in bad_then version (micro_version ∷ coder_type ∷ ps) s.past bits c f k.0 k.1 k.2
+  opening_err : (least : ℕ) (ps : List Parameter) (s : Spot) (f : RecordFault) (bits : ℕ) (c : Configuration) → opening least b s (Err f) → FirstBad (version ∷ micro_version ∷ coder_type least ∷ ps) b s.past bits c f
+  opening_err least ps s f bits c h = elim (bind_err (number_within 0 3 3 fault.Version) _ b s f h) [
+    | inr e ↦ let k = within_err b 0 3 3 fault.Version s f e in bad_then version (micro_version ∷ coder_type least ∷ ps) s.past bits c f k.0 k.1 k.2
     | inl e ↦
         let g = within_value b 0 3 3 fault.Version s e.0 e.1 e.2 in
         let low = g.low in
         let high = g.high in
         let three : e.0 ≡ 3 = omega (arith, low, high) in
-        good_then version (micro_version ∷ coder_type ∷ ps) s.past bits c f (number_steps 0 e.0) e.1 (ap (λ k. number_steps 0 k) (sym three)) (past_of s e.1 (number_steps 0 e.0) g.there) tt
+        good_then version (micro_version ∷ coder_type least ∷ ps) s.past bits c f (number_steps 0 e.0) e.1 (ap (λ k. number_steps 0 k) (sym three)) (past_of s e.1 (number_steps 0 e.0) g.there) tt
         (elim (bind_err (number_within 0 4 4 fault.MicroVersion) _ b e.1 f e.3) [
-          | inr d ↦ let k = within_err b 0 4 4 fault.MicroVersion e.1 f d in bad_then micro_version (coder_type ∷ ps) e.1.past bits c f k.0 k.1 k.2
+          | inr d ↦ let k = within_err b 0 4 4 fault.MicroVersion e.1 f d in bad_then micro_version (coder_type least ∷ ps) e.1.past bits c f k.0 k.1 k.2
           | inl d ↦
               let i = within_value b 0 4 4 fault.MicroVersion e.1 d.0 d.1 d.2 in
-              let least = i.low in
+              let low = i.low in
               let most = i.high in
-              let four : d.0 ≡ 4 = omega (arith, least, most) in
-              let k = coder_err b d.1 f d.3 in
-              good_then micro_version (coder_type ∷ ps) e.1.past bits c f (number_steps 0 d.0) d.1 (ap (λ k. number_steps 0 k) (sym four)) (past_of e.1 d.1 (number_steps 0 d.0) i.there) tt (bad_then coder_type ps d.1.past bits c f k.0 k.1 k.2)
+              let four : d.0 ≡ 4 = omega (arith, low, most) in
+              let k = coder_err b least d.1 f d.3 in
+              good_then micro_version (coder_type least ∷ ps) e.1.past bits c f (number_steps 0 d.0) d.1 (ap (λ k. number_steps 0 k) (sym four)) (past_of e.1 d.1 (number_steps 0 d.0) i.there) tt (bad_then (coder_type least) ps d.1.past bits c f k.0 k.1 k.2)
         ])
   ]
 
-  opening_then : (ps : List Parameter) (s : Spot) (k : Coder) (t : Spot) (f : RecordFault) (bits : ℕ) (c : Configuration) → opening b s (Ok (k, t)) → c.coder ≡ k → FirstBad ps b t.past bits c f → FirstBad (version ∷ micro_version ∷ coder_type ∷ ps) b s.past bits c f
-  opening_then ps s k t f bits c h is rest =
-      let one = bind_ok (number_within 0 3 3 fault.Version) (λ _. number_within 0 4 4 fault.MicroVersion >>= λ _. number_within 0 1 2 fault.Coder >>= coder_of) b s k t h in
-      let two = bind_ok (number_within 0 4 4 fault.MicroVersion) (λ _. number_within 0 1 2 fault.Coder >>= coder_of) b one.1 k t one.3 in
-      let three = bind_ok (number_within 0 1 2 fault.Coder) coder_of b two.1 k t two.3 in
+  opening_then : (least : ℕ) (ps : List Parameter) (s : Spot) (k : Coder) (t : Spot) (f : RecordFault) (bits : ℕ) (c : Configuration) → opening least b s (Ok (k, t)) → c.coder ≡ k → FirstBad ps b t.past bits c f → FirstBad (version ∷ micro_version ∷ coder_type least ∷ ps) b s.past bits c f
+  opening_then least ps s k t f bits c h is rest =
+      let one = bind_ok (number_within 0 3 3 fault.Version) (λ _. number_within 0 4 4 fault.MicroVersion >>= λ _. number_within 0 least 2 fault.Coder >>= coder_of) b s k t h in
+      let two = bind_ok (number_within 0 4 4 fault.MicroVersion) (λ _. number_within 0 least 2 fault.Coder >>= coder_of) b one.1 k t one.3 in
+      let three = bind_ok (number_within 0 least 2 fault.Coder) coder_of b two.1 k t two.3 in
       let g = within_value b 0 3 3 fault.Version s one.0 one.1 one.2 in
       let i = within_value b 0 4 4 fault.MicroVersion one.1 two.0 two.1 two.2 in
-      let j = within_value b 0 1 2 fault.Coder two.1 three.0 three.1 three.2 in
+      let j = within_value b 0 least 2 fault.Coder two.1 three.0 three.1 three.2 in
       let a = g.low in
       let d = g.high in
       let e = i.low in
       let u = i.high in
       let is_three : one.0 ≡ 3 = omega (arith, a, d) in
       let is_four : two.0 ≡ 4 = omega (arith, e, u) in
-      let read = coder_ok three.0 b two.1 three.1 k t j.low j.high (record { past = past_of two.1 three.1 (number_steps 0 three.0) j.there; fresh = ap (λ (z : Spot). z.fresh) j.there ∙ omega arith }) three.3 in
-      let good : IsCoder b c.coder = subst (IsCoder b) (sym is) (kind_good b three.0 two.1 three.1 k t j three.3) in
-      good_then version (micro_version ∷ coder_type ∷ ps) s.past bits c f (number_steps 0 one.0) one.1 (ap (λ k. number_steps 0 k) (sym is_three)) (past_of s one.1 (number_steps 0 one.0) g.there) tt
-      (good_then micro_version (coder_type ∷ ps) one.1.past bits c f (number_steps 0 two.0) two.1 (ap (λ k. number_steps 0 k) (sym is_four)) (past_of one.1 two.1 (number_steps 0 two.0) i.there) tt
-      (good_then coder_type ps two.1.past bits c f (coder_steps k) t (ap (λ (z : Coder). coder_steps z) is) read.past good rest))
+      let read = coder_ok three.0 b two.1 three.1 k t j.high (record { past = past_of two.1 three.1 (number_steps 0 three.0) j.there; fresh = ap (λ (z : Spot). z.fresh) j.there ∙ omega arith }) three.3 in
+      let good : IsCoder b least c.coder = subst (IsCoder b least) (sym is) (kind_good b least three.0 two.1 three.1 k t j three.3) in
+      good_then version (micro_version ∷ coder_type least ∷ ps) s.past bits c f (number_steps 0 one.0) one.1 (ap (λ k. number_steps 0 k) (sym is_three)) (past_of s one.1 (number_steps 0 one.0) g.there) tt
+      (good_then micro_version (coder_type least ∷ ps) one.1.past bits c f (number_steps 0 two.0) two.1 (ap (λ k. number_steps 0 k) (sym is_four)) (past_of one.1 two.1 (number_steps 0 two.0) i.there) tt
+      (good_then (coder_type least) ps two.1.past bits c f (coder_steps k) t (ap (λ (z : Coder). coder_steps z) is) read.past good rest))
 
   -- ---- planes
   depth_err : (most : ℕ) (s : Spot) (f : RecordFault) → depth most b s (Err f) → Symbols b s (λ steps. IsBadNumber 0 (λ n. IsTrue (is_depth most (depth_of n))) fault.Depth steps f)
@@ -419,22 +419,22 @@ module _ (b : List ℕ) where
   told : (k : Coder) (p : Planes) (columns rows : ℕ) (ss : List Set) (coded : Bool) → Tells (made k p columns rows ss coded) p
   told k p columns rows ss coded = (refl, refl, refl, refl, refl)
 
-  pub first_bad : (most width height : ℕ) (f : RecordFault) → parameters most width height b beginning (Err f) → (bits : ℕ) × (c : Configuration) × FirstBad (in_order most) b [] bits c f
-  first_bad most width height f h = elim (bind_err opening _ b beginning f h) [
-    | inr e ↦ (0, blank, opening_err (plane_parameters most grid_parameters) beginning f 0 blank e)
+  pub first_bad : (least most width height : ℕ) (f : RecordFault) → parameters least most width height b beginning (Err f) → (bits : ℕ) × (c : Configuration) × FirstBad (in_order least most) b [] bits c f
+  first_bad least most width height f h = elim (bind_err (opening least) _ b beginning f h) [
+    | inr e ↦ (0, blank, opening_err least (plane_parameters most grid_parameters) beginning f 0 blank e)
     | inl e ↦
         elim (bind_err (planes most) _ b e.1 f e.3) [
           | inr d ↦
               let k = planes_err most grid_parameters e.1 f d in
               let c = made e.0 k.1 0 0 [] false in
-              (k.0, made e.0 k.1 0 0 [] false, opening_then (plane_parameters most grid_parameters) beginning e.0 e.1 f k.0 c e.2 refl (k.2 c (told e.0 k.1 0 0 [] false)))
+              (k.0, made e.0 k.1 0 0 [] false, opening_then least (plane_parameters most grid_parameters) beginning e.0 e.1 f k.0 c e.2 refl (k.2 c (told e.0 k.1 0 0 [] false)))
           | inl d ↦
               elim (bind_err count_of _ b d.1 f d.3) [
                 | inr i ↦
                     let k = count_err d.1 f i in
                     let p = planes_then most grid_parameters e.1 d.0 d.1 f d.2 in
                     let c = made e.0 d.0 0 0 [] false in
-                    (p.bits, made e.0 d.0 0 0 [] false, opening_then (plane_parameters most grid_parameters) beginning e.0 e.1 f p.bits c e.2 refl (p.then c (told e.0 d.0 0 0 [] false) (bad_then num_h_slices (num_v_slices ∷ last_parameters) d.1.past p.bits c f k.0 k.1 k.2)))
+                    (p.bits, made e.0 d.0 0 0 [] false, opening_then least (plane_parameters most grid_parameters) beginning e.0 e.1 f p.bits c e.2 refl (p.then c (told e.0 d.0 0 0 [] false) (bad_then num_h_slices (num_v_slices ∷ last_parameters) d.1.past p.bits c f k.0 k.1 k.2)))
                 | inl i ↦
                     let v = count_value d.1 i.0 i.1 i.2 in
                     elim (bind_err count_of _ b i.1 f i.3) [
@@ -442,16 +442,16 @@ module _ (b : List ℕ) where
                           let k = count_err i.1 f j in
                           let p = planes_then most grid_parameters e.1 d.0 d.1 f d.2 in
                           let c = made e.0 d.0 i.0 0 [] false in
-                          (p.bits, made e.0 d.0 i.0 0 [] false, opening_then (plane_parameters most grid_parameters) beginning e.0 e.1 f p.bits c e.2 refl (p.then c (told e.0 d.0 i.0 0 [] false) (columns_then (num_v_slices ∷ last_parameters) d.1 i.0 i.1 f p.bits c v refl (bad_then num_v_slices last_parameters i.1.past p.bits c f k.0 k.1 k.2))))
+                          (p.bits, made e.0 d.0 i.0 0 [] false, opening_then least (plane_parameters most grid_parameters) beginning e.0 e.1 f p.bits c e.2 refl (p.then c (told e.0 d.0 i.0 0 [] false) (columns_then (num_v_slices ∷ last_parameters) d.1 i.0 i.1 f p.bits c v refl (bad_then num_v_slices last_parameters i.1.past p.bits c f k.0 k.1 k.2))))
                       | inl j ↦
                           let w = count_value i.1 j.0 j.1 j.2 in
                           let p = planes_then most grid_parameters e.1 d.0 d.1 f d.2 in
-                          let fresh = fresh_after most e.0 e.1 d.0 d.1 (i.0 - 1) i.1 (j.0 - 1) j.1 e.2 d.2 v w in
+                          let fresh = fresh_after least most e.0 e.1 d.0 d.1 (i.0 - 1) i.1 (j.0 - 1) j.1 e.2 d.2 v w in
                           elim (bind_err tables _ b j.1 f j.3) [
                             | inr m ↦
                                 let k = tables_err (ec ∷ intra ∷ []) j.1 f fresh m in
                                 let c = made e.0 d.0 i.0 j.0 k.0 false in
-                                (p.bits, made e.0 d.0 i.0 j.0 k.0 false, opening_then (plane_parameters most grid_parameters) beginning e.0 e.1 f p.bits c e.2 refl (p.then c (told e.0 d.0 i.0 j.0 k.0 false) (columns_then (num_v_slices ∷ last_parameters) d.1 i.0 i.1 f p.bits c v refl (rows_then last_parameters i.1 j.0 j.1 f p.bits c w refl (k.1 p.bits c refl)))))
+                                (p.bits, made e.0 d.0 i.0 j.0 k.0 false, opening_then least (plane_parameters most grid_parameters) beginning e.0 e.1 f p.bits c e.2 refl (p.then c (told e.0 d.0 i.0 j.0 k.0 false) (columns_then (num_v_slices ∷ last_parameters) d.1 i.0 i.1 f p.bits c v refl (rows_then last_parameters i.1 j.0 j.1 f p.bits c w refl (k.1 p.bits c refl)))))
                             | inl m ↦
                                 elim (bind_err (flag fault.Ec) _ b m.1 f m.3) [
                                   | inr n ↦
@@ -459,7 +459,7 @@ module _ (b : List ℕ) where
                                       let c = made e.0 d.0 i.0 j.0 m.0 false in (
                                         p.bits,
                                         made e.0 d.0 i.0 j.0 m.0 false,
-                                        opening_then (plane_parameters most grid_parameters) beginning e.0 e.1 f p.bits c e.2 refl (p.then c (told e.0 d.0 i.0 j.0 m.0 false) (columns_then (num_v_slices ∷ last_parameters) d.1 i.0 i.1 f p.bits c v refl (rows_then last_parameters i.1 j.0 j.1 f p.bits c w refl
+                                        opening_then least (plane_parameters most grid_parameters) beginning e.0 e.1 f p.bits c e.2 refl (p.then c (told e.0 d.0 i.0 j.0 m.0 false) (columns_then (num_v_slices ∷ last_parameters) d.1 i.0 i.1 f p.bits c v refl (rows_then last_parameters i.1 j.0 j.1 f p.bits c w refl
                                             (tables_then (ec ∷ intra ∷ []) j.1 m.0 m.1 f p.bits c fresh m.2 refl (bad_then ec (intra ∷ []) m.1.past p.bits c f k.0 k.1 k.2))))),
                                       )
                                   | inl n ↦
@@ -471,7 +471,7 @@ module _ (b : List ℕ) where
                                             let k = flag_err fault.Intra n.1 f o in (
                                               p.bits,
                                               made e.0 d.0 i.0 j.0 m.0 n.0,
-                                              opening_then (plane_parameters most grid_parameters) beginning e.0 e.1 f p.bits c e.2 refl (p.then c (told e.0 d.0 i.0 j.0 m.0 n.0) (columns_then (num_v_slices ∷ last_parameters) d.1 i.0 i.1 f p.bits c v refl (rows_then last_parameters i.1 j.0 j.1 f p.bits c w refl
+                                              opening_then least (plane_parameters most grid_parameters) beginning e.0 e.1 f p.bits c e.2 refl (p.then c (told e.0 d.0 i.0 j.0 m.0 n.0) (columns_then (num_v_slices ∷ last_parameters) d.1 i.0 i.1 f p.bits c v refl (rows_then last_parameters i.1 j.0 j.1 f p.bits c w refl
                                                   (tables_then (ec ∷ intra ∷ []) j.1 m.0 m.1 f p.bits c fresh m.2 refl (good_then ec (intra ∷ []) m.1.past p.bits c f (number_steps 0 (one_if n.0)) n.1 refl after.past tt (bad_then intra [] n.1.past p.bits c f k.0 k.1 k.2)))))),
                                             )
                                       ]
@@ -482,9 +482,9 @@ module _ (b : List ℕ) where
         ]
   ]
     where
-      fresh_after : (most : ℕ) (k : Coder) (t : Spot) (p : Planes) (u : Spot) (n : ℕ) (x : Spot) (m : ℕ) (y : Spot) → opening b beginning (Ok (k, t)) → planes most b t (Ok (p, u)) → Value b 0 u n x → Value b 0 x m y → y.fresh ≡ 32
-      fresh_after most k t p u n x m y opened seen v w =
-          let one = opening_ok b beginning k t opened in
+      fresh_after : (least most : ℕ) (k : Coder) (t : Spot) (p : Planes) (u : Spot) (n : ℕ) (x : Spot) (m : ℕ) (y : Spot) → opening least b beginning (Ok (k, t)) → planes most b t (Ok (p, u)) → Value b 0 u n x → Value b 0 x m y → y.fresh ≡ 32
+      fresh_after least most k t p u n x m y opened seen v w =
+          let one = opening_ok least b beginning k t opened in
           let two = planes_ok most b t p u seen in
           let three = ap (λ (z : Spot). z.fresh) v.there in
           let four = ap (λ (z : Spot). z.fresh) w.there in
@@ -496,5 +496,5 @@ pub refused_because : (p : Profile) (most : ℕ) (bytes : List ℕ) (width heigh
 refused_because p most bytes width height f (inl short) = inl short
 refused_because p most bytes width height f (inr (inl (long, odd, is))) = inr (inl (odd, is))
 refused_because p most bytes width height f (inr (inr (long, whole, inl start))) = inr (inr (inl start))
-refused_because p most bytes width height f (inr (inr (long, whole, inr (inl h)))) = inr (inr (inr (inl (first_bad (body_of bytes) most width height f h))))
+refused_because p most bytes width height f (inr (inr (long, whole, inr (inl h)))) = inr (inr (inr (inl (first_bad (body_of bytes) (least_coder p) most width height f h))))
 refused_because p most bytes width height f (inr (inr (long, whole, inr (inr h)))) = inr (inr (inr (inr h)))

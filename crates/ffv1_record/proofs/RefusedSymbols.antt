@@ -10,7 +10,7 @@ use Rattle.ffv1_record.specs.declared.fault.RecordFault.{RecordFault}
 use Rattle.ffv1_record.specs.declared.fault.RecordFault.TheVariants as fault
 use Rattle.ffv1_record.specs.declared.config.Coder.{Coder}
 use Rattle.ffv1_record.specs.declared.config.Coder.TheVariants as coder
-use Rattle.ffv1_record.specs.Accepted.{IsTableFor}
+use Rattle.ffv1_record.specs.Accepted.{IsTableFor, type_of}
 use Rattle.ffv1_record.specs.Writable.{AreDeltas, IsWritable}
 use Rattle.ffv1_record.specs.Record.{IsCoded, number_steps, signed_number_steps, truth_steps, deltas_steps}
 use Rattle.ffv1_record.specs.Reader.{Reader, Spot, behind, Then, ◌>>=◌, done, require, number, signed_number, truth, number_within, makes_table}
@@ -198,11 +198,11 @@ module _ (b : List ℕ) where
     | inr e ↦ absurd (not_both (x, t) fault.StateTable e.1)
   ]
 
-  abbrev pub CoderFails : List Step → RecordFault → Type 0
-  CoderFails steps f = IsBadNumber 0 (λ n. (1 ≤ n) × (n ≤ 2)) fault.Coder steps f ⊎ AreBadDeltas steps f
+  abbrev pub CoderFails : ℕ → List Step → RecordFault → Type 0
+  CoderFails least steps f = IsBadNumber 0 (λ n. (least ≤ n) × (n ≤ 2)) fault.Coder steps f ⊎ AreBadDeltas steps f
 
-  pub two_err : (s t : Spot) (f : RecordFault) → Good 0 1 2 s 2 t → coder_of 2 b t (Err f) → Symbols s (λ steps. CoderFails steps f)
-  two_err s t f g h = elim (bind_err (deltas_onto 255 []) (λ ds. makes_table ds >>= λ _. done (coder.Two ds)) b t f h) [
+  pub two_err : (least : ℕ) (s t : Spot) (f : RecordFault) → Good 0 least 2 s 2 t → coder_of 2 b t (Err f) → Symbols s (λ steps. CoderFails least steps f)
+  two_err least s t f g h = elim (bind_err (deltas_onto 255 []) (λ ds. makes_table ds >>= λ _. done (coder.Two ds)) b t f h) [
     | inr e ↦
         let d = deltas_err 255 [] t f e in
         let there : IsCoded b (s.past ++ number_steps 0 2 ++ (deltas_steps d.0 ++ shifted 0 too_long)) = subst (λ (z : Spot). IsCoded b (z.past ++ (deltas_steps d.0 ++ shifted 0 too_long))) g.there d.3 in
@@ -221,30 +221,30 @@ module _ (b : List ℕ) where
         ]
   ]
 
-  pub kind_err : (kind : ℕ) (s t : Spot) (f : RecordFault) → Good 0 1 2 s kind t → coder_of kind b t (Err f) → Symbols s (λ steps. CoderFails steps f)
-  kind_err zero s t f g h = absurd (let low = g.low in omega (arith, low))
-  kind_err (suc zero) s t f g h = absurd (not_done coder.One b t f h)
-  kind_err (suc (suc zero)) s t f g h = two_err s t f g h
-  kind_err (suc (suc (suc kind))) s t f g h = absurd (let high = g.high in omega (arith, high))
+  pub kind_err : (least kind : ℕ) (s t : Spot) (f : RecordFault) → Good 0 least 2 s kind t → coder_of kind b t (Err f) → Symbols s (λ steps. CoderFails least steps f)
+  kind_err least zero s t f g h = absurd (not_done coder.Rice b t f h)
+  kind_err least (suc zero) s t f g h = absurd (not_done coder.One b t f h)
+  kind_err least (suc (suc zero)) s t f g h = two_err least s t f g h
+  kind_err least (suc (suc (suc kind))) s t f g h = absurd (let high = g.high in omega (arith, high))
 
-  pub coder_err : (s : Spot) (f : RecordFault) → (number_within 0 1 2 fault.Coder >>= coder_of) b s (Err f) → Symbols s (λ steps. CoderFails steps f)
-  coder_err s f h = elim (bind_err (number_within 0 1 2 fault.Coder) coder_of b s f h) [
-    | inr e ↦ let k = within_err 0 1 2 fault.Coder s f e in (k.0, inl k.1, k.2)
-    | inl e ↦ kind_err e.0 s e.1 f (within_value 0 1 2 fault.Coder s e.0 e.1 e.2) e.3
+  pub coder_err : (least : ℕ) (s : Spot) (f : RecordFault) → (number_within 0 least 2 fault.Coder >>= coder_of) b s (Err f) → Symbols s (λ steps. CoderFails least steps f)
+  coder_err least s f h = elim (bind_err (number_within 0 least 2 fault.Coder) coder_of b s f h) [
+    | inr e ↦ let k = within_err 0 least 2 fault.Coder s f e in (k.0, inl k.1, k.2)
+    | inl e ↦ kind_err least e.0 s e.1 f (within_value 0 least 2 fault.Coder s e.0 e.1 e.2) e.3
   ]
 
-  abbrev pub IsCoder : Coder → Type 0
-  IsCoder c = ((t : Table) × IsTableFor c t) × IsWritable c
+  abbrev pub IsCoder : ℕ → Coder → Type 0
+  IsCoder least c = ((t : Table) × IsTableFor c t) × IsWritable c × (least ≤ type_of c)
 
-  pub kind_good : (kind : ℕ) (s t : Spot) (c : Coder) (u : Spot) → Good 0 1 2 s kind t → coder_of kind b t (Ok (c, u)) → IsCoder c
-  kind_good zero s t c u g h = absurd (let low = g.low in omega (arith, low))
-  kind_good (suc zero) s t c u g h = subst IsCoder (sym (done_ok coder.One b t c u h).0) ((standard, refl), tt)
-  kind_good (suc (suc zero)) s t c u g h =
+  pub kind_good : (least kind : ℕ) (s t : Spot) (c : Coder) (u : Spot) → Good 0 least 2 s kind t → coder_of kind b t (Ok (c, u)) → IsCoder least c
+  kind_good least zero s t c u g h = subst (IsCoder least) (sym (done_ok coder.Rice b t c u h).0) ((standard, refl), tt, g.low)
+  kind_good least (suc zero) s t c u g h = subst (IsCoder least) (sym (done_ok coder.One b t c u h).0) ((standard, refl), tt, g.low)
+  kind_good least (suc (suc zero)) s t c u g h =
       let one = bind_ok (deltas_onto 255 []) (λ ds. makes_table ds >>= λ _. done (coder.Two ds)) b t c u h in
       let two = bind_ok (makes_table one.0) (λ _. done (coder.Two one.0)) b one.1 c u one.3 in
       let d = deltas_ok 255 [] b t one.0 one.1 one.2 in
       let m = makes_value one.0 one.1 two.0 two.1 two.2 in
       let end = done_ok (coder.Two one.0) b two.1 c u two.3 in
       let made : (v : Table) × IsTableOf d.0 v = subst (λ (z : List ℤ). (v : Table) × IsTableOf z v) d.1 m in
-      subst IsCoder (sym (end.0 ∙ ap coder.Two d.1)) (made, (d.2, d.3))
-  kind_good (suc (suc (suc kind))) s t c u g h = absurd (let high = g.high in omega (arith, high))
+      subst (IsCoder least) (sym (end.0 ∙ ap coder.Two d.1)) (made, (d.2, d.3), g.low)
+  kind_good least (suc (suc (suc kind))) s t c u g h = absurd (let high = g.high in omega (arith, high))

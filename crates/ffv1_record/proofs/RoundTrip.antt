@@ -1,5 +1,5 @@
 -- A record is read as the one configuration that it is of.
-use Rattle.std.proofs.Common.{◌≡◌, ℕ, Bool, Decides, List, ap, sym, subst, Ok, ◌∙◌}
+use Rattle.std.proofs.Common.{◌≡◌, ℕ, Bool, Decides, List, ap, sym, subst, Ok, ◌∙◌, arith}
 use Rattle.ffv1_range.specs.Codes.{AreBytes}
 use Rattle.ffv1_range.specs.Table.{Table}
 use Rattle.ffv1_range.proofs.OneTable.{one_table}
@@ -20,19 +20,20 @@ use Rattle.ffv1_record.proofs.RecordIsRead.{read_so}
 
 module _ (bytes : List ℕ) (are : AreBytes (body_of bytes)) where
   -- what is stored is read
-  pub read_whole : (c : Configuration) (t : Table) → IsAccepted c t → IsRecord bytes c → (s : Spot) × parameters 16 c.width c.height (body_of bytes) beginning (Ok (c, s))
+  pub read_whole : (c : Configuration) (t : Table) → IsAccepted c t → IsRecord bytes c → (s : Spot) × parameters 0 16 c.width c.height (body_of bytes) beginning (Ok (c, s))
   read_whole c t is stored =
       let bounds = depth_bounds 16 c.depth is.depth in
-      let reads = (forced_parameters (body_of bytes) are 16 stored.bits c t (known_depth stored.bits c.depth stored.known bounds.0) bounds.1 is is.writable).reads (subst (IsCoded (body_of bytes)) (sym (ending_past stored.bits c)) stored.coded) in
+      let reads = (forced_parameters (body_of bytes) are 0 16 stored.bits c t (known_depth stored.bits c.depth stored.known bounds.0) bounds.1 is is.writable (omega arith)).reads (subst (IsCoded (body_of bytes)) (sym (ending_past stored.bits c)) stored.coded) in
       (ending_of stored.bits c, reads)
 
   pub one_configuration : (c d : Configuration) (t u : Table) → IsAccepted c t → IsAccepted d u → c.width ≡ d.width → c.height ≡ d.height → IsRecord bytes c → IsRecord bytes d → c ≡ d
   one_configuration c d t u is_c is_d wide high stored_c stored_d =
       let read = read_whole c t is_c stored_c in
-      let there = subst (λ h. parameters 16 d.width h (body_of bytes) beginning (Ok (c, read.0))) high (subst (λ w. parameters 16 w c.height (body_of bytes) beginning (Ok (c, read.0))) wide read.1) in
-      ap (λ p. p.0) (ok_same (c, read.0) (d, ending_of stored_d.bits d) (read_so bytes are d u is_d stored_d 16 (depth_bounds 16 d.depth is_d.depth).1 (Ok (c, read.0)) there))
+      let there = subst (λ h. parameters 0 16 d.width h (body_of bytes) beginning (Ok (c, read.0))) high (subst (λ w. parameters 0 16 w c.height (body_of bytes) beginning (Ok (c, read.0))) wide read.1) in
+      ap (λ p. p.0) (ok_same (c, read.0) (d, ending_of stored_d.bits d) (read_so bytes are d u is_d stored_d 16 (depth_bounds 16 d.depth is_d.depth).1 0 (omega arith) (Ok (c, read.0)) there))
 
 pub one_table_for : (c : Coder) (t u : Table) → IsTableFor c t → IsTableFor c u → t ≡ u
+one_table_for coder.Rice t u p q = p ∙ sym q
 one_table_for coder.One t u p q = p ∙ sym q
 one_table_for (coder.Two deltas) t u p q = one_table deltas t u p q
 

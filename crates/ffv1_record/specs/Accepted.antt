@@ -53,8 +53,36 @@ is_transparent c = c.chroma_planes || not c.extra_plane
 abbrev pub are_counted : Configuration → Bool
 are_counted c = nat_le 1 (length c.sets) && nat_le (length c.sets) 8
 
--- RFC 9043, 4.2.3 and 4.2.4: the state transition table of a coder
+-- RFC 9043, 4.2.3: coder_type
+abbrev pub type_of : Coder → ℕ
+type_of coder.Rice = 0
+type_of coder.One = 1
+type_of (coder.Two deltas) = 2
+
+-- samples are Golomb-Rice coded, and not range coded
+abbrev pub is_rice : Coder → Bool
+is_rice coder.Rice = true
+is_rice coder.One = false
+is_rice (coder.Two deltas) = false
+
+-- the least coder_type of a profile: samples are Golomb-Rice coded in `Wide` alone
+abbrev pub least_coder : Profile → ℕ
+least_coder profile.Strict = 1
+least_coder profile.Wide = 0
+
+-- RFC 9043, 4.2.3: Golomb-Rice coded samples have 8 bits
+abbrev pub suits_depth : Coder → ℕ → Bool
+suits_depth coder.Rice depth = depth == 8
+suits_depth other depth = true
+
+-- a profile has the coder, for samples of its depth
+abbrev pub has_coder : Profile → Configuration → Bool
+has_coder p c = nat_le (least_coder p) (type_of c.coder) && suits_depth c.coder c.depth
+
+-- RFC 9043, 4.2.3 and 4.2.4: the state transition table of a coder; beside Golomb-Rice coded
+-- samples it is that of keys, heads and records
 abbrev pub IsTableFor : Coder → Table → Type 0
+IsTableFor coder.Rice t = t ≡ standard
 IsTableFor coder.One t = t ≡ standard
 IsTableFor (coder.Two deltas) t = IsTableOf deltas t
 
@@ -110,13 +138,14 @@ PassesEdges profile.Wide c = AreReached c.width c.columns c.log2_h
 -- what a configuration must meet in a profile
 abbrev pub PassesIn : Profile → RecordFault → Configuration → Type 0
 PassesIn p fault.ChromaEdge c = PassesEdges p c
+PassesIn p fault.Coder c = IsTrue (has_coder p c)
 PassesIn p other c = Passes other c
 
 -- the faults in the order in which they are looked for
 abbrev pub checks : List RecordFault
 checks =
     fault.Size ∷ fault.Subsampling ∷ fault.ExtraPlane ∷ fault.Sets ∷ fault.StateTable ∷ fault.Grid
-    ∷ fault.ChromaEdge ∷ []
+    ∷ fault.ChromaEdge ∷ fault.Coder ∷ []
 
 abbrev pub PassesAll : Profile → List RecordFault → Configuration → Type 0
 PassesAll p [] c = Unit {0}

@@ -10,6 +10,7 @@ use Rattle.std.proofs.lemmas.Bool.Decides.{Decides-and, Decides-like}
 use Rattle.ffv1_plane.specs.Quantisation.{Set}
 use Rattle.ffv1_record.specs.declared.config.Coder.{Coder}
 use Rattle.ffv1_record.specs.declared.config.Coder.TheVariants as coder
+use Rattle.ffv1_record.specs.Accepted.{is_rice}
 use Rattle.ffv1_record.specs.declared.config.Colour.{Colour}
 use Rattle.ffv1_record.specs.declared.config.Colour.TheVariants as colour
 use Rattle.ffv1_record.specs.declared.config.Profile.{Profile}
@@ -36,8 +37,13 @@ is_same_profile profile.Wide profile.Strict = false
 is_same_profile profile.Wide profile.Wide = true
 
 abbrev pub is_same_coder : Coder → Coder → Bool
+is_same_coder coder.Rice coder.Rice = true
+is_same_coder coder.Rice coder.One = false
+is_same_coder coder.Rice (coder.Two ds) = false
+is_same_coder coder.One coder.Rice = false
 is_same_coder coder.One coder.One = true
 is_same_coder coder.One (coder.Two ds) = false
+is_same_coder (coder.Two ds) coder.Rice = false
 is_same_coder (coder.Two ds) coder.One = false
 is_same_coder (coder.Two ds) (coder.Two es) = pointwise int_eq ds es
 
@@ -105,17 +111,25 @@ same_profile profile.Wide profile.Strict =
 same_profile profile.Wide profile.Wide = (λ e. refl, λ e. refl)
 
 deltas_in : List ℤ → Coder → List ℤ
+deltas_in none coder.Rice = none
 deltas_in none coder.One = none
 deltas_in none (coder.Two ds) = ds
 
 has_deltas : Coder → Bool
+has_deltas coder.Rice = false
 has_deltas coder.One = false
 has_deltas (coder.Two ds) = true
 
 pub same_coder : (a b : Coder) → Decides (is_same_coder a b) (a ≡ b)
 unfolding deltas_in has_deltas
+same_coder coder.Rice coder.Rice = (λ e. refl, λ e. refl)
+same_coder coder.Rice coder.One = (λ e. absurd (true≢false (sym e)), λ e. sym (ap is_rice e))
+same_coder coder.Rice (coder.Two es) = (λ e. absurd (true≢false (sym e)), λ e. ap has_deltas e)
+same_coder coder.One coder.Rice = (λ e. absurd (true≢false (sym e)), λ e. ap is_rice e)
 same_coder coder.One coder.One = (λ e. refl, λ e. refl)
 same_coder coder.One (coder.Two es) = (λ e. absurd (true≢false (sym e)), λ e. ap has_deltas e)
+same_coder (coder.Two ds) coder.Rice =
+    (λ e. absurd (true≢false (sym e)), λ e. sym (ap has_deltas e))
 same_coder (coder.Two ds) coder.One = (λ e. absurd (true≢false (sym e)), λ e. sym (ap has_deltas e))
 same_coder (coder.Two ds) (coder.Two es) =
     Decides-like (pointwise int_eq ds es) (λ e. ap coder.Two e)

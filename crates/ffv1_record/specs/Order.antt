@@ -18,7 +18,8 @@ use Rattle.ffv1_record.specs.Sets.{AreSets}
 use Rattle.ffv1_record.specs.Writable.{AreDeltas, IsWritable}
 use Rattle.ffv1_record.specs.Parity.{remainder_of}
 use Rattle.ffv1_record.specs.declared.config.Profile.{Profile}
-use Rattle.ffv1_record.specs.Accepted.{IsFirstIn, IsTableFor, checks, is_depth}
+use Rattle.ffv1_record.specs.Accepted.{IsFirstIn, IsTableFor, checks, is_depth, least_coder}
+use Rattle.ffv1_record.specs.Accepted.{type_of}
 use Rattle.ffv1_record.specs.Reader.{Spot}
 use Rattle.ffv1_record.specs.Reading.{beginning, parameters}
 use Rattle.ffv1_record.specs.Record.{IsCoded, number_steps, truth_steps, deltas_steps, coder_steps}
@@ -68,12 +69,13 @@ AreBadDeltas steps f =
     × (steps ≡ number_steps 0 2 ++ deltas_steps ds) × (f ≡ fault.StateTable))
     )
 
--- coder_type 1 or 2, and the deltas
-abbrev pub coder_type : Parameter
-coder_type = record {
-  IsGood = λ bits c. ((t : Table) × IsTableFor c.coder t) × IsWritable c.coder;
+-- coder_type from `least` to 2, and the deltas
+abbrev pub coder_type : ℕ → Parameter
+coder_type least = record {
+  IsGood = λ bits c. ((t : Table) × IsTableFor c.coder t) × IsWritable c.coder
+      × (least ≤ type_of c.coder);
   steps = λ bits c. coder_steps c.coder;
-  Fails = λ c steps f. IsBadNumber 0 (λ n. (1 ≤ n) × (n ≤ 2)) fault.Coder steps f
+  Fails = λ c steps f. IsBadNumber 0 (λ n. (least ≤ n) × (n ≤ 2)) fault.Coder steps f
       ⊎ AreBadDeltas steps f;
 }
 
@@ -200,9 +202,9 @@ intra = record {
 }
 
 -- all of them, in the order of the record
-abbrev pub in_order : ℕ → List Parameter
-in_order most =
-    version ∷ micro_version ∷ coder_type ∷ colorspace_type ∷ bits_per_raw_sample most
+abbrev pub in_order : ℕ → ℕ → List Parameter
+in_order least most =
+    version ∷ micro_version ∷ coder_type least ∷ colorspace_type ∷ bits_per_raw_sample most
     ∷ chroma_planes ∷ log2_h_chroma_subsample ∷ log2_v_chroma_subsample ∷ extra_plane ∷ num_h_slices
     ∷ num_v_slices ∷ quant_table_set_count ∷ quant_table_sets ∷ states_coded ∷ ec ∷ intra ∷ []
 
@@ -221,6 +223,8 @@ IsRefusedBy p most bytes width height f =
     ((length bytes < 5) × (f ≡ fault.Short))
     ⊎ ((remainder_of bytes ≢ 0) × (f ≡ fault.Parity))
     ⊎ ((65280 ≤ value (body_of bytes) 2) × (f ≡ fault.BadStart))
-    ⊎ ((bits : ℕ) × (c : Configuration) × FirstBad (in_order most) (body_of bytes) [] bits c f)
+    ⊎ ((bits : ℕ) × (c : Configuration)
+    × FirstBad (in_order (least_coder p) most) (body_of bytes) [] bits c f)
     ⊎ ((c : Configuration) × (t : Spot)
-    × parameters most width height (body_of bytes) beginning (Ok (c, t)) × IsFirstIn p checks c f)
+    × parameters (least_coder p) most width height (body_of bytes) beginning (Ok (c, t))
+    × IsFirstIn p checks c f)

@@ -15,7 +15,7 @@ use Rattle.ffv1_record.specs.declared.planes.Planes.{Planes}
 use Rattle.ffv1_record.specs.Parity.{remainder_of}
 use Rattle.ffv1_record.specs.Configuration.{Configuration}
 use Rattle.ffv1_record.specs.declared.config.Profile.{Profile}
-use Rattle.ffv1_record.specs.Accepted.{IsFirstIn, checks, is_depth}
+use Rattle.ffv1_record.specs.Accepted.{IsFirstIn, checks, is_depth, least_coder}
 use Rattle.ffv1_record.specs.Record.{body_of, depth_of}
 use Rattle.ffv1_record.specs.Reader.{Reader, Spot, ◌>>=◌, done, require, next_table, number}
 use Rattle.ffv1_record.specs.Reader.{signed_number, truth, number_within, makes_table}
@@ -29,17 +29,19 @@ deltas_onto (suc k) ds = do
 
 -- the deltas of coder_type 2, judged after the last
 abbrev pub coder_of : ℕ → Reader Coder
+coder_of zero = done coder.Rice
 coder_of (suc zero) = done coder.One
 coder_of kind = do
   ds ← deltas_onto 255 []
   _ ← makes_table ds
   done (coder.Two ds)
 
-abbrev pub opening : Reader Coder
-opening = do
+-- version, micro_version and coder, of which the least type is given
+abbrev pub opening : ℕ → Reader Coder
+opening least = do
   _ ← number_within 0 3 3 fault.Version
   _ ← number_within 0 4 4 fault.MicroVersion
-  kind ← number_within 0 1 2 fault.Coder
+  kind ← number_within 0 least 2 fault.Coder
   coder_of kind
 
 abbrev pub colour_of : ℕ → Colour
@@ -128,9 +130,9 @@ tables = do
   done ss
 
 -- the parameters before the first set, of which the last says how many sets there are
-abbrev pub before_sets : ℕ → Reader ℕ
-before_sets most = do
-  _ ← opening
+abbrev pub before_sets : ℕ → ℕ → Reader ℕ
+before_sets least most = do
+  _ ← opening least
   _ ← planes most
   _ ← count_of
   _ ← count_of
@@ -148,9 +150,9 @@ first_sets_run = do
   _ ← number_within 0 1 8 fault.Sets
   first_run
 
-abbrev pub up_to_run : ℕ → Reader ℕ
-up_to_run most = do
-  _ ← opening
+abbrev pub up_to_run : ℕ → ℕ → Reader ℕ
+up_to_run least most = do
+  _ ← opening least
   _ ← planes most
   _ ← count_of
   _ ← count_of
@@ -162,10 +164,10 @@ flag f = do
   n ← number_within 0 0 1 f
   done (n == 1)
 
--- all parameters, with a depth up to `most`, of pictures of a size
-abbrev pub parameters : ℕ → ℕ → ℕ → Reader Configuration
-parameters most width height = do
-  coder ← opening
+-- all parameters, with a coder_type from `least` on and a depth up to `most`, of pictures of a size
+abbrev pub parameters : ℕ → ℕ → ℕ → ℕ → Reader Configuration
+parameters least most width height = do
+  coder ← opening least
   p ← planes most
   columns ← count_of
   rows ← count_of
@@ -197,9 +199,10 @@ beginning = record { past = []; fresh = 32 }
 abbrev pub IsMet : Profile → ℕ → List ℕ → ℕ → ℕ → RecordFault → Type 0
 IsMet p most bytes width height f =
     ((65280 ≤ value (body_of bytes) 2) × (f ≡ fault.BadStart))
-    ⊎ parameters most width height (body_of bytes) beginning (Err f)
+    ⊎ parameters (least_coder p) most width height (body_of bytes) beginning (Err f)
     ⊎ ((c : Configuration) × (t : Spot)
-    × parameters most width height (body_of bytes) beginning (Ok (c, t)) × IsFirstIn p checks c f)
+    × parameters (least_coder p) most width height (body_of bytes) beginning (Ok (c, t))
+    × IsFirstIn p checks c f)
 
 -- the bytes are no record of a configuration of this size, in a profile, with a depth up to `most`,
 -- and this is the first fault
@@ -209,31 +212,31 @@ IsRefused p most bytes width height f =
     ⊎ ((5 ≤ length bytes) × (remainder_of bytes ≢ 0) × (f ≡ fault.Parity))
     ⊎ ((5 ≤ length bytes) × (remainder_of bytes ≡ 0) × IsMet p most bytes width height f)
 
--- the bytes are no record with a depth up to `most`, and this fault stands before the first set: it
--- is answered whatever memory there is
-abbrev pub IsRefusedBeforeSets : ℕ → List ℕ → RecordFault → Type 0
-IsRefusedBeforeSets most bytes f =
+-- the bytes are no record in a profile with a depth up to `most`, and this fault stands before the
+-- first set: it is answered whatever memory there is
+abbrev pub IsRefusedBeforeSets : Profile → ℕ → List ℕ → RecordFault → Type 0
+IsRefusedBeforeSets p most bytes f =
     ((length bytes < 5) × (f ≡ fault.Short))
     ⊎ ((5 ≤ length bytes) × (remainder_of bytes ≢ 0) × (f ≡ fault.Parity))
     ⊎ ((5 ≤ length bytes) × (remainder_of bytes ≡ 0) × (65280 ≤ value (body_of bytes) 2)
     × (f ≡ fault.BadStart))
     ⊎ ((5 ≤ length bytes) × (remainder_of bytes ≡ 0)
-    × before_sets most (body_of bytes) beginning (Err f))
+    × before_sets (least_coder p) most (body_of bytes) beginning (Err f))
 
 -- no fault stands before the first set: from there on memory is taken
-pub record ReachesSets (most : ℕ) (bytes : List ℕ) : Type 0 where
+pub record ReachesSets (p : Profile) (most : ℕ) (bytes : List ℕ) : Type 0 where
   pub long : 5 ≤ length bytes
   pub whole : remainder_of bytes ≡ 0
   pub start : value (body_of bytes) 2 < 65280
   pub count : ℕ
   pub behind : Spot
-  pub read : before_sets most (body_of bytes) beginning (Ok (count, behind))
+  pub read : before_sets (least_coder p) most (body_of bytes) beginning (Ok (count, behind))
 
 -- no fault stands before the first set, nor at the first run of it: from there on memory is taken
-pub record ReachesRun (most : ℕ) (bytes : List ℕ) : Type 0 where
+pub record ReachesRun (p : Profile) (most : ℕ) (bytes : List ℕ) : Type 0 where
   pub long : 5 ≤ length bytes
   pub whole : remainder_of bytes ≡ 0
   pub start : value (body_of bytes) 2 < 65280
   pub run : ℕ
   pub behind : Spot
-  pub read : up_to_run most (body_of bytes) beginning (Ok (run, behind))
+  pub read : up_to_run (least_coder p) most (body_of bytes) beginning (Ok (run, behind))

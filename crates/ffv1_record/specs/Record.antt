@@ -34,6 +34,7 @@ deltas_steps (d ∷ ds) = signed_number_steps d ++ deltas_steps ds
 
 -- coder_type, and the deltas of the state transition table
 abbrev pub coder_steps : Coder → List Step
+coder_steps coder.Rice = number_steps 0 0
 coder_steps coder.One = number_steps 0 1
 coder_steps (coder.Two deltas) = number_steps 0 2 ++ deltas_steps deltas
 

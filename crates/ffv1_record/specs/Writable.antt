@@ -10,5 +10,6 @@ AreDeltas (d ∷ ds) = (unsigned_abs d < 2 ^ 31) × AreDeltas ds
 
 -- there are 255 deltas, each with a symbol
 abbrev pub IsWritable : Coder → Type 0
+IsWritable coder.Rice = Unit {0}
 IsWritable coder.One = Unit {0}
 IsWritable (coder.Two deltas) = (length deltas ≡ 255) × AreDeltas deltas

@@ -13,7 +13,7 @@ ghost use Rattle.ffv1_record.specs.Accepted.{is_sized, is_subsampled, is_transpa
 ghost use Rattle.ffv1_record.specs.Accepted.{is_divided, IsTableFor, AreMultiples, AreReached};
 ghost use Rattle.ffv1_record.specs.Accepted.{are_multiples, IsFirst, PassesIn, PassesAll};
 ghost use Rattle.ffv1_record.specs.Accepted.{checks, IsAccepted, IsFirstUpTo, is_depth, has_depth};
-ghost use Rattle.ffv1_record.specs.Accepted.{deepest, reduced};
+ghost use Rattle.ffv1_record.specs.Accepted.{deepest, reduced, least_coder, has_coder};
 
 use crate::checked::Checked;
 use crate::fault::RecordFault;
@@ -21,9 +21,11 @@ use crate::sets::Sets;
 use ffv1_range::StateTable;
 use std::alloc::{Allocator, Global};
 
-/// Which state transition table there is (RFC 9043, 4.2.3 and 4.2.4).
+/// How samples are coded, and which state transition table there is (RFC 9043, 4.2.3 and 4.2.4).
 #[derive(Clone, Copy, Debug)]
 pub enum Coder {
+    /// Golomb-Rice coded samples of 8 bits; keys and heads are range coded by the standard's.
+    Rice,
     /// The standard's.
     One,
     /// The standard's changed by deltas, that of state 1 first.
@@ -48,7 +50,7 @@ pub enum Profile {
     Strict,
     /// Each depth up to a greatest one, and also a head of which just one of these numbers is 0: it
     /// is read as 0:0, unknown. Slices may share a column or a line of chroma, if each column
-    /// and each line of it lies in a slice.
+    /// and each line of it lies in a slice. Samples of 8 bits may be Golomb-Rice coded.
     Wide,
 }
 
@@ -60,7 +62,7 @@ pub struct Config<A: Allocator = Global> {
     pub width: u32,
     /// Their height, 1 to 8192.
     pub height: u32,
-    /// The state transition table.
+    /// How samples are coded, and the state transition table.
     pub coder: Coder,
     /// How colours are coded.
     pub colour: Colour,
@@ -126,6 +128,7 @@ impl Coder {
             (λ f. (f ≡ RecordFault.StateTable) × ((t : Table) → IsTableFor self.now t → ⊥)) }
     {
         match self {
+            Coder::Rice => Ok(StateTable::standard()),
             Coder::One => Ok(StateTable::standard()),
             // Both arms are written out, so that the clauses are proved by arm.
             Coder::Two(deltas) => match table_of(deltas) {
@@ -199,6 +202,17 @@ pub(crate) fn deepest(profile: Profile, most: u32) -> u32
     match profile {
         Profile::Strict => 8,
         Profile::Wide => most,
+    }
+}
+
+/// The least coder_type of a profile: 1 in `Strict`, and in `Wide` 0, Golomb-Rice.
+pub(crate) fn least_coder(profile: Profile) -> u32
+    ensures value { result ≡ least_coder profile }
+    ensures few { result ≤ 1 }
+{
+    match profile {
+        Profile::Strict => 1,
+        Profile::Wide => 0,
     }
 }
 
@@ -308,6 +322,19 @@ impl<A: Allocator> Config<A> {
         }
     }
 
+    /// Whether a profile has the coder, for samples of `depth` bits: Golomb-Rice coded ones have 8,
+    /// and `Strict` has none.
+    fn has_coder(&self, profile: Profile, depth: u32) -> bool
+        ensures { result ≡ has_coder profile (at_depth (configuration_of self.now) depth) }
+    {
+        match (profile, &self.coder) {
+            (Profile::Strict, Coder::Rice) => false,
+            (Profile::Wide, Coder::Rice) => depth == 8,
+            (_, Coder::One) => true,
+            (_, Coder::Two(_deltas)) => true,
+        }
+    }
+
     /// The state transition table of a configuration that is accepted in a profile with a depth of
     /// at most `most`. Refuses as `check_in` does.
     fn judged(&self, profile: Profile, depth: u32, most: u32) -> Result<StateTable, RecordFault>
@@ -375,13 +402,16 @@ impl<A: Allocator> Config<A> {
         if !self.is_aligned(profile) {
             return Err(RecordFault::ChromaEdge);
         }
+        if !self.has_coder(profile, depth) {
+            return Err(RecordFault::Coder);
+        }
         Ok(table)
     }
 
     /// The configuration, checked in the profile `Strict`. Refuses with the first of these that
-    /// stands: `Size`, `Subsampling`, `ExtraPlane`, `Sets`, `StateTable`, `Grid`, `ChromaEdge`, the
-    /// last if an inner edge is no multiple of its chroma factor; else accepts. It takes no
-    /// memory.
+    /// stands: `Size`, `Subsampling`, `ExtraPlane`, `Sets`, `StateTable`, `Grid`, `ChromaEdge`, if
+    /// an inner edge is no multiple of its chroma factor, and `Coder`, if samples are Golomb-Rice
+    /// coded; else accepts. It takes no memory.
     pub fn check(self) -> Result<Checked<A>, RecordFault>
         ensures ok { IfOk result (λ c. c.configuration ≡ configuration_of self) }
         ensures profile { IfOk result (λ c. c.profile ≡ Profile.Strict) }
@@ -399,10 +429,11 @@ impl<A: Allocator> Config<A> {
     /// The configuration, checked in a profile, for samples of `depth` bits; it keeps both. `most`
     /// is the greatest depth that the profile `Wide` accepts. Refuses with the first of these that
     /// stands: `Size`, `Depth`, `Subsampling`, `ExtraPlane`, `Sets`, `StateTable`, `Grid`,
-    /// `ChromaEdge`; else accepts. `Depth` comes in `Strict` if the depth is not 8, and in
+    /// `ChromaEdge`, `Coder`; else accepts. `Depth` comes in `Strict` if the depth is not 8, and in
     /// `Wide` if it is not 8, 9, 10, 12, 14 or 16, or is above `most`. `ChromaEdge` comes in
     /// `Strict` if an inner edge is no multiple of its chroma factor, and in `Wide` if a column
-    /// or a line of chroma lies in no slice. It takes no memory.
+    /// or a line of chroma lies in no slice. `Coder` comes if samples are Golomb-Rice coded, in
+    /// `Strict`, and in `Wide` if the depth is not 8. It takes no memory.
     pub fn check_in(
         self,
         profile: Profile,

@@ -25,6 +25,7 @@ impl PartialEq for Coder {
         ensures same { IsTrue result ↔ (self.now ≡ other.now) }
     {
         match (self, other) {
+            (Coder::Rice, Coder::Rice) => true,
             (Coder::One, Coder::One) => true,
             (Coder::Two(deltas), Coder::Two(others)) => deltas.as_slice() == others.as_slice(),
             _ => false,

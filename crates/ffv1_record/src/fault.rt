@@ -58,7 +58,7 @@ pub enum RecordFault {
     /// The micro version is not 4.
     #[error("18 MicroVersion")]
     MicroVersion,
-    /// The coder type is not 1 or 2.
+    /// The coder type is not 1 or 2; in `Wide` also not 0, or 0 of samples of more than 8 bits.
     #[error("19 Coder")]
     Coder,
     /// The colour space type is not 0 or 1.

@@ -3,7 +3,7 @@
 ghost use Rattle.std.specs.Prelude.{◌≡◌, ◌≢◌, ℕ, ◌-◌, ◌*◌, ◌^◌, ◌≤◌, List, [], ◌∷◌, IfOk, IfErr};
 ghost use Rattle.std.specs.Prelude.{length, OnOk};
 ghost use Rattle.ffv1_record.specs.declared.fault.RecordFault.{RecordFault};
-ghost use Rattle.ffv1_record.specs.Accepted.{deepest};
+ghost use Rattle.ffv1_record.specs.Accepted.{deepest, least_coder};
 ghost use Rattle.ffv1_plane.specs.Quantisation.{contexts_of};
 ghost use Rattle.ffv1_record.specs.declared.fault.RecordFault.TheVariants as fault;
 ghost use Rattle.ffv1_record.specs.Reading.{table, set, sets_onto, tables, parameters};
@@ -124,12 +124,14 @@ fn judge_parameters<A: Allocator + Copy>(
     reader: &mut RecordReader<'_>,
     width: u32,
     height: u32,
+    profile: Profile,
     most: u32,
 ) -> Result<Outline<A>, RecordFault>
-    ensures judges { Judges Outlines (parameters most width height) reader.old reader.new result }
+    ensures judges { Judges Outlines (parameters (least_coder profile) most width height)
+        reader.old reader.new result }
     ensures told { IfErr result (λ f. f ≢ fault.OutOfMemory) }
 {
-    let coder = read_opening(reader)?;
+    let coder = read_opening(reader, profile)?;
     let planes = read_planes(reader, most)?;
     let columns = read_count(reader)?;
     let rows = read_count(reader)?;
@@ -183,7 +185,7 @@ pub(crate) fn judge_record<A: Allocator + Copy>(
     }
     let mut reader = RecordReader::new(&bytes[..bytes.len() - 4])?;
     let greatest = deepest(profile, most);
-    let outline = judge_parameters(alloc, &mut reader, width, height, greatest)?;
+    let outline = judge_parameters(alloc, &mut reader, width, height, profile, greatest)?;
     let Outline {
         config,
         depth,

@@ -1,13 +1,14 @@
 //! Laws of the definitions, each the contract of a function that does nothing.
 
 ghost use Rattle.std.specs.Prelude.{Err, true, false, [], slice_index_or, ◌≡◌, ◌↔◌, ℕ, ◌*◌, ◌^◌};
-ghost use Rattle.std.specs.Prelude.{◌<◌, ◌≤◌, ◌⊎◌, ◌++◌, List, length, bit_xor};
+ghost use Rattle.std.specs.Prelude.{◌<◌, ◌≤◌, ◌≢◌, ◌⊎◌, ◌++◌, List, length, bit_xor};
 ghost use Rattle.std.specs.List.{Contains};
 ghost use Rattle.ffv1_range.specs.Codes.{AreBytes, value, digits};
 ghost use Rattle.ffv1_record.specs.Configuration.{Configuration};
 ghost use Rattle.ffv1_record.specs.Parity.{remainder_of, parity_of};
 ghost use Rattle.ffv1_range.specs.Table.{Table, IsTable};
 ghost use Rattle.ffv1_plane.specs.Quantisation.{IsSet};
+ghost use Rattle.ffv1_record.specs.declared.config.Coder.TheVariants as coder;
 ghost use Rattle.ffv1_record.specs.declared.config.Colour.TheVariants as colour;
 ghost use Rattle.ffv1_record.specs.declared.fault.RecordFault.{RecordFault};
 ghost use Rattle.ffv1_record.specs.Sets.{AreSets, most_contexts};
@@ -15,6 +16,7 @@ ghost use Rattle.ffv1_record.specs.declared.config.Profile.{Profile};
 ghost use Rattle.ffv1_record.specs.declared.config.Profile.TheVariants as profile;
 ghost use Rattle.ffv1_record.specs.Accepted.{IsAccepted, IsTableFor, AreMultiples, AreReached};
 ghost use Rattle.ffv1_record.specs.Accepted.{are_multiples, IsFirstIn, PassesIn, PassesAll, checks};
+ghost use Rattle.ffv1_record.specs.Accepted.{least_coder};
 ghost use Rattle.ffv1_record.specs.Writable.{IsWritable};
 ghost use Rattle.ffv1_record.specs.Order.{FirstBad, IsRefusedBy, in_order};
 ghost use Rattle.ffv1_record.specs.Reading.{beginning, parameters, IsRefused, IsRefusedBeforeSets};
@@ -87,9 +89,9 @@ pub fn record_has_one_configuration()
 pub fn faults_before_sets_need_no_memory()
     ensures refused { (p : Profile) (most : ℕ) (bytes : List ℕ) (width height : ℕ)
         (f : RecordFault) →
-        IsRefusedBeforeSets most bytes f → IsRefused p most bytes width height f }
-    ensures apart { (most : ℕ) (bytes : List ℕ) (f : RecordFault) → AreBytes bytes →
-        ReachesSets most bytes → IsRefusedBeforeSets most bytes f → ⊥ }
+        IsRefusedBeforeSets p most bytes f → IsRefused p most bytes width height f }
+    ensures apart { (p : Profile) (most : ℕ) (bytes : List ℕ) (f : RecordFault) →
+        AreBytes bytes → ReachesSets p most bytes → IsRefusedBeforeSets p most bytes f → ⊥ }
 {}
 
 /// Bytes are refused for one reason at most in a profile, and none that are a record of an accepted
@@ -103,7 +105,7 @@ pub fn bytes_are_refused_for_one_reason()
         c.depth ≤ most → IsRecord bytes c → IsRefused p most bytes c.width c.height f → ⊥ }
 {}
 
-/// Which fault `Config::check` tells, and in a profile `Config::check_in`: one of its own seven,
+/// Which fault `Config::check` tells, and in a profile `Config::check_in`: one of its own eight,
 /// the one of which the configuration does not meet what it has to, and none of the faults of
 /// reading.
 pub fn first_fault_is_an_unmet_check()
@@ -158,6 +160,10 @@ pub fn accepted_configuration_has_sound_parts()
         most_contexts c.sets ≤ 32768 }
     ensures coder { (c : Configuration) (t : Table) → IsAccepted c t →
         IsTableFor c.coder t × IsTable t.floor t.one × IsWritable c.coder }
+    ensures rice { (c : Configuration) (t : Table) → IsAccepted c t → c.coder ≡ coder.Rice →
+        c.depth ≡ 8 }
+    ensures strict { (c : Configuration) → PassesAll profile.Strict checks c →
+        c.coder ≢ coder.Rice }
 {}
 
 /// The first parameter that is not good, in the order of the record, is the fault that is answered:
@@ -165,18 +171,20 @@ pub fn accepted_configuration_has_sound_parts()
 /// in its place. And the other way round: a reading of parameters that is refused has such a first
 /// one, and so has a record that is refused for nothing else.
 pub fn first_bad_parameter_is_the_fault()
-    ensures read { (most : ℕ) (bytes : List ℕ) (width height bits : ℕ)
+    ensures read { (p : Profile) (most : ℕ) (bytes : List ℕ) (width height bits : ℕ)
         (c : Configuration) (f : RecordFault) →
-        AreBytes bytes → FirstBad (in_order most) bytes [] bits c f →
-        parameters most width height bytes beginning (Err f) }
+        AreBytes bytes → FirstBad (in_order (least_coder p) most) bytes [] bits c f →
+        parameters (least_coder p) most width height bytes beginning (Err f) }
     ensures refused { (p : Profile) (most : ℕ) (bytes : List ℕ) (width height bits : ℕ)
         (c : Configuration) (f : RecordFault) →
         AreBytes bytes → 5 ≤ length bytes → remainder_of bytes ≡ 0 →
-        FirstBad (in_order most) (body_of bytes) [] bits c f →
+        FirstBad (in_order (least_coder p) most) (body_of bytes) [] bits c f →
         IsRefused p most bytes width height f }
-    ensures found { (most : ℕ) (bytes : List ℕ) (width height : ℕ) (f : RecordFault) →
-        parameters most width height bytes beginning (Err f) →
-        (bits : ℕ) × (c : Configuration) × FirstBad (in_order most) bytes [] bits c f }
+    ensures found { (p : Profile) (most : ℕ) (bytes : List ℕ) (width height : ℕ)
+        (f : RecordFault) →
+        parameters (least_coder p) most width height bytes beginning (Err f) →
+        (bits : ℕ) × (c : Configuration)
+        × FirstBad (in_order (least_coder p) most) bytes [] bits c f }
     ensures because { (p : Profile) (most : ℕ) (bytes : List ℕ) (width height : ℕ)
         (f : RecordFault) →
         IsRefused p most bytes width height f → IsRefusedBy p most bytes width height f }

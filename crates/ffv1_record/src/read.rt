@@ -6,7 +6,7 @@ ghost use Rattle.std.specs.Prelude.{Err, true};
 ghost use Rattle.ffv1_record.specs.declared.fault.RecordFault.TheVariants as fault;
 ghost use Rattle.ffv1_record.specs.Configuration.{Configuration, configuration_of, at_depth};
 ghost use Rattle.ffv1_record.specs.Accepted.{IsAccepted, PassesAll, checks, deepest, is_depth};
-ghost use Rattle.ffv1_record.specs.Accepted.{has_depth};
+ghost use Rattle.ffv1_record.specs.Accepted.{has_depth, least_coder};
 ghost use Rattle.ffv1_record.specs.Record.{IsRecord, depth_of};
 ghost use Rattle.ffv1_record.specs.Reader.{truth, number_within};
 ghost use Rattle.ffv1_record.specs.Reading.{deltas_onto, opening, depth, colour_of, planes};
@@ -19,7 +19,7 @@ ghost use Rattle.ffv1_range.specs.Table.{Table};
 ghost use Rattle.ffv1_plane.specs.Quantisation.{is_filled, are_filled, contexts_of};
 
 use crate::checked::Checked;
-use crate::config::{Coder, Colour, Config, Profile, deepest, is_depth};
+use crate::config::{Coder, Colour, Config, Profile, deepest, is_depth, least_coder};
 use crate::fault::RecordFault;
 use crate::judge::judge_record;
 use crate::laws;
@@ -43,14 +43,21 @@ fn read_deltas(reader: &mut RecordReader<'_>) -> Result<[i32; 255], RecordFault>
     Ok(deltas)
 }
 
-/// Version, micro_version, coder_type and deltas.
-pub(crate) fn read_opening(reader: &mut RecordReader<'_>) -> Result<Coder, RecordFault>
-    ensures gives { Gives (λ c. c) opening reader.old reader.new result }
+/// Version, micro_version, coder_type, which is one of the profile, and deltas.
+pub(crate) fn read_opening(
+    reader: &mut RecordReader<'_>,
+    profile: Profile,
+) -> Result<Coder, RecordFault>
+    ensures gives { Gives (λ c. c) (opening (least_coder profile)) reader.old reader.new result }
     ensures told { IfErr result (λ f. f ≢ fault.OutOfMemory) }
 {
     reader.number_within(3, 3, RecordFault::Version)?;
     reader.number_within(4, 4, RecordFault::MicroVersion)?;
-    let kind = reader.number_within(1, 2, RecordFault::Coder)?;
+    let least = least_coder(profile);
+    let kind = reader.number_within(least, 2, RecordFault::Coder)?;
+    if kind == 0 {
+        return Ok(Coder::Rice);
+    }
     if kind == 1 {
         return Ok(Coder::One);
     }
@@ -255,21 +262,23 @@ pub(crate) fn read_flag(
     Ok(number == 1)
 }
 
-/// All parameters: a configuration and its depth, which is at most `most`.
+/// All parameters in a profile: a configuration and its depth, which is at most `most`.
 fn read_parameters<A: Allocator + Copy>(
     alloc: A,
     reader: &mut RecordReader<'_>,
     width: u32,
     height: u32,
+    profile: Profile,
     most: u32,
 ) -> Result<(Config<A>, u32), RecordFault>
     ensures gives { Gives (λ r. at_depth (configuration_of r.0) r.1)
-        (parameters most width height) reader.old reader.new result }
-    ensures memory { IfErr result
-        (λ f. f ≡ fault.OutOfMemory → IsRead (before_sets most) reader.old) }
-    ensures run { IfErr result (λ f. f ≡ fault.OutOfMemory → IsRead (up_to_run most) reader.old) }
+        (parameters (least_coder profile) most width height) reader.old reader.new result }
+    ensures memory { IfErr result (λ f. f ≡ fault.OutOfMemory →
+        IsRead (before_sets (least_coder profile) most) reader.old) }
+    ensures run { IfErr result (λ f. f ≡ fault.OutOfMemory →
+        IsRead (up_to_run (least_coder profile) most) reader.old) }
 {
-    let coder = read_opening(reader)?;
+    let coder = read_opening(reader, profile)?;
     let planes = read_planes(reader, most)?;
     let columns = read_count(reader)?;
     let rows = read_count(reader)?;
@@ -315,8 +324,10 @@ pub fn read_record<A: Allocator + Copy>(
         MatchResult result (λ r. r.configuration ≡ c) (λ f. f ≡ fault.OutOfMemory) }
     ensures exact { IfErr result
         (λ f. (f ≡ fault.OutOfMemory) ⊎ IsRefused Profile.Strict 8 bytes.now width height f) }
-    ensures memory { IfErr result (λ f. f ≡ fault.OutOfMemory → ReachesSets 8 bytes.now) }
-    ensures run { IfErr result (λ f. f ≡ fault.OutOfMemory → ReachesRun 8 bytes.now) }
+    ensures memory { IfErr result (λ f. f ≡ fault.OutOfMemory →
+        ReachesSets Profile.Strict 8 bytes.now) }
+    ensures run { IfErr result (λ f. f ≡ fault.OutOfMemory →
+        ReachesRun Profile.Strict 8 bytes.now) }
     ensures sound { IfErr result (λ f. f ≡ fault.OutOfMemory → (g : RecordFault) →
         IsRefused Profile.Strict 8 bytes.now width height g → ⊥) }
 {
@@ -350,9 +361,9 @@ fn read_whole<A: Allocator + Copy>(
     ensures exact { IfErr result (λ f. (f ≡ fault.OutOfMemory)
         ⊎ IsRefused profile (deepest profile most) bytes.now width height f) }
     ensures memory { IfErr result
-        (λ f. f ≡ fault.OutOfMemory → ReachesSets (deepest profile most) bytes.now) }
+        (λ f. f ≡ fault.OutOfMemory → ReachesSets profile (deepest profile most) bytes.now) }
     ensures run { IfErr result
-        (λ f. f ≡ fault.OutOfMemory → ReachesRun (deepest profile most) bytes.now) }
+        (λ f. f ≡ fault.OutOfMemory → ReachesRun profile (deepest profile most) bytes.now) }
 {
     if bytes.len() < 5 {
         return Err(RecordFault::Short);
@@ -363,7 +374,7 @@ fn read_whole<A: Allocator + Copy>(
     }
     let mut reader = RecordReader::new(&bytes[..bytes.len() - 4])?;
     let greatest = deepest(profile, most);
-    let read = read_parameters(alloc, &mut reader, width, height, greatest)?;
+    let read = read_parameters(alloc, &mut reader, width, height, profile, greatest)?;
     let (config, depth) = read;
     // Both arms are written out, so that the clauses are proved by arm.
     match config.check_in(profile, depth, most) {
@@ -380,7 +391,8 @@ fn read_whole<A: Allocator + Copy>(
 /// not 0; else with `BadStart` if the first two are 65280 or more; else with the first in the order
 /// of the bytes of `SymbolTooLong`, `Version` to `ExtraPlane`, `StateTable`, `Runs`, `Contexts` and
 /// `Sets`, each judged when its symbol has been read, the deltas after their last; else with the
-/// first that `Config::check_in` finds. `Depth` comes in `Strict` if the bits of a sample are not 0
+/// first that `Config::check_in` finds. `Coder` comes at its symbol if that is neither 1 nor 2, nor
+/// in `Wide` 0. `Depth` comes in `Strict` if the bits of a sample are not 0
 /// or 8, and in `Wide` if they are not 0, 8, 9, 10, 12, 14 or 16, or are above `most`. `ChromaEdge`
 /// comes in `Strict` if an inner edge of the slices is no multiple of its chroma factor, and in
 /// `Wide` if a column or a line of chroma lies in no slice. `OutOfMemory` if a growth was refused,
@@ -410,9 +422,9 @@ pub fn read_record_in<A: Allocator + Copy>(
     ensures exact { IfErr result (λ f. (f ≡ fault.OutOfMemory)
         ⊎ IsRefused profile (deepest profile most) bytes.now width height f) }
     ensures memory { IfErr result
-        (λ f. f ≡ fault.OutOfMemory → ReachesSets (deepest profile most) bytes.now) }
+        (λ f. f ≡ fault.OutOfMemory → ReachesSets profile (deepest profile most) bytes.now) }
     ensures run { IfErr result
-        (λ f. f ≡ fault.OutOfMemory → ReachesRun (deepest profile most) bytes.now) }
+        (λ f. f ≡ fault.OutOfMemory → ReachesRun profile (deepest profile most) bytes.now) }
     ensures sound { IfErr result (λ f. f ≡ fault.OutOfMemory → (g : RecordFault) →
         IsRefused profile (deepest profile most) bytes.now width height g → ⊥) }
 {

@@ -53,6 +53,10 @@ fn write_coder<A: Allocator>(writer: &mut RecordWriter<A>, coder: &Coder) -> Res
     ensures err { IfErr result (λ f. f ≡ fault.OutOfMemory) }
 {
     match coder {
+        Coder::Rice => {
+            writer.number(0)?;
+            return Ok(());
+        }
         Coder::One => {
             writer.number(1)?;
             return Ok(());

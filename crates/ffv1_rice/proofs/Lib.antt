@@ -8,6 +8,7 @@ pub mod RunIndex
 pub mod Runs
 pub mod RunsOn
 pub mod Rows
+pub mod RowAlike
 pub mod RowAnswers
 pub mod RowCodes
 pub mod RowLength

@@ -148,3 +148,9 @@ AreContexts contexts (p ∷ ps) = (p.context < contexts) × AreContexts contexts
 -- a run that goes on is not yet whole
 abbrev pub IsRunning : ℕ → Option ℕ → Type 0
 IsRunning index run = (n : ℕ) → run ≡ Some n → n < 2 ^ run_log index
+
+-- two coders know the same: of so many contexts, of the index and of the run
+pub record KnowSame (contexts : ℕ) (c d : Coder) : Type 0 where
+  pub states : (k : ℕ) → k < contexts → c.states k ≡ d.states k
+  pub index : c.index ≡ d.index
+  pub run : c.run ≡ d.run

@@ -38,6 +38,10 @@ abbrev pub reading_of : Set → ℕ → List ℕ → List ℕ → Coder → List
 reading_of set depth two one start text =
     record { set = set; depth = depth; two = two; one = one; start = start; text = text }
 
+-- the same by another coder
+abbrev pub read_by : Reading → Coder → Reading
+read_by r start = reading_of r.set r.depth r.two r.one start r.text
+
 abbrev pub coder_of : (ℕ → State) → ℕ → Option ℕ → Coder
 coder_of states index run = record { states = states; index = index; run = run }
 

@@ -8,11 +8,15 @@ ghost use Rattle.ffv1_rice.specs.Number.{number_bits, Ends, IsBad};
 ghost use Rattle.ffv1_rice.specs.States.{IsState, parameter};
 ghost use Rattle.ffv1_rice.specs.Scalar.{scalar_bits, scalar_after};
 ghost use Rattle.ffv1_rice.specs.Row.{Coder, Place, row_bits, place_bits, IsRunning};
-ghost use Rattle.ffv1_rice.specs.Row.{AreAlike, AreContexts, AreFolded, places_after};
-ghost use Rattle.ffv1_rice.specs.Rows.{AreSamples, CodesRow, IsRefused, Reading};
+ghost use Rattle.ffv1_rice.specs.Row.{AreAlike, AreContexts, AreFolded, places_after, places_of};
+ghost use Rattle.ffv1_rice.specs.Row.{KnowSame};
+ghost use Rattle.ffv1_plane.specs.Quantisation.{IsSet, Set, contexts_of};
+ghost use Rattle.ffv1_rice.specs.Rows.{AreSamples, CodesRow, IsRefused, Reading, read_by};
 ghost use Rattle.ffv1_rice.specs.Bits.{bits_of, IsPadding};
 ghost use Rattle.ffv1_rice.specs.Run.{run_log};
 ghost use Rattle.ffv1_rice.specs.declared.fault.Fault.{Fault};
+
+use ffv1_plane::laws as plane_laws;
 
 /// Bits begin with one number at most.
 pub fn bits_begin_with_one_number()
@@ -131,6 +135,27 @@ pub fn row_takes_few_bits()
         ((k : ℕ) → k < contexts → IsState depth (c.states k)) →
         length (row_bits depth c ps) ≤ (27 + depth) * length ps }
 {}
+
+/// A row is coded by the states of the contexts of its set alone: coders that know the same of
+/// them have the same bits for it, know the same behind it, and are refused alike.
+pub fn a_row_needs_its_contexts_alone()
+    ensures contexts { (set : Set) → IsSet set → (depth : ℕ) (two one row : List ℕ) (n : ℕ) →
+        AreContexts (contexts_of set) (places_of set depth two one row n) }
+    ensures bits { (depth contexts : ℕ) (c d : Coder) (ps : List Place) →
+        KnowSame contexts c d → AreContexts contexts ps →
+        row_bits depth c ps ≡ row_bits depth d ps }
+    ensures after { (depth contexts : ℕ) (c d : Coder) (ps : List Place) →
+        KnowSame contexts c d → AreContexts contexts ps →
+        KnowSame contexts (places_after depth c ps) (places_after depth d ps) }
+    ensures codes { (r : Reading) (start : Coder) (row : List ℕ) (rest : List Bool) →
+        IsSet r.set → KnowSame (contexts_of r.set) r.start start →
+        CodesRow r row rest → CodesRow (read_by r start) row rest }
+    ensures refused { (r : Reading) (start : Coder) (row : List ℕ) (x : ℕ) (fault : Fault) →
+        IsSet r.set → KnowSame (contexts_of r.set) r.start start →
+        IsRefused r row x fault → IsRefused (read_by r start) row x fault }
+{
+    plane_laws::contexts_stay_below_their_count();
+}
 
 /// Bits that are left after some others are those that are woken by how many they are.
 pub fn bits_that_are_left_are_the_last()

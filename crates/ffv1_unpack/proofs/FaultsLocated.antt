@@ -55,6 +55,9 @@ memory_other fault.Contexts h = refl
 memory_other fault.Colour h = refl
 memory_other fault.Overread h = refl
 memory_other fault.Ending h = refl
+memory_other fault.BitsEnd h = refl
+memory_other fault.BadCode h = refl
+memory_other fault.Padding h = refl
 memory_other fault.Size h = refl
 memory_other fault.Grid h = refl
 memory_other fault.ChromaEdge h = refl
@@ -110,6 +113,7 @@ memory_other fault.Encoded h = absurd (let no : Content ≡ Memory = h in cc)
 memory_other fault.Laced h = absurd (let no : Content ≡ Memory = h in cc)
 memory_other fault.Checksum h = absurd (let no : Content ≡ Memory = h in cc)
 memory_other fault.Rate h = refl
+memory_other fault.Another h = absurd (let no : Content ≡ Memory = h in cc)
 
 -- if the fault is none of the file's own, or the byte is not asked for, there is no line
 other_text : (byte : Bool) (i : ℕ) (f : Fault) (offset : ℕ) → is_file_fault f ≡ false → located_text byte i f offset ≡ []

@@ -19,6 +19,7 @@ use Rattle.ffv1_video.specs.Faults.{Cause, cause_of}
 use Rattle.ffv1_video.specs.Faults.Cause.{Reading, Writing, Memory, Content}
 use Rattle.ffv1_video.specs.Profiles.{byte_told, scope_in}
 use Rattle.ffv1_video.proofs.KnownTexts.{known_map, known_then}
+use Rattle.ffv1_files.specs.Noted.{no_notes}
 use Rattle.ffv1_unpack.specs.declared.judging.JudgedCounts.{JudgedCounts}
 use Rattle.ffv1_unpack.specs.Judged.{counts_line}
 use Rattle.ffv1_unpack.specs.JudgedItems.{CountFailsBy, ItemsAll, ItemsCame, ItemsDone, ItemsFault, ItemsFrom, ItemsGo, ItemsLack, ItemsNext, ItemsOver, ItemsStay, ItemsStopBy, ItemsThen, ItemsWant, ItemsWritten, JudgedItem, OfFrame, ToldAt, faults_of, frames_of, item_count, item_lines}
@@ -128,7 +129,7 @@ module _ (profile : Profile) (i0 i1 i2 : Option (List ℕ)) (ib im ia : ℕ) (r 
             ]
 
         pub items_done : (counts.frames ≡ 0 → counts.faults ≡ 0 → ⊥) → oa ≡ om → Appends o1 o2 (counts_line counts.frames counts.faults) →
-            ItemsDone profile place (between i0 i2 ib ia) (between o0 o2 ob oa) counts.first
+            ItemsDone profile place (between i0 i2 ib ia) (between o0 o2 ob oa) counts.first no_notes
         items_done some same writes = record {
           stream = stream_of r a;
           xs = xs;
@@ -137,6 +138,7 @@ module _ (profile : Profile) (i0 i1 i2 : Option (List ℕ)) (ib im ia : ℕ) (r 
           written = same ∙ all.wrote.written;
           writes = Appends-trans o0 o1 o2 lines (item_count xs) all.wrote.writes (written (same, writes));
           told = counted.first;
+          noted = refl;
         }
           where
             nothing : length xs ≡ 0 → ⊥

@@ -6,8 +6,8 @@ use Rattle.ffv1_wire.specs.Passage.{between}
 use Rattle.ffv1_record.specs.Accepted.{Accepted}
 use Rattle.ffv1_files.specs.declared.container.Scope.{Scope}
 use Rattle.ffv1_files.specs.Files.{open_read}
-use Rattle.ffv1_files.specs.Offsets.{Reached}
 use Rattle.ffv1_files.specs.Places.{Place}
+use Rattle.ffv1_files.specs.declared.notes.Notes.{Notes}
 use Rattle.ffv1_files.specs.Readers.{Standing}
 use Rattle.ffv1_reads.specs.Head.{Head}
 use Rattle.ffv1_reads.specs.Known.{Known}
@@ -16,15 +16,16 @@ use Rattle.ffv1_video.specs.declared.fault.Fault.{Fault}
 use Rattle.ffv1_video.specs.declared.fault.Fault.TheVariants as fault
 use Rattle.ffv1_video.specs.Faults.{Cause, cause_of}
 use Rattle.ffv1_video.specs.Faults.Cause.{Reading, Writing, Memory, Content}
+use Rattle.ffv1_unpack.specs.Behind.{NotedIn}
 use Rattle.ffv1_unpack.specs.Internal.Located.{LocatedAfter}
-use Rattle.ffv1_unpack.specs.Located.{LocatedFault, WritesLine, located_text}
+use Rattle.ffv1_unpack.specs.Located.{LocatedFault, Stands, WritesLine, located_text}
 use Rattle.ffv1_unpack.specs.Opens.{LacksOpening, OpensKnown}
 use Rattle.ffv1_unpack.specs.Internal.Opens.{OpensStream, stream_of}
 use Rattle.ffv1_unpack.specs.Play.End.{Over}
-use Rattle.ffv1_unpack.specs.Plays.{FileStops, FileThen, FramesThen, GoesFrom, GoesThen, HasThen, NextEnds, NextHasFault, NextLacks, NextReadFails, NextStays, PlaysFile, PlaysThen, PlayStops, PlayStopsBy, RefusedFrom, StreamGoes, TextFails}
+use Rattle.ffv1_unpack.specs.Plays.{FileStops, FileThen, FramesThen, GoesFrom, GoesThen, HasThen, NextEnds, NextHasFault, NextLacks, NextReadFails, NextStays, PlaysFile, PlaysThen, PlayStops, PlayStopsBy, ReadsFile, RefusedFrom, StreamGoes, TextFails}
 use Rattle.ffv1_unpack.specs.Internal.Plays.{PlaysAll}
 use Rattle.ffv1_video.specs.Profiles.{scope_in}
-use Rattle.ffv1_unpack.specs.Stream.{Frame, IsFrame, IsStream, ReadsFile, Stream, frame_payload}
+use Rattle.ffv1_unpack.specs.Stream.{Frame, IsFrame, IsStream, Stream, frame_payload}
 use Rattle.ffv1_unpack.proofs.FileRead.{no_items, positive}
 use Rattle.ffv1_video.proofs.KnownTexts.{known_map, known_then}
 use Rattle.ffv1_video.proofs.Output.{silent}
@@ -38,7 +39,7 @@ file_has profile i0 i1 i2 head from opens ps Next has =
     (known_then i0 i1 i2 (λ file rest. open_read (scope_in profile) file ≡ Ok ((head, from), rest)) (HasThen from ps Next) opens has)
 
 -- where a file is refused after what a reader has read is where the whole file is
-pub moves_whole : (scope : Scope) (r : Standing) (i0 i1 i2 : Option (List ℕ)) (ib im ia : ℕ) → im ≡ ib → Reached scope i0 i1 r → (f : Fault) (offset : ℕ) →
+pub moves_whole : (scope : Scope) (r : Standing) (i0 i1 i2 : Option (List ℕ)) (ib im ia : ℕ) → im ≡ ib → Stands scope i0 i1 r → (f : Fault) (offset : ℕ) →
     LocatedAfter r (between i1 i2 im ia) f offset → LocatedFault scope (between i0 i2 ib ia) f offset
 moves_whole scope r i0 i1 i2 ib im ia kept reached f offset h = subst (λ z. LocatedFault scope (between i0 i2 z ia) f offset) kept (h scope i0 reached)
 
@@ -110,19 +111,20 @@ module _ (profile : Profile) (text : Stream → List Frame → List ℕ) (i0 i1 
         inr (stream_goes (stream_of r a) opens.stream (HasThen r.place) (FileThen profile) (file_has profile i0 i1 i2 r.head r.place opens.known) opens.kept f (cause_of f) h)
 
     module _ (frames : List Frame) (count : ℕ) (is : count ≡ saturated (length frames))
-        (all : PlaysAll (IsFrame a) frame_payload (HasThen r.place) (text (stream_of r a)) (between i1 i2 im ia) (between o0 o1 ob om) frames) where
+        (notes : Notes) (all : PlaysAll (IsFrame a) frame_payload (HasThen r.place) (text (stream_of r a)) (between i1 i2 im ia) (between o0 o1 ob om) notes frames) where
       pub no_frames : count ≡ 0 → FileStops profile text (between i0 i2 ib ia) (between o0 o1 ob om) fault.NoFrames
       no_frames none =
           whole_stops fault.NoFrames
-          (all.kept, record { frames = frames; end = Over; plays = all.plays; faulty = tt; is = (no_items frames (let few : length frames ≡ 0 = omega (arith, is, none) in few), refl) })
+          (all.kept, record { frames = frames; end = Over notes; plays = all.plays; faulty = tt; is = (no_items frames (let few : length frames ≡ 0 = omega (arith, is, none) in few), refl) })
 
-      pub done : (count ≡ 0 → ⊥) → ReadsFile profile i0 i2 (stream_of r a) frames → PlaysFile profile text (between i0 i2 ib ia) (between o0 o1 ob om)
-      done some_frames reads = record {
+      pub done : (count ≡ 0 → ⊥) → ReadsFile profile notes i0 i2 (stream_of r a) frames → NotedIn profile (between i0 i2 ib ia) notes → PlaysFile profile text (between i0 i2 ib ia) (between o0 o1 ob om) notes
+      done some_frames reads noted = record {
         stream = stream_of r a;
         frames = frames;
         some = positive frames (λ none. some_frames (let zero_is : count ≡ 0 = omega (arith, is, none) in zero_is));
         played = record { stream = opens.stream; decoded = all.plays.goes.are };
         reads = reads;
+        of_file = noted;
         kept = all.kept ∙ opens.kept;
         written = all.plays.wrote.written;
         writes = all.plays.wrote.writes;

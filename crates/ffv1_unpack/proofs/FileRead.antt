@@ -2,6 +2,7 @@
 use Rattle.std.proofs.Common.{◌≡◌, refl, ℕ, ◌<◌, Option, Some, None, Ok, List, [], ◌∷◌, length, ap, subst, ◌∙◌, arith}
 use Rattle.ffv1_files.specs.declared.container.Scope.TheVariants.{FirstMovi, Whole}
 use Rattle.ffv1_files.specs.Places.{Place}
+use Rattle.ffv1_files.specs.declared.notes.Notes.{Notes}
 use Rattle.ffv1_avi.specs.Chunks.{AviFile}
 use Rattle.ffv1_files.specs.Whole.{IsWhole}
 use Rattle.ffv1_files.specs.Files.{file_read, frame_read, frames_read, more_frames, open_read}
@@ -12,8 +13,8 @@ use Rattle.ffv1_video.specs.Profiles.{scope_in}
 use Rattle.ffv1_video.specs.declared.profile.Profile.TheVariants.{Strict, Wide}
 use Rattle.ffv1_reads.specs.Known.{Known}
 use Rattle.ffv1_unpack.specs.Opens.{OpensKnown}
-use Rattle.ffv1_unpack.specs.Plays.{HasThen, NextOver}
-use Rattle.ffv1_unpack.specs.Stream.{Frame, HoldsPayloads, ReadsFile, ReadsFrames, Stream, payloads}
+use Rattle.ffv1_unpack.specs.Plays.{FileThen, HasThen, HoldsNoted, NextOver, ReadsFile}
+use Rattle.ffv1_unpack.specs.Stream.{Frame, HoldsPayloads, ReadsFrames, Stream, payloads}
 
 pub no_items : {X : Type 0} (xs : List X) → length xs ≡ 0 → xs ≡ []
 no_items [] e = refl
@@ -22,6 +23,16 @@ no_items (x ∷ xs) e = absurd (omega (arith, e))
 pub positive : {X : Type 0} (xs : List X) → (length xs ≡ 0 → ⊥) → 0 < length xs
 positive [] none = absurd (none refl)
 positive (x ∷ xs) none = omega arith
+
+-- a file that is read to its end, and of which that is noted
+pub holds_noted :
+    ((profile : Profile) (file behind rest : List ℕ) (head : Head) (from to : Place) (at : List ℕ) (held : List (List ℕ)) → open_read (scope_in profile) file ≡ Ok ((head, from), behind) →
+    ReadsFrames from behind held to at → frame_read to at ≡ Ok (None, rest) → HoldsPayloads profile file rest head held) →
+    (profile : Profile) (notes : Notes) (head : Head) (held : List (List ℕ)) (file rest : List ℕ) → FileThen profile head held (NextOver notes) file rest → HoldsNoted profile notes head held file rest
+holds_noted holds profile notes head held file rest p =
+    let has = p.3 in
+    let end = has.3 in
+    (end.0, holds profile file p.1 end.0 head p.0 has.0 has.1 held p.2 has.2 end.1.0, (p.0, p.1, p.2, (has.0, has.1, has.2, end.1)))
 
 module _ (next : (place : Place) (text : List ℕ) → frames_read place text ≡ avi.read_on (frame_read place text) (more_frames frames_read))
     (is_file : (file : List ℕ) (head : Head) (frames : List (List ℕ)) (rest : List ℕ) → file_read FirstMovi file ≡ Ok ((head, frames), rest) → (is : AviFile file head frames) × (rest ≡ is.rest))
@@ -48,10 +59,10 @@ module _ (next : (place : Place) (text : List ℕ) → frames_read place text �
       (ap (λ z. avi.read_on z (λ (p : Head × Place) (text : List ℕ). avi.read_on (frames_read p.1 text) (λ frames. avi.given (p.0, frames)))) opens
       ∙ ap (λ z. avi.read_on z (λ frames. avi.given (head, frames))) frames_are)
 
-  pub reads_file : (profile : Profile) (old mid new : Option (List ℕ)) (s : Stream) (from : Place) (frames : List Frame) → OpensKnown profile old mid s.head from → Known mid new (HasThen from (payloads frames) NextOver) →
-      ReadsFile profile old new s frames
-  reads_file profile None mid new s from frames opens ends = tt
-  reads_file profile (Some file) None new s from frames opens ends = absurd opens
-  reads_file profile (Some file) (Some behind) None s from frames opens ends = absurd ends
-  reads_file profile (Some file) (Some behind) (Some rest) s from frames opens ends =
-      holds_payloads profile file behind rest s.head from ends.0 ends.1 (payloads frames) opens ends.2 ends.3
+  pub reads_file : (profile : Profile) (notes : Notes) (old mid new : Option (List ℕ)) (s : Stream) (from : Place) (frames : List Frame) → OpensKnown profile old mid s.head from →
+      Known mid new (HasThen from (payloads frames) (NextOver notes)) → ReadsFile profile notes old new s frames
+  reads_file profile notes None mid new s from frames opens ends = tt
+  reads_file profile notes (Some file) None new s from frames opens ends = absurd opens
+  reads_file profile notes (Some file) (Some behind) None s from frames opens ends = absurd ends
+  reads_file profile notes (Some file) (Some behind) (Some rest) s from frames opens ends =
+      holds_noted holds_payloads profile notes s.head (payloads frames) file rest (from, behind, opens, ends)

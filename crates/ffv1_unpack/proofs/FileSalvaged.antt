@@ -14,6 +14,7 @@ use Rattle.ffv1_video.specs.declared.fault.Fault.TheVariants as fault
 use Rattle.ffv1_video.specs.Faults.{Cause, cause_of}
 use Rattle.ffv1_video.specs.Faults.Cause.{Reading, Writing, Memory, Content}
 use Rattle.ffv1_video.specs.Profiles.{scope_in}
+use Rattle.ffv1_files.specs.Noted.{no_notes}
 use Rattle.ffv1_unpack.specs.declared.judging.JudgedCounts.{JudgedCounts}
 use Rattle.ffv1_unpack.specs.Internal.Opens.{OpensStream, stream_of}
 use Rattle.ffv1_unpack.specs.JudgedItems.{ItemIs, ItemsFrom, ItemsNext, ItemsOver, ItemsStay, ItemsThen, JudgedItem, OfFrame, ToldAt, frames_of, given_as}
@@ -108,7 +109,7 @@ module _ (profile : Profile) (i0 i1 i2 : Option (List ℕ)) (ib im ia : ℕ) (r 
         let empty : xs ≡ [] = none_came (is_ppm_stream s) xs (omega (arith, frames, no_frame)) (omega (arith, faults, no_fault)) in
         inr (inr (refl, record { stream = s; is = opens.stream; text = text; all = subst (SalvagesAll File s Whole lines output) empty (all_file xs all) }))
 
-    pub all_done : (counts.frames ≡ 0 → counts.faults ≡ 0 → ⊥) → UnpackAllDone profile Whole lines output counts
+    pub all_done : (counts.frames ≡ 0 → counts.faults ≡ 0 → ⊥) → UnpackAllDone profile Whole lines output counts no_notes
     all_done some = record {
       stream = s;
       xs = xs;
@@ -117,6 +118,7 @@ module _ (profile : Profile) (i0 i1 i2 : Option (List ℕ)) (ib im ia : ℕ) (r 
       text = text;
       all = all_file xs all;
       counted = counted;
+      noted = refl;
     }
       where
         nothing : length xs ≡ 0 → ⊥

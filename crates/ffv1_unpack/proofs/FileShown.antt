@@ -5,9 +5,8 @@ use Rattle.std.proofs.KnownBytes.{Appends-kept, Appends-trans, Keeps-refl}
 use Rattle.ffv1_wire.specs.Failures.{one_more}
 use Rattle.ffv1_wire.specs.Passage.{Passage, between}
 use Rattle.ffv1_record.specs.Accepted.{Accepted}
-use Rattle.ffv1_files.specs.Places.{Place, container_of}
-use Rattle.ffv1_files.specs.declared.container.Container.{Container}
-use Rattle.ffv1_files.specs.declared.container.Container.TheVariants as container
+use Rattle.ffv1_files.specs.Places.{InAvi, InMatroska, Place, container_of}
+use Rattle.ffv1_files.specs.declared.notes.Notes.{Notes}
 use Rattle.ffv1_files.specs.Readers.{Standing}
 use Rattle.ffv1_reads.specs.Known.{Known}
 use Rattle.ffv1_video.specs.declared.profile.Profile.{Profile}
@@ -16,17 +15,19 @@ use Rattle.ffv1_video.specs.declared.fault.Fault.TheVariants as fault
 use Rattle.ffv1_unpack.specs.declared.frame_line.FrameLine.TheVariants as line
 use Rattle.ffv1_video.specs.Faults.{Cause, cause_of}
 use Rattle.ffv1_video.specs.Faults.Cause.{Reading, Writing, Memory, Content}
+use Rattle.ffv1_unpack.specs.Behind.{NotedIn}
 use Rattle.ffv1_unpack.specs.FrameLines.{frame_lines}
+use Rattle.ffv1_unpack.specs.Internal.Containers.{told_at}
 use Rattle.ffv1_unpack.specs.Internal.Located.{LocatedAfter}
 use Rattle.ffv1_unpack.specs.Opens.{LacksOpeningBy}
 use Rattle.ffv1_unpack.specs.Internal.Opens.{OpensStream, stream_of}
 use Rattle.ffv1_unpack.specs.Play.{but_last}
 use Rattle.ffv1_unpack.specs.Play.End.{File, Payload}
-use Rattle.ffv1_unpack.specs.Plays.{FileThen, FramesThen, GoesFrom, GoesThen, HasThen, NextEnds, NextLacks, NextReadFails, NextStays, PlayStops, PlayStopsBy, RefusedFrom, TextFails}
+use Rattle.ffv1_unpack.specs.Plays.{FileThen, FramesThen, GoesFrom, GoesThen, HasThen, NextEnds, NextLacks, NextReadFails, NextStays, PlayStops, PlayStopsBy, ReadsFile, RefusedFrom, TextFails}
 use Rattle.ffv1_unpack.specs.Internal.Plays.{PlaysAll}
 use Rattle.ffv1_unpack.specs.Show.{ComesFrom, CostStops, ShowStops, ShowsCosts, ShowsStream, StreamStopsBy, cost_text}
 use Rattle.ffv1_unpack.specs.Internal.Show.{NoDecoder}
-use Rattle.ffv1_unpack.specs.Stream.{Frame, IsFrame, ReadsFile, frame_payload, payloads}
+use Rattle.ffv1_unpack.specs.Stream.{Frame, IsFrame, frame_payload, payloads}
 use Rattle.ffv1_unpack.specs.StreamLines.{show_text}
 use Rattle.ffv1_unpack.specs.Ranges.{all_frames, number_in}
 use Rattle.ffv1_unpack.specs.Told.{PayloadStopsFrom}
@@ -43,14 +44,14 @@ before_costs profile input output false f h = h
 before_costs profile input output true f h = inl h
 
 -- the faults of telling frames have none for a file without them
-pub told_some : (k : Container) → IsToldFault k fault.NoFrames → ⊥
-told_some container.Avi own = elim own [
+told_none : (r : Standing) (left : Option (List ℕ)) (place : Place) → told_at r left place fault.NoFrames → ⊥
+told_none r left (InAvi place) (is, whole) = absurd (cc)
+told_none r left (InMatroska segment track place) other = absurd (let no : false ≡ true = other in cc)
+
+pub told_some : (r : Standing) (left : Option (List ℕ)) → IsToldFault r left fault.NoFrames → ⊥
+told_some r left own = elim own [
   | inl telling ↦ absurd (let no : false ≡ true = telling in cc)
-  | inr other ↦ absurd (let no : false ≡ true = other in cc)
-]
-told_some (container.Matroska size) own = elim own [
-  | inl telling ↦ absurd (let no : false ≡ true = telling in cc)
-  | inr other ↦ absurd (let no : false ≡ true = other in cc)
+  | inr other ↦ told_none r left r.place other
 ]
 
 module _ (profile : Profile) (i0 i1 o0 o1 : Option (List ℕ)) (ib im ob om : ℕ) where
@@ -182,12 +183,14 @@ module _ (profile : Profile) (i0 i1 i2 o0 o1 o2 : Option (List ℕ)) (ib im ia o
     | inr other ↦ stops f some (stops_by f (cause_of f) other)
   ]
 
-  pub shows_costs : (frames : List Frame) → PlaysAll (IsFrame a) frame_payload (HasThen r.place) lines (between i1 i2 im ia) (between o1 o2 om oa) frames → ReadsFile profile i0 i2 (stream_of r a) frames → ShowsCosts profile (between i0 i2 ib ia) (between o0 o2 ob oa)
-  shows_costs frames told reads = record {
+  pub shows_costs : (notes : Notes) (frames : List Frame) → PlaysAll (IsFrame a) frame_payload (HasThen r.place) lines (between i1 i2 im ia) (between o1 o2 om oa) notes frames →
+      ReadsFile profile notes i0 i2 (stream_of r a) frames → NotedIn profile (between i0 i2 ib ia) notes → ShowsCosts profile (between i0 i2 ib ia) (between o0 o2 ob oa) notes
+  shows_costs notes frames told reads noted = record {
     stream = stream_of r a;
     frames = frames;
     played = record { stream = opens.stream; decoded = told.plays.goes.are };
     reads = reads;
+    of_file = noted;
     kept = told.kept ∙ opens.kept;
     written = told.plays.wrote.written ∙ same;
     comes = from;

@@ -33,3 +33,4 @@ module _ {X : Type 0} (reading : avi.Reading X) where
   file_stops ends p avi_fault.Laced h = (h.0, faults_known p.old p.new avi_fault.Laced h.1)
   file_stops ends p avi_fault.Checksum h = (h.0, faults_known p.old p.new avi_fault.Checksum h.1)
   file_stops ends p avi_fault.Rate h = absurd h
+  file_stops ends p avi_fault.Another h = (h.0, faults_known p.old p.new avi_fault.Another h.1)

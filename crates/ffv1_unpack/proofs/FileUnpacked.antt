@@ -6,6 +6,7 @@ use Rattle.ffv1_wire.specs.Passage.{between}
 use Rattle.ffv1_record.specs.Accepted.{Accepted}
 use Rattle.ffv1_record.specs.Configuration.{Configuration}
 use Rattle.ffv1_files.specs.Places.{Place}
+use Rattle.ffv1_files.specs.declared.notes.Notes.{Notes}
 use Rattle.ffv1_files.specs.Readers.{Standing}
 use Rattle.ffv1_reads.specs.Head.{Head}
 use Rattle.ffv1_reads.specs.Known.{Known}
@@ -15,8 +16,9 @@ use Rattle.ffv1_video.specs.declared.fault.Fault.{Fault}
 use Rattle.ffv1_video.specs.declared.fault.Fault.TheVariants as fault
 use Rattle.ffv1_video.specs.Faults.{Cause, cause_of}
 use Rattle.ffv1_video.specs.Faults.Cause.{Reading, Writing, Memory, Content}
+use Rattle.ffv1_unpack.specs.Behind.{NotedIn}
 use Rattle.ffv1_unpack.specs.Internal.Opens.{OpensRange, OpensStream, stream_of}
-use Rattle.ffv1_unpack.specs.Plays.{GoesThen, HasThen, NextBehind, NextHasFault, NextIsPayload, NextPayloadLacks, NextReadFails, NextStays}
+use Rattle.ffv1_unpack.specs.Plays.{GoesThen, HasThen, NextBehind, NextHasFault, NextIsPayload, NextPayloadLacks, NextReadFails, NextStays, NotedAfter, has_more}
 use Rattle.ffv1_unpack.specs.Ranges.{RangeThen}
 use Rattle.ffv1_unpack.specs.Stream.{Frame, IsFrame, IsStream, Stream, frame_payload, payloads}
 use Rattle.ffv1_unpack.specs.Unpack.{IsUnpackFault, LacksUnpacking, UnpackGoes, UnpackNone, UnpackRangeDone, UnpackRangeStops}
@@ -25,6 +27,7 @@ use Rattle.ffv1_unpack.specs.Unpacking.{FormatChanges, PayloadStops, PictureFail
 use Rattle.ffv1_unpack.proofs.FilePlayed.{fails_file, file_has, goes_file, plays_file}
 use Rattle.ffv1_unpack.proofs.FileRead.{no_items, positive}
 use Rattle.ffv1_unpack.proofs.FramesInTurn.{reads_none}
+use Rattle.ffv1_unpack.proofs.FramesNoted.{noted_by}
 use Rattle.ffv1_unpack.proofs.FramesPassed.{range_has}
 use Rattle.ffv1_unpack.proofs.FramesPlayed.{has_stays}
 
@@ -128,16 +131,17 @@ module _ (profile : Profile) (i0 i1 i2 o0 o1 : Option (List ℕ)) (ib im ia ob o
     pub unpack_goes : (f : Fault) → UnpackingStops Here s (between i1 i2 im ia) (between o0 o1 ob om) f → UnpackGoes profile (between i0 i2 ib ia) (between o0 o1 ob om) Held f
     unpack_goes f h = record { stream = s; is = is; text = text; stops = stops_by f (cause_of f) h }
 
-    module _ (most : Option ℕ) (frames : List Frame) where
-      all_held : UnpacksMost Here s (between i1 i2 im ia) (between o0 o1 ob om) most frames → UnpacksMost (Held s.head) s (between i0 i2 ib ia) (between o0 o1 ob om) most frames
-      all_held all = record { unpacks = unpacks frames (NextBehind most (length frames)) all.unpacks; few = all.few; kept = all.kept ∙ kept }
+    module _ (notes : Notes) (most : Option ℕ) (frames : List Frame) where
+      all_held : UnpacksMost Here s (between i1 i2 im ia) (between o0 o1 ob om) notes most frames → UnpacksMost (Held s.head) s (between i0 i2 ib ia) (between o0 o1 ob om) notes most frames
+      all_held all = record { unpacks = unpacks frames (NextBehind notes most (length frames)) all.unpacks; few = all.few; kept = all.kept ∙ kept }
 
-      pub unpack_none : length frames ≡ 0 → UnpacksMost Here s (between i1 i2 im ia) (between o0 o1 ob om) most frames → UnpackNone profile (between i0 i2 ib ia) (between o0 o1 ob om) Held most
+      pub unpack_none : length frames ≡ 0 → UnpacksMost Here s (between i1 i2 im ia) (between o0 o1 ob om) notes most frames → UnpackNone profile (between i0 i2 ib ia) (between o0 o1 ob om) Held most
       unpack_none none all = record {
         stream = s;
         is = is;
         text = text;
-        all = subst (UnpacksMost (Held s.head) s (between i0 i2 ib ia) (between o0 o1 ob om) most) (no_items frames none) (all_held all);
+        notes = notes;
+        all = subst (UnpacksMost (Held s.head) s (between i0 i2 ib ia) (between o0 o1 ob om) notes most) (no_items frames none) (all_held all);
       }
 
 -- ---- the frames of a range
@@ -149,19 +153,20 @@ module _ (profile : Profile) (range : FrameRange) (i0 i1 i2 o0 o1 : Option (List
       inr (inl (unpack_goes profile i0 i1 i2 o0 o1 ib im ia ob om (stream_of r a) opens.stream text (HasThen r.place) (RangeThen profile range.first)
       (range_has profile range.first r.head r.place i0 i1 i2 opens.known) opens.kept f h))
 
-  module _ (frames : List Frame) (count : ℕ) (is : count ≡ saturated (length frames))
-      (all : UnpacksMost (HasThen r.place) (stream_of r a) (between i1 i2 im ia) (between o0 o1 ob om) range.count frames) where
+  module _ (notes : Notes) (frames : List Frame) (count : ℕ) (is : count ≡ saturated (length frames))
+      (all : UnpacksMost (HasThen r.place) (stream_of r a) (between i1 i2 im ia) (between o0 o1 ob om) notes range.count frames) where
     pub no_frames : count ≡ 0 → UnpackRangeStops profile range (between i0 i2 ib ia) (between o0 o1 ob om) fault.NoFrames
     no_frames none =
         let few : length frames ≡ 0 = omega (arith, is, none) in
         inr (inr (
           refl,
           unpack_none profile i0 i1 i2 o0 o1 ib im ia ob om (stream_of r a) opens.stream text (HasThen r.place) (RangeThen profile range.first)
-              (range_has profile range.first r.head r.place i0 i1 i2 opens.known) opens.kept range.count frames few all,
+              (range_has profile range.first r.head r.place i0 i1 i2 opens.known) opens.kept notes range.count frames few all,
         ))
 
-    pub done : (count ≡ 0 → ⊥) → UnpackRangeDone profile range (between i0 i2 ib ia) (between o0 o1 ob om) count
-    done some_frames = record {
+    pub done : (count ≡ 0 → ⊥) → (told : Notes) → (has_more range.count (length frames) ≡ true → told ≡ notes) → NotedAfter told range.count (length frames) →
+        (has_more range.count (length frames) ≡ true → NotedIn profile (between i0 i2 ib ia) told) → UnpackRangeDone profile range (between i0 i2 ib ia) (between o0 o1 ob om) count told
+    done some_frames told read unread noted = record {
       stream = stream_of r a;
       frames = frames;
       some = positive frames (λ none. some_frames (let zero_is : count ≡ 0 = omega (arith, is, none) in zero_is));
@@ -170,7 +175,10 @@ module _ (profile : Profile) (range : FrameRange) (i0 i1 i2 o0 o1 : Option (List
       text = text;
       played = record { stream = opens.stream; decoded = all.unpacks.plays.goes.are };
       alike = all.unpacks.alike;
-      reads = range_has profile range.first r.head r.place i0 i1 i2 opens.known (payloads frames) (NextBehind range.count (length frames)) all.unpacks.plays.goes.has;
+      reads = noted_by (λ Next. Known i0 i2 (RangeThen profile range.first r.head (payloads frames) Next)) notes told (has_more range.count (length frames)) read
+          (range_has profile range.first r.head r.place i0 i1 i2 opens.known (payloads frames) (NextBehind notes range.count (length frames)) all.unpacks.plays.goes.has);
+      noted = unread;
+      of_file = noted;
       kept = all.kept ∙ opens.kept;
       written = all.unpacks.plays.wrote.written;
       writes = all.unpacks.plays.wrote.writes;

@@ -9,28 +9,33 @@ use Rattle.ffv1_wire.specs.Passage.{Passage, between}
 use Rattle.ffv1_record.specs.Accepted.{Accepted}
 use Rattle.ffv1_frame.specs.declared.fault.CodecFault.TheVariants as codec_fault
 use Rattle.ffv1_files.specs.Places.{Place, container_of}
+use Rattle.ffv1_files.specs.declared.notes.Notes.{Notes}
 use Rattle.ffv1_files.specs.Readers.{Standing}
 use Rattle.ffv1_video.specs.declared.fault.Fault.{Fault}
 use Rattle.ffv1_video.specs.declared.fault.Fault.TheVariants as fault
 use Rattle.ffv1_video.specs.declared.profile.Profile.{Profile}
+use Rattle.ffv1_video.specs.Profiles.{scope_in}
 use Rattle.ffv1_video.proofs.Output.{silent}
+use Rattle.ffv1_unpack.specs.Behind.{NotedIn}
 use Rattle.ffv1_unpack.specs.Check.{IsCheckFault}
 use Rattle.ffv1_unpack.specs.Compared.{Agrees, ComparedThen, ComparingStops, DiffersAt, FileDiffers, IsUnlike, frame_number, frame_numbers, is_md5, met, stream_numbers}
 use Rattle.ffv1_unpack.specs.Internal.Compared.{CompareAnswers, Compares, FramesStop}
 use Rattle.ffv1_unpack.specs.Internal.Containers.{IsWithin}
+use Rattle.ffv1_unpack.specs.Internal.Located.{StaysReached}
 use Rattle.ffv1_unpack.specs.Internal.Opens.{OpensStream, stream_of}
 use Rattle.ffv1_unpack.specs.Internal.Play.{ReadsEnd}
 use Rattle.ffv1_unpack.specs.Internal.Plays.{PlaysAll}
 use Rattle.ffv1_unpack.specs.Internal.Told.{IsToldFault}
+use Rattle.ffv1_unpack.specs.Located.{Stands}
 use Rattle.ffv1_unpack.specs.Opens.{LacksOpening}
-use Rattle.ffv1_unpack.specs.Plays.{FileThen, HasThen, NextOver, NextStays, PlaysFile}
-use Rattle.ffv1_unpack.specs.Stream.{Frame, IsFrame, ReadsFile, frame_payload}
+use Rattle.ffv1_unpack.specs.Plays.{FileThen, HasThen, NextOver, NextStays, PlaysFile, ReadsFile}
+use Rattle.ffv1_unpack.specs.Stream.{Frame, IsFrame, frame_payload}
 use Rattle.ffv1_unpack.specs.declared.comparing.Unlike.{Unlike}
 use Rattle.ffv1_unpack.specs.declared.comparing.Unlike.TheVariants as unlike
 use Rattle.ffv1_unpack.proofs.FilePlayed.{done, file_has, goes_file, lacks_opening, no_frames, whole_stops}
 use Rattle.ffv1_unpack.proofs.FramesInTurn.{all_more, counted_more, reads_more}
 use Rattle.ffv1_unpack.proofs.FramesPlayed.{PlayedSo, SoFar, has_stays, none_yet, one_so, play_stops, played_over, wants_memory}
-use Rattle.ffv1_unpack.proofs.OwnFaults.{told_checks}
+use Rattle.ffv1_unpack.proofs.OwnFaults.{told_checks, told_on}
 
 -- ---- a list
 
@@ -83,9 +88,9 @@ module _ (a : Accepted) (md5s : List ℕ) (from to last : Place) (n : ℕ) (i0 i
   played = record { frames = so.frames; is = refl; so = so.so }
 
   -- there is no further one
-  pub compared_over : ReadsEnd to (between i1 i2 im ia) → PlaysAll (IsFrame a) frame_payload (HasThen from) (frame_numbers a) (between i0 i2 ib ia) (met md5s n) so.frames
-  compared_over over =
-      played_over a (frame_numbers a) from to last (saturated (length so.frames)) i0 i1 i2 (Some []) (Some (take n md5s)) (Some (take n md5s)) ib im ia 0 0 0 played None refl tt over (silent (Some (take n md5s)) 0)
+  pub compared_over : (notes : Notes) → ReadsEnd to notes (between i1 i2 im ia) → PlaysAll (IsFrame a) frame_payload (HasThen from) (frame_numbers a) (between i0 i2 ib ia) (met md5s n) notes so.frames
+  compared_over notes over =
+      played_over a (frame_numbers a) from to last (saturated (length so.frames)) i0 i1 i2 (Some []) (Some (take n md5s)) (Some (take n md5s)) ib im ia 0 0 0 played notes None refl tt over (silent (Some (take n md5s)) 0)
 
   -- one more agrees
   pub compared_more : Compares a md5s n to last (between i1 i2 im ia) true → ComparedSo a md5s from (between i0 i2 ib ia) (n + 1) last
@@ -121,9 +126,9 @@ module _ (a : Accepted) (md5s : List ℕ) (from to last : Place) (n : ℕ) (i0 i
   }
 
   -- or none is compared
-  pub compared_stops : (u : Unlike) → CompareAnswers a md5s n to last (between i1 i2 im ia) (Err u) → FramesStop from a md5s (between i0 i2 ib ia) u
-  compared_stops (unlike.Differs k) p = subst (DiffersAt (HasThen from) a md5s (between i0 i2 ib ia)) (sym p.0) (differs p.1)
-  compared_stops (unlike.Fault f) p = (
+  pub compared_stops : (notes : Notes) (u : Unlike) → CompareAnswers a md5s n to last (between i1 i2 im ia) notes (Err u) → FramesStop from a md5s (between i0 i2 ib ia) u
+  compared_stops notes (unlike.Differs k) p = subst (DiffersAt (HasThen from) a md5s (between i0 i2 ib ia)) (sym p.0) (differs p.1)
+  compared_stops notes (unlike.Fault f) p = (
     n,
     play_stops a (frame_numbers a) from to last (saturated (length so.frames)) i0 i1 i2 (Some []) (Some (take n md5s)) (Some (take n md5s)) ib im ia 0 0 0 played
         (λ frame. frame_number a frame ∷ []) (numbers_more a so.frames) f p,
@@ -152,7 +157,7 @@ module _ (profile : Profile) (md5s : List ℕ) (i0 i1 i2 : Option (List ℕ)) (i
       kept = h.kept ∙ opens.kept;
       differs = elim h.differs [
         | inl one ↦ inl (one.0, then_file (h.frames ++ (one.0 ∷ [])) NextStays one.1, one.2)
-        | inr none ↦ inr (then_file h.frames NextOver none.0, none.1, none.2)
+        | inr none ↦ inr (none.0, then_file h.frames (NextOver none.0) none.1, none.2, none.3)
       ];
     };
   }
@@ -161,12 +166,12 @@ module _ (profile : Profile) (md5s : List ℕ) (i0 i1 i2 : Option (List ℕ)) (i
   comparing_stops (unlike.Differs n) h = file_differs n h
   comparing_stops (unlike.Fault f) h = (h.0, whole_stops profile stream_numbers i0 i1 i2 (Some []) (Some (take h.0 md5s)) ib im ia 0 0 r a opens f h.1)
 
-  module _ (frames : List Frame) (n : ℕ) (is : n ≡ length frames)
-      (all : PlaysAll (IsFrame a) frame_payload (HasThen r.place) (frame_numbers a) (between i1 i2 im ia) (met md5s n) frames) where
+  module _ (notes : Notes) (frames : List Frame) (n : ℕ) (is : n ≡ length frames)
+      (all : PlaysAll (IsFrame a) frame_payload (HasThen r.place) (frame_numbers a) (between i1 i2 im ia) (met md5s n) notes frames) where
     pub comparing_none : n ≡ 0 → ComparingStops profile md5s (between i0 i2 ib ia) (unlike.Fault fault.NoFrames)
     comparing_none none =
         let few : saturated (length frames) ≡ 0 = omega (arith, is, none) in
-        (n, no_frames profile stream_numbers i0 i1 i2 (Some []) (Some (take n md5s)) ib im ia 0 0 r a opens frames (saturated (length frames)) refl all few)
+        (n, no_frames profile stream_numbers i0 i1 i2 (Some []) (Some (take n md5s)) ib im ia 0 0 r a opens frames (saturated (length frames)) refl notes all few)
 
     -- the list has more
     pub comparing_short : (n ≡ 0 → ⊥) → n < length md5s → ComparingStops profile md5s (between i0 i2 ib ia) (unlike.Differs n)
@@ -176,20 +181,25 @@ module _ (profile : Profile) (md5s : List ℕ) (i0 i1 i2 : Option (List ℕ)) (i
       agree = sym all.plays.wrote.writes;
       kept = all.kept;
       differs = inr (
+        notes,
         record { are = all.plays.goes.are; has = all.plays.goes.has },
         omega (arith, some),
         less,
       );
     })
 
-    pub comparing_done : (n ≡ 0 → ⊥) → n ≡ length md5s → ReadsFile profile i0 i2 (stream_of r a) frames → Agrees profile md5s (between i0 i2 ib ia)
-    comparing_done some whole reads =
-        subst (λ z. PlaysFile profile stream_numbers (between i0 i2 ib ia) (met md5s z)) whole
-        (done profile stream_numbers i0 i1 i2 (Some []) (Some (take n md5s)) ib im ia 0 0 r a opens frames (saturated (length frames)) refl all
-        (λ none. some (let few : n ≡ 0 = omega (arith, is, none) in few)) reads)
+    pub comparing_done : (n ≡ 0 → ⊥) → n ≡ length md5s → ReadsFile profile notes i0 i2 (stream_of r a) frames → NotedIn profile (between i0 i2 ib ia) notes → Agrees profile md5s (between i0 i2 ib ia) notes
+    comparing_done some whole reads noted =
+        subst (λ z. PlaysFile profile stream_numbers (between i0 i2 ib ia) (met md5s z) notes) whole
+        (done profile stream_numbers i0 i1 i2 (Some []) (Some (take n md5s)) ib im ia 0 0 r a opens frames (saturated (length frames)) refl notes all
+        (λ none. some (let few : n ≡ 0 = omega (arith, is, none) in few)) reads noted)
 
 -- ---- which faults
 
-pub unlike_checks : (profile : Profile) (place : Place) (u : Unlike) → IsWithin profile place → IsUnlike (IsToldFault (container_of place)) u → IsUnlike (IsCheckFault profile) u
-unlike_checks profile place (unlike.Differs n) within told = tt
-unlike_checks profile place (unlike.Fault f) within told = told_checks profile place f within told
+pub unlike_checks : (profile : Profile) (r : Standing) (text left : Option (List ℕ)) (u : Unlike) → Stands (scope_in profile) text left r → IsWithin profile r.place → IsUnlike (IsToldFault r left) u → IsUnlike (IsCheckFault profile) u
+unlike_checks profile r text left (unlike.Differs n) stands within told = tt
+unlike_checks profile r text left (unlike.Fault f) stands within told = told_checks profile r text left f stands within told
+
+pub unlike_on : (old new : Standing) (p : Passage) (u : Unlike) → container_of new.place ≡ container_of old.place → StaysReached old new p → IsUnlike (IsToldFault new p.new) u → IsUnlike (IsToldFault old p.old) u
+unlike_on old new p (unlike.Differs n) same stays told = tt
+unlike_on old new p (unlike.Fault f) same stays told = told_on old new p f same stays told

@@ -3,11 +3,12 @@ use Rattle.std.proofs.Common.{◌≡◌, refl, ℕ, suc, ◌+◌, Bool, true, fa
 use Rattle.std.specs.Prelude.{flat_map}
 use Rattle.ffv1_files.specs.Files.{frame_read}
 use Rattle.ffv1_files.specs.Places.{Place}
+use Rattle.ffv1_files.specs.declared.notes.Notes.{Notes}
 use Rattle.ffv1_reads.specs.Head.{Head}
 use Rattle.ffv1_reads.specs.Reads.{Stop}
 use Rattle.ffv1_reads.proofs.Results.{ok_is}
 use Rattle.ffv1_video.specs.declared.profile.Profile.{Profile}
-use Rattle.ffv1_unpack.specs.Plays.{FileThen, NextBehind, NextBehindBy, NextOver, has_more}
+use Rattle.ffv1_unpack.specs.Plays.{FileThen, FramesEnd, NextBehind, NextBehindBy, NextOver, has_more}
 use Rattle.ffv1_unpack.specs.Ranges.{RangeThen}
 use Rattle.ffv1_unpack.specs.Stream.{ReadsFrames}
 use Rattle.ffv1_unpack.proofs.FileRead.{no_items}
@@ -71,11 +72,14 @@ none_behind to at left [] last rest over h = refl
 none_behind to at left (m ∷ ms) last rest over h =
     absurd (no_other m h.0 h.1 left (sym h.2 ∙ over))
 
-pub range_payloads : (profile : Profile) (head other : Head) (first : ℕ) (most : Option ℕ) (held some : List (List ℕ)) (file rest left : List ℕ) → RangeThen profile 0 head held NextOver file rest →
-    RangeThen profile first other some (NextBehind most (length some)) file left →
+over_behind : (to : Place) (at left : List ℕ) (more : List (List ℕ)) (last : Place) (rest : List ℕ) (notes : Notes) → NextOver notes to at left → ReadsFrames to at more last rest → more ≡ []
+over_behind to at left more last rest notes over h = none_behind to at over.0 more last rest over.1.0 h
+
+pub range_payloads : (profile : Profile) (head other : Head) (first : ℕ) (most : Option ℕ) (held some : List (List ℕ)) (file rest left : List ℕ) → RangeThen profile 0 head held FramesEnd file rest →
+    (notes : Notes) → RangeThen profile first other some (NextBehind notes most (length some)) file left →
     (before : List (List ℕ)) × (more : List (List ℕ)) × (length before ≡ first) × (held ≡ before ++ (some ++ more)) × (other ≡ head) × (has_more most (length some) ≡ true → more ≡ [])
-range_payloads profile head other first most held some file rest left whole part =
-    let w = subst (λ b. FileThen profile head (b ++ held) NextOver file rest) (no_items whole.0 whole.1) whole.2 in
+range_payloads profile head other first most held some file rest left whole notes part =
+    let w = subst (λ b. FileThen profile head (b ++ held) FramesEnd file rest) (no_items whole.0 whole.1) whole.2 in
     let before = part.0 in
     let p = part.2 in
     let same = ok_is ((other, p.0), p.1) ((head, w.0), w.1) (sym p.2 ∙ w.2) in
@@ -89,5 +93,5 @@ range_payloads profile head other first most held some file rest left whole part
       part.1,
       r.1 ∙ append_assoc before some r.0,
       heads,
-      λ room. none_behind p.3.0 p.3.1 left r.0 w.3.0 w.3.1 (subst (λ b. NextBehindBy b p.3.0 p.3.1 left) room p.3.3) r.2,
+      λ room. over_behind p.3.0 p.3.1 left r.0 w.3.0 w.3.1 notes (subst (λ b. NextBehindBy notes b p.3.0 p.3.1 left) room p.3.3) r.2,
     )

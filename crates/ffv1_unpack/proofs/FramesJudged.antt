@@ -7,6 +7,7 @@ use Rattle.ffv1_wire.specs.Passage.{Passage, between}
 use Rattle.ffv1_record.specs.Configuration.{Configuration}
 use Rattle.ffv1_record.specs.Accepted.{Accepted}
 use Rattle.ffv1_files.specs.Places.{Place}
+use Rattle.ffv1_files.specs.declared.notes.Notes.{Notes}
 use Rattle.ffv1_files.specs.Readers.{Standing}
 use Rattle.ffv1_words.specs.declared.order.FrameRange.{FrameRange}
 use Rattle.ffv1_video.specs.declared.fault.Fault.{Fault}
@@ -114,6 +115,6 @@ module _ (place byte : Bool) (range : FrameRange) (a : Accepted) (from to : Stan
         (one_line place a.configuration range so.js number numbered) number numbered
 
   -- and there is none
-  pub so_over : (most : Option ℕ) → has_more most (length so.js) ≡ true → AtMost most (length so.js) → ReadsEnd to.place (between i1 i2 im ia) → Silent (between o1 o2 om oa) →
-      PlaysMost (IsJudged a) payload_of (HasThen from.place) lines (between i0 i2 ib ia) (between o0 o2 ob oa) most so.js
+  pub so_over : (notes : Notes) (most : Option ℕ) → has_more most (length so.js) ≡ true → AtMost most (length so.js) → ReadsEnd to.place notes (between i1 i2 im ia) → Silent (between o1 o2 om oa) →
+      PlaysMost (IsJudged a) payload_of (HasThen from.place) lines (between i0 i2 ib ia) (between o0 o2 ob oa) notes most so.js
   so_over = plays_over (IsJudged a) payload_of lines from.place to.place last i0 i1 i2 o0 o1 o2 ib im ia ob om oa so.js so.so

@@ -3,9 +3,9 @@ use Rattle.std.proofs.Common.{◌≡◌, refl, ℕ, ◌<◌, Option, None, Ok, L
 use Rattle.ffv1_wire.specs.Failures.{one_more}
 use Rattle.ffv1_wire.specs.Passage.{between}
 use Rattle.ffv1_record.specs.Accepted.{Accepted}
-use Rattle.ffv1_files.specs.Endings.{endings_from}
-use Rattle.ffv1_files.specs.Files.{frame_read, open_read}
+use Rattle.ffv1_files.specs.Files.{open_read}
 use Rattle.ffv1_files.specs.Places.{Place, container_of}
+use Rattle.ffv1_files.specs.declared.notes.Notes.{Notes}
 use Rattle.ffv1_files.specs.Readers.{Standing}
 use Rattle.ffv1_reads.specs.Head.{Head}
 use Rattle.ffv1_reads.specs.Known.{Known}
@@ -20,7 +20,7 @@ use Rattle.ffv1_unpack.specs.Internal.Containers.{IsWithin}
 use Rattle.ffv1_unpack.specs.Internal.Opens.{OpensRange, OpensStream, ReachesRange, stream_of}
 use Rattle.ffv1_unpack.specs.Internal.Passing.{Passes, PassesThen, PassingStopsBy}
 use Rattle.ffv1_unpack.specs.Internal.Play.{ReadsEnd, ReadsPayload}
-use Rattle.ffv1_unpack.specs.Internal.Told.{FileStopsBy}
+use Rattle.ffv1_unpack.specs.Internal.Told.{StopsFromBy}
 use Rattle.ffv1_unpack.specs.Plays.{HasThen, NextHasFault, NextOver, NextPayloadLacks, NextReadFails}
 use Rattle.ffv1_unpack.specs.Ranges.{PassStopsBy, PassedThen, RangeThen}
 use Rattle.ffv1_unpack.specs.Stream.{IsStream, ReadsFrames}
@@ -50,14 +50,14 @@ module _ (first : ℕ) (from to : Place) (i0 i1 i2 : Option (List ℕ)) (ib im i
   then : (Next : Place → List ℕ → List ℕ → Type 0) → Known i1 i2 (Next to) → PassesThen first from (between i0 i2 ib ia) passed Next
   then Next next = record { before = ps; counted = counted; few = few; has = has_then from to i0 i1 i2 ps Next so.read next }
 
-  pub pass_stops : (f : Fault) (why : Cause) → FileStopsBy (endings_from to) (frame_read to) (between i1 i2 im ia) f why → PassingStopsBy first from (between i0 i2 ib ia) passed f why
+  pub pass_stops : (f : Fault) (why : Cause) → StopsFromBy to (between i1 i2 im ia) f why → PassingStopsBy first from (between i0 i2 ib ia) passed f why
   pass_stops f Reading h = (h.0 ∙ ap one_more so.kept, then NextReadFails h.1)
   pass_stops f Writing h = h
   pass_stops f Memory h = (h.0 ∙ so.kept, then NextPayloadLacks h.1)
   pass_stops f Content h = (h.0 ∙ so.kept, inl (then (NextHasFault f) h.1))
 
-  pub pass_over : ReadsEnd to (between i1 i2 im ia) → PassingStopsBy first from (between i0 i2 ib ia) passed fault.NoFrames Content
-  pass_over over = (over.kept ∙ so.kept, inr (refl, then NextOver over.over))
+  pub pass_over : (notes : Notes) → ReadsEnd to notes (between i1 i2 im ia) → PassingStopsBy first from (between i0 i2 ib ia) passed fault.NoFrames Content
+  pass_over notes over = (over.kept ∙ so.kept, inr (refl, notes, then (NextOver notes) over.over))
 
 -- ---- of a file that was opened
 
@@ -80,7 +80,7 @@ module _ (profile : Profile) (first : ℕ) (i0 i1 i2 : Option (List ℕ)) (ib im
     h.0 ∙ opens.kept,
     elim h.1 [
       | inl faulty ↦ inl (file_then passed (NextHasFault f) faulty)
-      | inr none ↦ inr (none.0, file_then passed NextOver none.1)
+      | inr none ↦ inr (none.0, none.1, file_then passed (NextOver none.1) none.2)
     ],
   )
 

@@ -10,8 +10,8 @@ use Rattle.ffv1_record.specs.Accepted.{Accepted}
 use Rattle.ffv1_frame.specs.declared.fault.CodecFault.{CodecFault}
 use Rattle.ffv1_frame.specs.declared.fault.CodecFault.TheVariants as codec_fault
 use Rattle.ffv1_files.specs.Files.{frame_read}
-use Rattle.ffv1_files.specs.Endings.{endings_from}
 use Rattle.ffv1_files.specs.Places.{Place}
+use Rattle.ffv1_files.specs.declared.notes.Notes.{Notes}
 use Rattle.ffv1_files.specs.Readers.{Standing}
 use Rattle.ffv1_reads.specs.Known.{Known}
 use Rattle.ffv1_video.specs.declared.fault.Fault.{Fault}
@@ -24,7 +24,7 @@ use Rattle.ffv1_unpack.specs.Play.End.{File, Payload}
 use Rattle.ffv1_unpack.specs.Plays.{AtMost, GoesFrom, GoesThen, HasThen, NextBehindBy, NextEnds, NextHasFault, NextLacks, NextOver, NextPayloadLacks, NextReadFails, NextStays, PlaysThen, PlayStops, PlayStopsBy, RefusedFrom, TextFails, has_more}
 use Rattle.ffv1_unpack.specs.Internal.Plays.{OneStopsBy, PayloadFaults, PlaysFrame, PlaysMost, PlaysOne}
 use Rattle.ffv1_unpack.specs.Stream.{AreAll, Frame, IsFrame, ReadsFrames, frame_payload}
-use Rattle.ffv1_unpack.specs.Internal.Told.{FileStopsBy, WritesFrame}
+use Rattle.ffv1_unpack.specs.Internal.Told.{StopsFromBy, WritesFrame}
 use Rattle.ffv1_video.specs.Output.{Silent}
 use Rattle.ffv1_unpack.proofs.FaultsLocated.{memory_silent}
 use Rattle.ffv1_unpack.proofs.FramesInTurn.{all_more, but_last_more, counted_more, reads_more, reads_none}
@@ -88,10 +88,10 @@ module _ {X : Type 0} (Is : X → Type 0) (payload : X → List ℕ) (text : Lis
   plays_on Next none next = record { goes = goes_on Next next; wrote = record { written = none.same ∙ so.written; writes = Appends-kept o0 o1 o2 (text xs) so.writes none.kept } }
 
   -- and there is no further one
-  pub plays_over : (most : Option ℕ) → has_more most (length xs) ≡ true → AtMost most (length xs) → ReadsEnd to (between i1 i2 im ia) → Silent (between o1 o2 om oa) →
-      PlaysMost Is payload (HasThen from) text (between i0 i2 ib ia) (between o0 o2 ob oa) most xs
-  plays_over most room few over none = record {
-    plays = subst (λ b. PlaysThen Is payload (HasThen from) text (between i0 i2 ib ia) (between o0 o2 ob oa) xs (NextBehindBy b)) (sym room) (plays_on NextOver none over.over);
+  pub plays_over : (notes : Notes) (most : Option ℕ) → has_more most (length xs) ≡ true → AtMost most (length xs) → ReadsEnd to notes (between i1 i2 im ia) → Silent (between o1 o2 om oa) →
+      PlaysMost Is payload (HasThen from) text (between i0 i2 ib ia) (between o0 o2 ob oa) notes most xs
+  plays_over notes most room few over none = record {
+    plays = subst (λ b. PlaysThen Is payload (HasThen from) text (between i0 i2 ib ia) (between o0 o2 ob oa) xs (NextBehindBy notes b)) (sym room) (plays_on (NextOver notes) none over.over);
     few = few;
     kept = over.kept ∙ so.kept;
   }
@@ -134,10 +134,10 @@ module _ {X : Type 0} (Is : X → Type 0) (payload : X → List ℕ) (text : Lis
 
 -- as many were played as are wanted
 pub plays_full : {X : Type 0} (Is : X → Type 0) (payload : X → List ℕ) (text : List X → List ℕ) (from to : Place) (i0 i1 o0 o1 : Option (List ℕ)) (ib im ob om : ℕ) (xs : List X) →
-    SoFar Is payload text from (between i0 i1 ib im) (between o0 o1 ob om) xs to → (most : Option ℕ) → has_more most (length xs) ≡ false → AtMost most (length xs) →
-    PlaysMost Is payload (HasThen from) text (between i0 i1 ib im) (between o0 o1 ob om) most xs
-plays_full Is payload text from to i0 i1 o0 o1 ib im ob om xs so most full few = record {
-  plays = subst (λ b. PlaysThen Is payload (HasThen from) text (between i0 i1 ib im) (between o0 o1 ob om) xs (NextBehindBy b)) (sym full) (record {
+    SoFar Is payload text from (between i0 i1 ib im) (between o0 o1 ob om) xs to → (notes : Notes) (most : Option ℕ) → has_more most (length xs) ≡ false → AtMost most (length xs) →
+    PlaysMost Is payload (HasThen from) text (between i0 i1 ib im) (between o0 o1 ob om) notes most xs
+plays_full Is payload text from to i0 i1 o0 o1 ib im ob om xs so notes most full few = record {
+  plays = subst (λ b. PlaysThen Is payload (HasThen from) text (between i0 i1 ib im) (between o0 o1 ob om) xs (NextBehindBy notes b)) (sym full) (record {
     goes = record { are = so.are; has = has_stays from to i0 i1 (map payload xs) so.read };
     wrote = record { written = so.written; writes = so.writes };
   });
@@ -201,8 +201,8 @@ module _ (a : Accepted) (text : List Frame → List ℕ) (none : text [] ≡ [])
 
 module _ (a : Accepted) (text : List Frame → List ℕ) (from to last : Place) (count : ℕ) (i0 i1 i2 o0 o1 o2 : Option (List ℕ)) (ib im ia ob om oa : ℕ)
     (so : PlayedSo a text from (between i0 i1 ib im) (between o0 o1 ob om) count to) where
-  pub played_over : (most : Option ℕ) → has_more most (length so.frames) ≡ true → AtMost most (length so.frames) → ReadsEnd to (between i1 i2 im ia) → Silent (between o1 o2 om oa) →
-      PlaysMost (IsFrame a) frame_payload (HasThen from) text (between i0 i2 ib ia) (between o0 o2 ob oa) most so.frames
+  pub played_over : (notes : Notes) (most : Option ℕ) → has_more most (length so.frames) ≡ true → AtMost most (length so.frames) → ReadsEnd to notes (between i1 i2 im ia) → Silent (between o1 o2 om oa) →
+      PlaysMost (IsFrame a) frame_payload (HasThen from) text (between i0 i2 ib ia) (between o0 o2 ob oa) notes most so.frames
   played_over = plays_over (IsFrame a) frame_payload text from to last i0 i1 i2 o0 o1 o2 ib im ia ob om oa so.frames so.so
 
   then : (Next : Place → List ℕ → List ℕ → Type 0) → Silent (between o1 o2 om oa) → Known i1 i2 (Next to) →
@@ -271,7 +271,7 @@ module _ {X : Type 0} (Is : X → Type 0) (payload : X → List ℕ) (line : X �
   lacks from input h = known_map input.old input.new (NextPayloadLacks from) (NextLacks Is payload from) (λ bytes rest none. inl none) h
 
   -- there is none, and nothing was written
-  pub file_stops : (from to : Place) (input : Passage) (o : Option (List ℕ)) (n : ℕ) (f : Fault) (why : Cause) → FileStopsBy (endings_from from) (frame_read from) input f why →
+  pub file_stops : (from to : Place) (input : Passage) (o : Option (List ℕ)) (n : ℕ) (f : Fault) (why : Cause) → StopsFromBy from input f why →
       OneStopsBy Is payload line (λ g. Silent (between o o n n)) from to input (between o o n n) f why
   file_stops from to input o n f Reading stops = (silent o n, stops.0, stops.1)
   file_stops from to input o n f Writing stops = absurd stops
@@ -280,7 +280,7 @@ module _ {X : Type 0} (Is : X → Type 0) (payload : X → List ℕ) (line : X �
 
   -- or the line of that was
   pub file_refused : (byte : Bool) (i : ℕ) (from : Standing) (to : Place) (offset : ℕ) (input output : Passage) (f : Fault) (why : Cause) → cause_of f ≡ why →
-      FileStopsBy (endings_from from.place) (frame_read from.place) input f why → LocatedAfter from input f offset → WritesLine [] (located_text byte i f offset) output →
+      StopsFromBy from.place input f why → LocatedAfter from input f offset → WritesLine [] (located_text byte i f offset) output →
       OneStopsBy Is payload line (λ g. WritesLocated (LocatedAfter from input) byte i [] g output) from.place to input output f why
   file_refused byte i from to offset input output f Reading is h stops writes = (record { offset = offset; stops = stops; writes = writes }, h.0, h.1)
   file_refused byte i from to offset input output f Writing is h stops writes = absurd h

@@ -4,6 +4,7 @@ use Rattle.std.specs.Io.KnownBytes.{Appends}
 use Rattle.ffv1_wire.specs.Failures.{one_more}
 use Rattle.ffv1_wire.specs.Passage.{Passage, between}
 use Rattle.ffv1_files.specs.Places.{Place}
+use Rattle.ffv1_files.specs.declared.notes.Notes.{Notes}
 use Rattle.ffv1_files.specs.Files.{frame_read}
 use Rattle.ffv1_reads.specs.Known.{Known}
 use Rattle.ffv1_unpack.specs.Internal.Play.{ReadsEnd, ReadsPayload}
@@ -30,10 +31,10 @@ module _ (s : Stream) (from to last : Place) (i0 i1 i2 o0 o1 o2 : Option (List �
   unpacks_on Next none next = record { plays = plays_on (IsFrame s.accepted) frame_payload (text_of s) from to last i0 i1 i2 o0 o1 o2 ib im ia ob om oa frames un.so Next none next; alike = un.alike }
 
   -- and there is no further one
-  pub unpacks_over : (most : Option ℕ) → has_more most (length frames) ≡ true → AtMost most (length frames) → ReadsEnd to (between i1 i2 im ia) → Silent (between o1 o2 om oa) →
-      UnpacksMost (HasThen from) s (between i0 i2 ib ia) (between o0 o2 ob oa) most frames
-  unpacks_over most room few over none =
-      let all = plays_over (IsFrame s.accepted) frame_payload (text_of s) from to last i0 i1 i2 o0 o1 o2 ib im ia ob om oa frames un.so most room few over none in
+  pub unpacks_over : (notes : Notes) (most : Option ℕ) → has_more most (length frames) ≡ true → AtMost most (length frames) → ReadsEnd to notes (between i1 i2 im ia) → Silent (between o1 o2 om oa) →
+      UnpacksMost (HasThen from) s (between i0 i2 ib ia) (between o0 o2 ob oa) notes most frames
+  unpacks_over notes most room few over none =
+      let all = plays_over (IsFrame s.accepted) frame_payload (text_of s) from to last i0 i1 i2 o0 o1 o2 ib im ia ob om oa frames un.so notes most room few over none in
       record { unpacks = record { plays = all.plays; alike = un.alike }; few = few; kept = all.kept }
 
   pub goes_to : (payload : List ℕ) → ReadsPayload to last payload (between i1 i2 im ia) → GoesTo (HasThen from) s (between i0 i2 ib ia) (between o0 o2 ob oa) frames payload
@@ -58,9 +59,9 @@ module _ (s : Stream) (from to last : Place) (i0 i1 i2 o0 o1 o2 : Option (List �
 
 -- as many were unpacked as are wanted
 pub unpacks_full : (s : Stream) (from to : Place) (i0 i1 o0 o1 : Option (List ℕ)) (ib im ob om : ℕ) (frames : List Frame) → Unpacked s from (between i0 i1 ib im) (between o0 o1 ob om) frames to →
-    (most : Option ℕ) → has_more most (length frames) ≡ false → AtMost most (length frames) → UnpacksMost (HasThen from) s (between i0 i1 ib im) (between o0 o1 ob om) most frames
-unpacks_full s from to i0 i1 o0 o1 ib im ob om frames un most full few =
-    let all = plays_full (IsFrame s.accepted) frame_payload (text_of s) from to i0 i1 o0 o1 ib im ob om frames un.so most full few in
+    (notes : Notes) (most : Option ℕ) → has_more most (length frames) ≡ false → AtMost most (length frames) → UnpacksMost (HasThen from) s (between i0 i1 ib im) (between o0 o1 ob om) notes most frames
+unpacks_full s from to i0 i1 o0 o1 ib im ob om frames un notes most full few =
+    let all = plays_full (IsFrame s.accepted) frame_payload (text_of s) from to i0 i1 o0 o1 ib im ob om frames un.so notes most full few in
     record { unpacks = record { plays = all.plays; alike = un.alike }; few = few; kept = all.kept }
 
 -- memory was refused before the first one

@@ -7,6 +7,7 @@ use Rattle.ffv1_wire.specs.Failures.{one_more}
 use Rattle.ffv1_wire.specs.Passage.{Passage, between}
 use Rattle.ffv1_wire.specs.Runs.{Line}
 use Rattle.ffv1_files.specs.Places.{Place}
+use Rattle.ffv1_files.specs.declared.notes.Notes.{Notes}
 use Rattle.ffv1_reads.specs.Known.{Known}
 use Rattle.ffv1_y4m.specs.Images.{image_text}
 use Rattle.ffv1_video.specs.declared.fault.Fault.{Fault}
@@ -68,8 +69,8 @@ module _ (s : Stream) (ppm : is_ppm_stream s ≡ true) (from : Place) where
         Unpacked s from (between i0 i2 ib ia) (between o0 o2 ob oa) (frames ++ (f ∷ [])) last
     images_more f plays same writes = unpacks_more s from to last i0 i1 i2 o0 o1 o2 ib im ia ob om oa frames un image (whole_text frames) f plays (all_alike (frames ++ (f ∷ []))) same writes
 
-    pub images_over : (most : Option ℕ) → has_more most (length frames) ≡ true → AtMost most (length frames) → ReadsEnd to (between i1 i2 im ia) → Silent (between o1 o2 om oa) →
-        UnpacksMost (HasThen from) s (between i0 i2 ib ia) (between o0 o2 ob oa) most frames
+    pub images_over : (notes : Notes) (most : Option ℕ) → has_more most (length frames) ≡ true → AtMost most (length frames) → ReadsEnd to notes (between i1 i2 im ia) → Silent (between o1 o2 om oa) →
+        UnpacksMost (HasThen from) s (between i0 i2 ib ia) (between o0 o2 ob oa) notes most frames
     images_over = unpacks_over s from to last i0 i1 i2 o0 o1 o2 ib im ia ob om oa frames un
 
     then : (Next : Place → List ℕ → List ℕ → Type 0) → Silent (between o1 o2 om oa) → Known i1 i2 (Next to) → UnpacksThen (HasThen from) s (between i0 i2 ib ia) (between o0 o2 ob oa) frames Next

@@ -26,9 +26,7 @@ use Rattle.ffv1_y4m.specs.Ppm.{bytes_for}
 use Rattle.ffv1_samples.specs.Samples.{sample_bytes}
 use Rattle.ffv1_video.proofs.Depths.{bytes_are}
 use Rattle.ffv1_y4m.specs.Sink.{PpmSink, Takes, Refuses, kept_behind, line_text, row_with, text_with}
-use Rattle.ffv1_files.specs.Endings.{endings_from}
 use Rattle.ffv1_files.specs.Places.{Place}
-use Rattle.ffv1_files.specs.Files.{frame_read}
 use Rattle.ffv1_video.specs.declared.fault.Fault.{Fault}
 use Rattle.ffv1_video.specs.Faults.{Cause, cause_of, of_codec}
 use Rattle.ffv1_video.specs.Faults.Cause.{Reading, Writing, Memory, Content}
@@ -36,7 +34,7 @@ use Rattle.ffv1_unpack.specs.Internal.ImagesOut.{ImageFaults, ImageStopsBy, IsSi
 use Rattle.ffv1_codec.specs.Outcome.{FaultsOf, OffersLine}
 use Rattle.ffv1_codec.specs.Outcome.{lines_before}
 use Rattle.ffv1_unpack.specs.Internal.Play.{ReadsPayload}
-use Rattle.ffv1_unpack.specs.Internal.Told.{FileStopsBy}
+use Rattle.ffv1_unpack.specs.Internal.Told.{StopsFromBy}
 use Rattle.ffv1_video.specs.Output.{Silent, WritesUpTo}
 use Rattle.ffv1_unpack.proofs.ImageLines.{IsImage}
 use Rattle.ffv1_unpack.proofs.FrameDecoded.{same_fault}
@@ -203,7 +201,7 @@ sink_stays {W = W} contents failed s t same =
     subst (λ (z : PpmSink W). Silent (between (contents s.out) (contents z.out) (failed s.out) (failed z.out))) (sym same) (silent (contents s.out) (failed s.out))
 
 -- there is no frame
-pub file_stops : (a : Accepted) (from to : Place) (input output : Passage) (f : Fault) (why : Cause) → Silent output → FileStopsBy (endings_from from) (frame_read from) input f why → ImageStopsBy a from to input output f why
+pub file_stops : (a : Accepted) (from to : Place) (input output : Passage) (f : Fault) (why : Cause) → Silent output → StopsFromBy from input f why → ImageStopsBy a from to input output f why
 file_stops a from to input output f Reading none h = (none, h.0, h.1)
 file_stops a from to input output f Writing none h = absurd h
 file_stops a from to input output f Memory none h = (none, h.0, h.1)

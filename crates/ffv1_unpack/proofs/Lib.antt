@@ -8,10 +8,11 @@ mod FramesTold
 mod FramesUnpacked
 pub mod FilePlayed
 pub mod FramesPassed
+mod FramesNoted
 mod FileChecked
 mod FramesJudged
 mod FileJudged
-mod OpenedAs
+pub mod OpenedAs
 mod ItemsJudged
 mod FileItems
 mod PicturesWritten
@@ -24,7 +25,9 @@ mod ImagesSoFar
 mod StreamText
 mod FileShown
 pub mod FileSteps
+mod PayloadsRead
 mod LineParts
+mod FirstMovis
 pub mod OwnFaults
 mod Md5sSoFar
 mod Md5Numbers

@@ -71,7 +71,7 @@ pub lacks_file : (profile : Profile) (p : Passage) (f : FileFault) → StopsRead
 lacks_file profile p f h = stops_opening profile p (of_avi f) (cause_of (of_avi f)) (file_stops (open_read (scope_in profile)) (opening_endings (scope_in profile)) p f h)
 
 pub lacks_record : (profile : Profile) (p : Passage) (head : Head) (place : Place) (r : RecordFault) → p.after ≡ p.before → OpensKnown profile p.old p.new head place →
-    (r ≡ record_fault.OutOfMemory) ⊎ IsRefused (record_profile profile) (greatest_depth profile) head.config_record head.width head.height r → (r ≡ record_fault.OutOfMemory → ReachesSets (greatest_depth profile) head.config_record) → (r ≡ record_fault.OutOfMemory → HasSoundRecord profile head) → LacksOpening profile p (of_record r)
+    (r ≡ record_fault.OutOfMemory) ⊎ IsRefused (record_profile profile) (greatest_depth profile) head.config_record head.width head.height r → (r ≡ record_fault.OutOfMemory → ReachesSets (record_profile profile) (greatest_depth profile) head.config_record) → (r ≡ record_fault.OutOfMemory → HasSoundRecord profile head) → LacksOpening profile p (of_record r)
 lacks_record profile p head place r kept known why reaches sound = elim (record_cause r) [
   | inl memory ↦
       subst (λ z. LacksOpening profile p (of_record z)) (sym memory)

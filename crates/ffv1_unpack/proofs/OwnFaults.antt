@@ -1,5 +1,5 @@
 -- Which faults the calls on a file have, whatever it is.
-use Rattle.std.proofs.Common.{◌≡◌, ◌≢◌, ◌⊎◌, refl, ℕ, Bool, true, false, ◌||◌, Err, List, inl, inr, sym, subst}
+use Rattle.std.proofs.Common.{◌≡◌, ◌≢◌, ◌⊎◌, refl, ℕ, Bool, true, false, ◌||◌, Err, List, inl, inr, ap, sym, subst, Option}
 use Rattle.ffv1_wire.specs.Passage.{Passage}
 use Rattle.ffv1_record.specs.declared.fault.RecordFault.{RecordFault}
 use Rattle.ffv1_record.specs.declared.fault.RecordFault.TheVariants as record_fault
@@ -9,17 +9,27 @@ use Rattle.ffv1_codec.specs.DecodeFaults.{is_decode_fault}
 use Rattle.ffv1_reads.specs.declared.fault.FileFault.{FileFault}
 use Rattle.ffv1_reads.specs.declared.fault.FileFault.TheVariants as avi_fault
 use Rattle.ffv1_files.specs.declared.container.Container.TheVariants as container
-use Rattle.ffv1_files.specs.declared.container.Scope.TheVariants.{FirstMovi}
+use Rattle.ffv1_files.specs.declared.container.Scope.{Scope}
+use Rattle.ffv1_files.specs.declared.container.Scope.TheVariants.{FirstMovi, Whole}
+use Rattle.ffv1_files.specs.Offsets.{PlaceReached}
+use Rattle.ffv1_files.specs.Readers.{Standing}
+use Rattle.ffv1_reads.specs.Head.{Head}
+use Rattle.ffv1_avi.specs.Places.{extent_of}
+use Rattle.ffv1_avi.specs.Readers.{reads_on}
+use Rattle.ffv1_avi.specs.declared.place.Place.{Place as AviPlace}
 use Rattle.ffv1_files.specs.Places.{InAvi, InMatroska, Place, container_of}
+use Rattle.ffv1_files.specs.Behind.{is_behind_fault}
 use Rattle.ffv1_files.specs.Readers as files
 use Rattle.ffv1_video.specs.declared.profile.Profile.{Profile}
 use Rattle.ffv1_video.specs.declared.profile.Profile.TheVariants.{Strict, Wide}
 use Rattle.ffv1_unpack.specs.Containers.{is_profile_fault}
-use Rattle.ffv1_unpack.specs.Internal.Containers.{IsWithin, is_container_fault}
+use Rattle.ffv1_unpack.specs.Internal.Containers.{IsContainerFault, IsWithin, told_at}
+use Rattle.ffv1_unpack.specs.Internal.Located.{StaysReached}
+use Rattle.ffv1_unpack.specs.Located.{Stands}
 use Rattle.ffv1_video.specs.Profiles.{scope_in}
 use Rattle.ffv1_video.specs.declared.fault.Fault.{Fault}
 use Rattle.ffv1_video.specs.declared.fault.Fault.TheVariants as fault
-use Rattle.ffv1_video.specs.Faults.{of_avi, of_codec, of_record}
+use Rattle.ffv1_video.specs.Faults.{is_matroska_fault, of_avi, of_codec, of_record}
 use Rattle.ffv1_unpack.specs.Opens.{is_opening_fault}
 use Rattle.ffv1_unpack.specs.Check.{IsCheckFault}
 use Rattle.ffv1_unpack.specs.Show.{IsShowFault, is_show_fault, is_write}
@@ -27,6 +37,7 @@ use Rattle.ffv1_unpack.specs.Unpack.{IsUnpackFaultIn}
 use Rattle.ffv1_unpack.specs.Internal.Unpack.{IsWritingFault}
 use Rattle.ffv1_unpack.specs.Told.{is_telling_fault}
 use Rattle.ffv1_unpack.specs.Internal.Told.{IsToldFault, WritesFrame}
+use Rattle.ffv1_unpack.proofs.FirstMovis.{reads_alone}
 
 pub record_opens : (r : RecordFault) → is_opening_fault (of_record r) ≡ true
 record_opens record_fault.StateTable = refl
@@ -80,34 +91,80 @@ file_opens Strict avi_fault.Checksum own = absurd (let no : false ≡ true = own
 file_opens Wide avi_fault.Checksum own = inr refl
 file_opens Strict avi_fault.Rate own = absurd (let no : false ≡ true = own in cc)
 file_opens Wide avi_fault.Rate own = absurd (let no : false ≡ true = own in cc)
+file_opens Strict avi_fault.Another own = absurd (let no : false ≡ true = own in cc)
+file_opens Wide avi_fault.Another own = absurd (let no : false ≡ true = own in cc)
 
-pub frame_tells : (place : Place) (f : FileFault) → files.is_frame_fault place f ≡ true → IsToldFault (container_of place) (of_avi f)
-frame_tells place avi_fault.OutOfMemory own = inl refl
-frame_tells place avi_fault.NotAvi own = inl refl
-frame_tells (InAvi place) avi_fault.NoFfv1 own = absurd (let no : false ≡ true = own in cc)
-frame_tells (InMatroska segment track place) avi_fault.NoFfv1 own = absurd (let no : false ≡ true = own in cc)
-frame_tells place avi_fault.Truncated own = inl refl
-frame_tells place avi_fault.ChunkTooLong own = inl refl
-frame_tells place avi_fault.EmptyFrame own = inl refl
-frame_tells (InAvi place) avi_fault.TooLarge own = absurd (let no : false ≡ true = own in cc)
-frame_tells (InMatroska segment track place) avi_fault.TooLarge own = absurd (let no : false ≡ true = own in cc)
-frame_tells place avi_fault.Read own = inl refl
-frame_tells (InAvi place) avi_fault.Write own = absurd (let no : false ≡ true = own in cc)
-frame_tells (InMatroska segment track place) avi_fault.Write own = absurd (let no : false ≡ true = own in cc)
-frame_tells (InAvi place) avi_fault.NotMatroska own = absurd (let no : false ≡ true = own in cc)
-frame_tells (InMatroska segment track place) avi_fault.NotMatroska own = absurd (let no : false ≡ true = own in cc)
-frame_tells (InAvi place) avi_fault.BadElement own = absurd (let no : false ≡ true = own in cc)
-frame_tells (InMatroska segment track place) avi_fault.BadElement own = inr refl
-frame_tells (InAvi place) avi_fault.NoTracks own = absurd (let no : false ≡ true = own in cc)
-frame_tells (InMatroska segment track place) avi_fault.NoTracks own = absurd (let no : false ≡ true = own in cc)
-frame_tells (InAvi place) avi_fault.Encoded own = absurd (let no : false ≡ true = own in cc)
-frame_tells (InMatroska segment track place) avi_fault.Encoded own = absurd (let no : false ≡ true = own in cc)
-frame_tells (InAvi place) avi_fault.Laced own = absurd (let no : false ≡ true = own in cc)
-frame_tells (InMatroska segment track place) avi_fault.Laced own = inr refl
-frame_tells (InAvi place) avi_fault.Checksum own = absurd (let no : false ≡ true = own in cc)
-frame_tells (InMatroska segment track place) avi_fault.Checksum own = inr refl
-frame_tells (InAvi place) avi_fault.Rate own = absurd (let no : false ≡ true = own in cc)
-frame_tells (InMatroska segment track place) avi_fault.Rate own = absurd (let no : false ≡ true = own in cc)
+-- another file behind an AVI is met only if all of the file is read
+only_whole : (scope : Scope) (text left : Option (List ℕ)) (head : Head) (place : AviPlace) (offset : ℕ) → PlaceReached scope text left head (InAvi place) offset → reads_on (extent_of place) ≡ true → scope ≡ Whole
+only_whole FirstMovi text left head place offset h every = absurd (reads_alone head h.first place text h.between left h.before h.after h.opened h.framed every)
+only_whole Whole text left head place offset h every = refl
+
+frame_told : (r : Standing) (left : Option (List ℕ)) (place : Place) (f : FileFault) → ((scope : Scope) (text : Option (List ℕ)) → Stands scope text left r → PlaceReached scope text left r.head place r.offset) → files.is_frame_fault place f ≡ true →
+    (is_telling_fault (of_avi f) ≡ true) ⊎ told_at r left place (of_avi f)
+frame_told r left place avi_fault.OutOfMemory whole own = inl refl
+frame_told r left place avi_fault.NotAvi whole own = inl refl
+frame_told r left (InAvi place) avi_fault.NoFfv1 whole own = absurd (let no : false ≡ true = own in cc)
+frame_told r left (InMatroska segment track place) avi_fault.NoFfv1 whole own = absurd (let no : false ≡ true = own in cc)
+frame_told r left place avi_fault.Truncated whole own = inl refl
+frame_told r left place avi_fault.ChunkTooLong whole own = inl refl
+frame_told r left place avi_fault.EmptyFrame whole own = inl refl
+frame_told r left (InAvi place) avi_fault.TooLarge whole own = absurd (let no : false ≡ true = own in cc)
+frame_told r left (InMatroska segment track place) avi_fault.TooLarge whole own = absurd (let no : false ≡ true = own in cc)
+frame_told r left place avi_fault.Read whole own = inl refl
+frame_told r left (InAvi place) avi_fault.Write whole own = absurd (let no : false ≡ true = own in cc)
+frame_told r left (InMatroska segment track place) avi_fault.Write whole own = absurd (let no : false ≡ true = own in cc)
+frame_told r left (InAvi place) avi_fault.NotMatroska whole own = absurd (let no : false ≡ true = own in cc)
+frame_told r left (InMatroska segment track place) avi_fault.NotMatroska whole own = absurd (let no : false ≡ true = own in cc)
+frame_told r left (InAvi place) avi_fault.BadElement whole own = absurd (let no : false ≡ true = own in cc)
+frame_told r left (InMatroska segment track place) avi_fault.BadElement whole own = inr refl
+frame_told r left (InAvi place) avi_fault.NoTracks whole own = absurd (let no : false ≡ true = own in cc)
+frame_told r left (InMatroska segment track place) avi_fault.NoTracks whole own = absurd (let no : false ≡ true = own in cc)
+frame_told r left (InAvi place) avi_fault.Encoded whole own = absurd (let no : false ≡ true = own in cc)
+frame_told r left (InMatroska segment track place) avi_fault.Encoded whole own = absurd (let no : false ≡ true = own in cc)
+frame_told r left (InAvi place) avi_fault.Laced whole own = absurd (let no : false ≡ true = own in cc)
+frame_told r left (InMatroska segment track place) avi_fault.Laced whole own = inr refl
+frame_told r left (InAvi place) avi_fault.Checksum whole own = absurd (let no : false ≡ true = own in cc)
+frame_told r left (InMatroska segment track place) avi_fault.Checksum whole own = inr refl
+frame_told r left (InAvi place) avi_fault.Rate whole own = absurd (let no : false ≡ true = own in cc)
+frame_told r left (InMatroska segment track place) avi_fault.Rate whole own = absurd (let no : false ≡ true = own in cc)
+frame_told r left (InAvi place) avi_fault.Another whole own = inr (refl, λ scope text stands. only_whole scope text left r.head place r.offset (whole scope text stands) own)
+frame_told r left (InMatroska segment track place) avi_fault.Another whole own = absurd (let no : false ≡ true = own in cc)
+
+pub frame_tells : (r : Standing) (left : Option (List ℕ)) (f : FileFault) → files.is_frame_fault r.place f ≡ true → IsToldFault r left (of_avi f)
+frame_tells r left f own = frame_told r left r.place f (λ scope text stands. stands.reached.whole) own
+
+-- and those of what stands behind the end, which is in that container
+behind_told : (r : Standing) (left : Option (List ℕ)) (place last : Place) (f : FileFault) → container_of last ≡ container_of place → is_behind_fault last f ≡ true → (is_telling_fault (of_avi f) ≡ true) ⊎ told_at r left place (of_avi f)
+behind_told r left place (InAvi last) f same own = absurd (let no : false ≡ true = own in cc)
+behind_told r left (InAvi place) (InMatroska segment track last) f same own = absurd (cc)
+behind_told r left (InMatroska size numbers place) (InMatroska segment track last) avi_fault.Read same own = inl refl
+behind_told r left (InMatroska size numbers place) (InMatroska segment track last) avi_fault.Another same own = inr refl
+behind_told r left (InMatroska size numbers place) (InMatroska segment track last) f same own = absurd (let no : false ≡ true = own in cc)
+
+pub behind_tells : (r : Standing) (left : Option (List ℕ)) (last : Standing) (f : FileFault) → container_of last.place ≡ container_of r.place → is_behind_fault last.place f ≡ true → IsToldFault r left (of_avi f)
+behind_tells r left last f same own = behind_told r left r.place last.place f same own
+
+-- those of a later position are those of the one before
+at_on : (old new : Standing) (p : Passage) (place last : Place) (f : Fault) → container_of last ≡ container_of place → (container_of place ≡ container.Avi → StaysReached old new p) → told_at new p.new last f → told_at old p.old place f
+at_on old new p (InAvi place) (InAvi last) f same stays (is, whole) = (is, λ scope text stands. whole scope text (stays refl scope text stands))
+at_on old new p (InMatroska size numbers place) (InMatroska segment track last) f same stays own = own
+at_on old new p (InAvi place) (InMatroska segment track last) f same stays own = absurd (cc)
+at_on old new p (InMatroska size numbers place) (InAvi last) f same stays own = absurd (cc)
+
+pub told_after : (old new : Standing) (p : Passage) (f : Fault) → container_of new.place ≡ container_of old.place → (container_of old.place ≡ container.Avi → StaysReached old new p) → IsToldFault new p.new f → IsToldFault old p.old f
+told_after old new p f same stays h = elim h [
+  | inl own ↦ inl own
+  | inr own ↦ inr (at_on old new p old.place new.place f same stays own)
+]
+
+pub told_on : (old new : Standing) (p : Passage) (f : Fault) → container_of new.place ≡ container_of old.place → StaysReached old new p → IsToldFault new p.new f → IsToldFault old p.old f
+told_on old new p f same stays h = told_after old new p f same (λ avi. stays) h
+
+pub written_on : (old new : Standing) (p : Passage) (f : Fault) → container_of new.place ≡ container_of old.place → StaysReached old new p → IsWritingFault new p.new f → IsWritingFault old p.old f
+written_on old new p f same stays h = elim h [
+  | inl own ↦ inl own
+  | inr own ↦ inr (at_on old new p old.place new.place f same (λ avi. stays) own)
+]
 
 -- a profile that reads AVI alone
 pub within_of : (profile : Profile) (place : Place) → (scope_in profile ≡ FirstMovi → container_of place ≡ container.Avi) → IsWithin profile place
@@ -115,43 +172,47 @@ within_of Strict place avi = avi refl
 within_of Wide place avi = tt
 
 -- those of a container are those of a profile that reads it
-pub container_own : (profile : Profile) (place : Place) (f : Fault) → IsWithin profile place → is_container_fault (container_of place) f ≡ true → is_profile_fault profile f ≡ true
-container_own Strict place f within own = rw within at own
-container_own Wide (InAvi place) f within own = absurd (let no : false ≡ true = own in cc)
-container_own Wide (InMatroska segment track place) f within own = own
+own_at : (profile : Profile) (r : Standing) (text left : Option (List ℕ)) (place : Place) (f : Fault) → Stands (scope_in profile) text left r → IsWithin profile place → told_at r left place f → is_profile_fault profile f ≡ true
+own_at Strict r text left (InAvi place) f stands within (is, whole) = absurd (let no : FirstMovi ≡ Whole = whole FirstMovi text stands in cc)
+own_at Strict r text left (InMatroska segment track place) f stands within own = absurd (cc)
+own_at Wide r text left (InAvi place) f stands within (is, whole) = ap is_matroska_fault is
+own_at Wide r text left (InMatroska segment track place) f stands within own = own
 
-pub told_checks : (profile : Profile) (place : Place) (f : Fault) → IsWithin profile place → IsToldFault (container_of place) f → IsCheckFault profile f
-told_checks profile place f within h = elim h [
+pub container_own : (profile : Profile) (r : Standing) (text left : Option (List ℕ)) (f : Fault) → Stands (scope_in profile) text left r → IsWithin profile r.place → IsContainerFault r left f → is_profile_fault profile f ≡ true
+container_own profile r text left f stands within own = own_at profile r text left r.place f stands within own
+
+pub told_checks : (profile : Profile) (r : Standing) (text left : Option (List ℕ)) (f : Fault) → Stands (scope_in profile) text left r → IsWithin profile r.place → IsToldFault r left f → IsCheckFault profile f
+told_checks profile r text left f stands within h = elim h [
   | inl own ↦ inr (inl own)
-  | inr own ↦ inr (inr (inr (container_own profile place f within own)))
+  | inr own ↦ inr (inr (inr (container_own profile r text left f stands within own)))
 ]
 
 -- those of reading on and of writing lines are those of writing pictures
-pub told_writes : (place : Place) (f : Fault) → IsToldFault (container_of place) f → IsWritingFault (container_of place) f
-told_writes place f h = elim h [
+pub told_writes : (r : Standing) (left : Option (List ℕ)) (f : Fault) → IsToldFault r left f → IsWritingFault r left f
+told_writes r left f h = elim h [
   | inl own ↦ inl (inr (inl own))
   | inr own ↦ inr own
 ]
 
-pub written_unpacks : (profile : Profile) (place : Place) (f : Fault) → IsWithin profile place → IsWritingFault (container_of place) f → IsUnpackFaultIn profile f
-written_unpacks profile place f within h = elim h [
+pub written_unpacks : (profile : Profile) (r : Standing) (text left : Option (List ℕ)) (f : Fault) → Stands (scope_in profile) text left r → IsWithin profile r.place → IsWritingFault r left f → IsUnpackFaultIn profile f
+written_unpacks profile r text left f stands within h = elim h [
   | inl own ↦ inl own
-  | inr own ↦ inr (container_own profile place f within own)
+  | inr own ↦ inr (container_own profile r text left f stands within own)
 ]
 
 -- and so are those of passing frames
-pub passing_checks : (profile : Profile) (place : Place) (f : Fault) → IsWithin profile place → (f ≡ fault.NoFrames) ⊎ IsToldFault (container_of place) f → IsCheckFault profile f
-passing_checks profile place f within h = elim h [
+pub passing_checks : (profile : Profile) (r : Standing) (text left : Option (List ℕ)) (f : Fault) → Stands (scope_in profile) text left r → IsWithin profile r.place → (f ≡ fault.NoFrames) ⊎ IsToldFault r left f → IsCheckFault profile f
+passing_checks profile r text left f stands within h = elim h [
   | inl none ↦ inr (inr (inl none))
-  | inr told ↦ told_checks profile place f within told
+  | inr told ↦ told_checks profile r text left f stands within told
 ]
 
-pub passing_unpacks : (profile : Profile) (place : Place) (f : Fault) → IsWithin profile place → (f ≡ fault.NoFrames) ⊎ IsToldFault (container_of place) f → IsUnpackFaultIn profile f
-passing_unpacks profile place f within h = elim h [
+pub passing_unpacks : (profile : Profile) (r : Standing) (text left : Option (List ℕ)) (f : Fault) → Stands (scope_in profile) text left r → IsWithin profile r.place → (f ≡ fault.NoFrames) ⊎ IsToldFault r left f → IsUnpackFaultIn profile f
+passing_unpacks profile r text left f stands within h = elim h [
   | inl none ↦ inl (inr (inr (inl none)))
   | inr told ↦ elim told [
     | inl own ↦ inl (inr (inl own))
-    | inr own ↦ inr (container_own profile place f within own)
+    | inr own ↦ inr (container_own profile r text left f stands within own)
   ]
 ]
 
@@ -175,6 +236,9 @@ payload_tells codec_fault.SymbolTooLong decode own = refl
 payload_tells codec_fault.Colour decode own = refl
 payload_tells codec_fault.Overread decode own = refl
 payload_tells codec_fault.Ending decode own = refl
+payload_tells codec_fault.BitsEnd decode own = refl
+payload_tells codec_fault.BadCode decode own = refl
+payload_tells codec_fault.Padding decode own = refl
 payload_tells codec_fault.NotKey decode own = refl
 payload_tells codec_fault.Place decode own = refl
 payload_tells codec_fault.SetIndex decode own = refl
@@ -207,10 +271,10 @@ opened_shows profile cost f h = elim h [
   | inr own ↦ inr own
 ]
 
-pub told_shows : (profile : Profile) (place : Place) (f : Fault) → IsWithin profile place → IsToldFault (container_of place) f → IsShowFault profile true f
-told_shows profile place f within h = elim h [
+pub told_shows : (profile : Profile) (r : Standing) (text left : Option (List ℕ)) (f : Fault) → Stands (scope_in profile) text left r → IsWithin profile r.place → IsToldFault r left f → IsShowFault profile true f
+told_shows profile r text left f stands within h = elim h [
   | inl own ↦ inl (either_right (is_opening_fault f) (is_telling_fault f) own)
-  | inr own ↦ inr (container_own profile place f within own)
+  | inr own ↦ inr (container_own profile r text left f stands within own)
 ]
 
 pub line_shows : (cost : Bool) (line : List ℕ) (p : Passage) (f : Fault) → WritesFrame line p (Err f) → is_show_fault cost f ≡ true

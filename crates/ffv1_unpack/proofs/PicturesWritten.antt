@@ -15,8 +15,7 @@ use Rattle.ffv1_y4m.specs.Canonical.{header_text}
 use Rattle.ffv1_y4m.specs.Pictures.{picture_text}
 use Rattle.ffv1_y4m.specs.declared.head.VideoHead.{VideoHead}
 use Rattle.ffv1_files.specs.Places.{Place}
-use Rattle.ffv1_files.specs.Files.{frame_read}
-use Rattle.ffv1_files.specs.Endings.{endings_from}
+use Rattle.ffv1_files.specs.declared.notes.Notes.{Notes}
 use Rattle.ffv1_reads.specs.Head.{Head}
 use Rattle.ffv1_reads.specs.Known.{Known}
 use Rattle.ffv1_video.specs.declared.fault.Fault.{Fault}
@@ -24,7 +23,7 @@ use Rattle.ffv1_video.specs.Faults.{Cause, cause_of, of_codec}
 use Rattle.ffv1_video.specs.Faults.Cause.{Reading, Writing, Memory, Content}
 use Rattle.ffv1_unpack.specs.Internal.PicturesOut.{Begun, FrameChanges, begun_behind, IsBegun, NextStopsBy, SaysAgain, WritesPicture, head_saying, said_in, text_behind, writer_behind}
 use Rattle.ffv1_unpack.specs.Stream.{Frame, IsFrame, Stream, frame_payload, payloads}
-use Rattle.ffv1_unpack.specs.Internal.Told.{FileStopsBy}
+use Rattle.ffv1_unpack.specs.Internal.Told.{StopsFromBy}
 use Rattle.ffv1_video.specs.Output.{Silent}
 use Rattle.ffv1_codec.specs.Outcome.{lines_before}
 use Rattle.ffv1_unpack.specs.Unpacked.{AlikeBy, AllSay, is_ppm_stream, pictures, rows_by, text_by, text_of, video_of, y4m_text}
@@ -111,8 +110,8 @@ module _ (s : Stream) (h : VideoHead) (heads : (said : Said) → head_saying h s
         Unpacked s from (between i0 i2 ib ia) (between o0 o2 ob oa) (frames ++ (f ∷ [])) last
     unpacked_more f plays again same writes = unpacks_more s from to last i0 i1 i2 o0 o1 o2 ib im ia ob om oa frames un behind (whole_text frames) f plays (more_alike f again) same writes
 
-    pub unpacked_over : (most : Option ℕ) → has_more most (length frames) ≡ true → AtMost most (length frames) → ReadsEnd to (between i1 i2 im ia) → Silent (between o1 o2 om oa) →
-        UnpacksMost (HasThen from) s (between i0 i2 ib ia) (between o0 o2 ob oa) most frames
+    pub unpacked_over : (notes : Notes) (most : Option ℕ) → has_more most (length frames) ≡ true → AtMost most (length frames) → ReadsEnd to notes (between i1 i2 im ia) → Silent (between o1 o2 om oa) →
+        UnpacksMost (HasThen from) s (between i0 i2 ib ia) (between o0 o2 ob oa) notes most frames
     unpacked_over = unpacks_over s from to last i0 i1 i2 o0 o1 o2 ib im ia ob om oa frames un
 
     then : (Next : Place → List ℕ → List ℕ → Type 0) → Silent (between o1 o2 om oa) → Known i1 i2 (Next to) → UnpacksThen (HasThen from) s (between i0 i2 ib ia) (between o0 o2 ob oa) frames Next
@@ -177,6 +176,9 @@ decode_cause codec_fault.SymbolTooLong is own = refl
 decode_cause codec_fault.Colour is own = refl
 decode_cause codec_fault.Overread is own = refl
 decode_cause codec_fault.Ending is own = refl
+decode_cause codec_fault.BitsEnd is own = refl
+decode_cause codec_fault.BadCode is own = refl
+decode_cause codec_fault.Padding is own = refl
 decode_cause codec_fault.NotKey is own = refl
 decode_cause codec_fault.Place is own = refl
 decode_cause codec_fault.SetIndex is own = refl
@@ -219,7 +221,7 @@ module _ (a : Accepted) (h : VideoHead) (first : Option Said) (from to : Place) 
   ]
 
   -- there is none
-  pub file_stops : (o : Option (List ℕ)) (n : ℕ) (f : Fault) (why : Cause) → FileStopsBy (endings_from from) (frame_read from) input f why → NextStopsBy a h first from to input (between o o n n) f why
+  pub file_stops : (o : Option (List ℕ)) (n : ℕ) (f : Fault) (why : Cause) → StopsFromBy from input f why → NextStopsBy a h first from to input (between o o n n) f why
   file_stops o n f Reading stops = (silent o n, stops.0, stops.1)
   file_stops o n f Writing stops = absurd stops
   file_stops o n f Memory stops = (silent o n, stops.0, stops.1)

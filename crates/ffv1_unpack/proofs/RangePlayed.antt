@@ -1,9 +1,10 @@
 -- The frames of a range are played.
-use Rattle.std.proofs.Common.{◌≡◌, ◌⊎◌, refl, ℕ, Option, List, [], length, inl, inr, subst, ◌∙◌, arith}
+use Rattle.std.proofs.Common.{◌≡◌, ◌⊎◌, refl, ℕ, true, Option, List, [], length, inl, inr, subst, ◌∙◌, arith}
 use Rattle.ffv1_range.specs.Counts.{saturated}
 use Rattle.ffv1_wire.specs.Passage.{between}
 use Rattle.ffv1_record.specs.Accepted.{Accepted}
 use Rattle.ffv1_files.specs.Places.{Place}
+use Rattle.ffv1_files.specs.declared.notes.Notes.{Notes}
 use Rattle.ffv1_files.specs.Readers.{Standing}
 use Rattle.ffv1_reads.specs.Known.{Known}
 use Rattle.ffv1_words.specs.declared.order.FrameRange.{FrameRange}
@@ -12,14 +13,16 @@ use Rattle.ffv1_video.specs.declared.fault.Fault.{Fault}
 use Rattle.ffv1_video.specs.declared.fault.Fault.TheVariants as fault
 use Rattle.ffv1_video.specs.Faults.{cause_of}
 use Rattle.ffv1_video.proofs.Output.{silent}
+use Rattle.ffv1_unpack.specs.Behind.{NotedIn}
 use Rattle.ffv1_unpack.specs.Internal.Opens.{OpensRange, stream_of}
 use Rattle.ffv1_unpack.specs.Internal.Plays.{PlaysMost}
 use Rattle.ffv1_unpack.specs.Opens.{LacksOpening}
-use Rattle.ffv1_unpack.specs.Plays.{FramesThen, HasThen, NextBehind, PlayStops}
+use Rattle.ffv1_unpack.specs.Plays.{FramesThen, HasThen, NextBehind, NotedAfter, PlayStops, has_more}
 use Rattle.ffv1_unpack.specs.Ranges.{PassStops, PlaysRange, RangeStops, RangeThen}
-use Rattle.ffv1_unpack.specs.Stream.{Frame, IsFrame, Stream, frame_payload}
+use Rattle.ffv1_unpack.specs.Stream.{Frame, IsFrame, Stream, frame_payload, payloads}
 use Rattle.ffv1_unpack.proofs.FilePlayed.{stream_goes, then_file}
 use Rattle.ffv1_unpack.proofs.FileRead.{no_items, positive}
+use Rattle.ffv1_unpack.proofs.FramesNoted.{noted_by}
 use Rattle.ffv1_unpack.proofs.FramesPassed.{range_has}
 
 module _ (profile : Profile) (range : FrameRange) (text : Stream → List Frame → List ℕ) (i0 i1 i2 o0 o1 : Option (List ℕ)) (ib im ia ob om : ℕ) where
@@ -37,11 +40,11 @@ module _ (profile : Profile) (range : FrameRange) (text : Stream → List Frame 
     range_stops f h =
         inr (inl (stream_goes profile text i0 i1 i2 o0 o1 ib im ia ob om (stream_of r a) opens.stream (HasThen r.place) (RangeThen profile range.first) leads opens.kept f (cause_of f) h))
 
-    module _ (frames : List Frame) (count : ℕ) (is : count ≡ saturated (length frames))
-        (all : PlaysMost (IsFrame a) frame_payload (HasThen r.place) (text (stream_of r a)) (between i1 i2 im ia) (between o0 o1 ob om) range.count frames) where
-      all_held : FramesThen (RangeThen profile range.first r.head) a (text (stream_of r a)) (between i0 i2 ib ia) (between o0 o1 ob om) frames (NextBehind range.count (length frames))
+    module _ (notes : Notes) (frames : List Frame) (count : ℕ) (is : count ≡ saturated (length frames))
+        (all : PlaysMost (IsFrame a) frame_payload (HasThen r.place) (text (stream_of r a)) (between i1 i2 im ia) (between o0 o1 ob om) notes range.count frames) where
+      all_held : FramesThen (RangeThen profile range.first r.head) a (text (stream_of r a)) (between i0 i2 ib ia) (between o0 o1 ob om) frames (NextBehind notes range.count (length frames))
       all_held =
-          then_file profile text i0 i1 i2 o0 o1 ib im ia ob om (stream_of r a) opens.stream (HasThen r.place) (RangeThen profile range.first) leads opens.kept frames (NextBehind range.count (length frames)) all.plays
+          then_file profile text i0 i1 i2 o0 o1 ib im ia ob om (stream_of r a) opens.stream (HasThen r.place) (RangeThen profile range.first) leads opens.kept frames (NextBehind notes range.count (length frames)) all.plays
 
       pub range_none : count ≡ 0 → RangeStops profile range text (between i0 i2 ib ia) (between o0 o1 ob om) fault.NoFrames
       range_none none =
@@ -51,19 +54,23 @@ module _ (profile : Profile) (range : FrameRange) (text : Stream → List Frame 
             record {
               stream = stream_of r a;
               is = opens.stream;
-              none = subst (λ xs. FramesThen (RangeThen profile range.first r.head) a (text (stream_of r a)) (between i0 i2 ib ia) (between o0 o1 ob om) xs (NextBehind range.count (length xs))) empty all_held;
+              notes = notes;
+              none = subst (λ xs. FramesThen (RangeThen profile range.first r.head) a (text (stream_of r a)) (between i0 i2 ib ia) (between o0 o1 ob om) xs (NextBehind notes range.count (length xs))) empty all_held;
               kept = all.kept ∙ opens.kept;
             },
           ))
 
-      pub range_done : (count ≡ 0 → ⊥) → PlaysRange profile range text (between i0 i2 ib ia) (between o0 o1 ob om)
-      range_done some_frames = record {
+      pub range_done : (count ≡ 0 → ⊥) → (told : Notes) → (has_more range.count (length frames) ≡ true → told ≡ notes) → NotedAfter told range.count (length frames) →
+          (has_more range.count (length frames) ≡ true → NotedIn profile (between i0 i2 ib ia) told) → PlaysRange profile range text (between i0 i2 ib ia) (between o0 o1 ob om) told
+      range_done some_frames told read unread noted = record {
         stream = stream_of r a;
         frames = frames;
         some = positive frames (λ none. some_frames (let zero_is : count ≡ 0 = omega (arith, is, none) in zero_is));
         few = all.few;
         played = record { stream = opens.stream; decoded = all.plays.goes.are };
-        reads = all_held.goes.has;
+        reads = noted_by (λ Next. Known i0 i2 (RangeThen profile range.first r.head (payloads frames) Next)) notes told (has_more range.count (length frames)) read all_held.goes.has;
+        noted = unread;
+        of_file = noted;
         kept = all.kept ∙ opens.kept;
         written = all.plays.wrote.written;
         writes = all.plays.wrote.writes;

@@ -6,6 +6,7 @@ use Rattle.ffv1_record.specs.Accepted.{Accepted}
 use Rattle.ffv1_record.specs.Configuration.{Configuration}
 use Rattle.ffv1_files.specs.Files.{frame_read, open_read}
 use Rattle.ffv1_files.specs.Places.{Place}
+use Rattle.ffv1_files.specs.declared.notes.Notes.{Notes}
 use Rattle.ffv1_reads.specs.Head.{Head}
 use Rattle.ffv1_reads.specs.Known.{Known}
 use Rattle.ffv1_video.specs.declared.profile.Profile.{Profile}
@@ -22,12 +23,12 @@ use Rattle.ffv1_unpack.specs.FrameLines.{frame_lines, place_text}
 use Rattle.ffv1_unpack.specs.Judged.{payloads_of}
 use Rattle.ffv1_unpack.specs.Located.{LocatedFault, WritesLine}
 use Rattle.ffv1_unpack.specs.Play.End.{Over}
-use Rattle.ffv1_unpack.specs.Plays.{FileStops, FileThen, NextBehind, NextOver, NextIsPayload, PlaysFile, StreamGoes}
+use Rattle.ffv1_unpack.specs.Plays.{FileStops, FileThen, HoldsNoted, NextBehind, NextOver, NextIsPayload, PlaysFile, StreamGoes}
 use Rattle.ffv1_unpack.specs.Ranges.{PassStopsBy, PlaysRange, RangeNone, RangeStops, RangeThen, all_frames, number_in}
 use Rattle.ffv1_unpack.specs.Stream.{Frame, HoldsPayloads, IsFrame, ReadsFrames, Stream, frame_payload, payloads}
 use Rattle.ffv1_unpack.specs.Unpack.{UnpackDone, UnpackRangeDone, UnpackRangeStops, UnpackStops}
 use Rattle.ffv1_unpack.proofs.FilePlayed.{goes_file, refused_file, stream_goes, then_file}
-use Rattle.ffv1_unpack.proofs.FileRead.{no_items}
+use Rattle.ffv1_unpack.proofs.FileRead.{holds_noted, no_items}
 use Rattle.ffv1_unpack.proofs.FileUnpacked.{unpack_goes, unpack_none}
 use Rattle.ffv1_video.proofs.KnownTexts.{known_map}
 
@@ -44,7 +45,7 @@ none_passed profile input passed f Writing h = h
 none_passed profile input passed f Memory h = let few = h.1.few in omega (arith, few)
 none_passed profile input passed f Content h = elim h.1 [
   | inl faulty ↦ let few = faulty.few in omega (arith, few)
-  | inr none ↦ let few = none.1.few in omega (arith, few)
+  | inr none ↦ let few = none.2.few in omega (arith, few)
 ]
 
 all_numbers : (n : ℕ) → number_in all_frames n ≡ saturated n
@@ -62,8 +63,8 @@ module _ (profile : Profile) (text : Stream → List Frame → List ℕ) (i0 i2 
       h.kept,
       record {
         frames = [];
-        end = Over;
-        plays = then_file profile text i0 i0 i2 o0 o1 ib ib ia ob om h.stream h.is (RangeThen profile 0 h.stream.head) (FileThen profile) (range_file profile h.stream.head i0 i2) refl [] NextOver h.none;
+        end = Over h.notes;
+        plays = then_file profile text i0 i0 i2 o0 o1 ib ib ia ob om h.stream h.is (RangeThen profile 0 h.stream.head) (FileThen profile) (range_file profile h.stream.head i0 i2) refl [] (NextOver h.notes) h.none;
         faulty = tt;
         is = (refl, refl);
       },
@@ -91,9 +92,10 @@ module _ {X : Type 0} (Is : Accepted → X → Type 0) (payload : X → List ℕ
       AllOver Is payload text last (FileThen profile) None saturated profile place (between i0 i2 ib ia) (between o0 o1 ob om) s xs
   over_file s xs h = record {
     is = h.is;
+    notes = h.notes;
     goes =
         goes_file (Is s.accepted) payload (text s.accepted.configuration) (RangeThen profile 0 s.head) (FileThen profile s.head) i0 i0 i2 o0 o1 ib ib ia ob om (range_file profile s.head i0 i2) refl xs
-        (NextBehind None (length xs)) h.goes;
+        (NextBehind h.notes None (length xs)) h.goes;
     kept = h.kept;
   }
 
@@ -158,39 +160,42 @@ check_file profile place i0 i2 o0 o1 ib ia ob om f h = elim h [
 -- a file whose payloads are read to its end holds them
 module _ (holds : (profile : Profile) (file behind rest : List ℕ) (head : Head) (from to : Place) (at : List ℕ) (held : List (List ℕ)) → open_read (scope_in profile) file ≡ Ok ((head, from), behind) →
     ReadsFrames from behind held to at → frame_read to at ≡ Ok (None, rest) → HoldsPayloads profile file rest head held) where
-  holds_range : (profile : Profile) (head : Head) (i0 i2 : Option (List ℕ)) (ps : List (List ℕ)) → Known i0 i2 (RangeThen profile 0 head ps NextOver) → Known i0 i2 (λ file rest. HoldsPayloads profile file rest head ps)
-  holds_range profile head i0 i2 ps has =
-      known_map i0 i2 (FileThen profile head ps NextOver) (λ file rest. HoldsPayloads profile file rest head ps)
-      (λ file rest p. holds profile file p.1 rest head p.0 p.3.0 p.3.1 ps p.2 p.3.2 p.3.3) (range_file profile head i0 i2 ps NextOver has)
+  holds_range : (profile : Profile) (notes : Notes) (head : Head) (i0 i2 : Option (List ℕ)) (ps : List (List ℕ)) → Known i0 i2 (RangeThen profile 0 head ps (NextOver notes)) → Known i0 i2 (HoldsNoted profile notes head ps)
+  holds_range profile notes head i0 i2 ps has =
+      known_map i0 i2 (FileThen profile head ps (NextOver notes)) (HoldsNoted profile notes head ps)
+      (holds_noted holds profile notes head ps) (range_file profile head i0 i2 ps (NextOver notes) has)
 
-  pub plays_whole : (profile : Profile) (text : Stream → List Frame → List ℕ) (input output : Passage) → PlaysRange profile all_frames text input output → PlaysFile profile text input output
-  plays_whole profile text input output h = record {
+  pub plays_whole : (profile : Profile) (text : Stream → List Frame → List ℕ) (input output : Passage) (notes : Notes) → PlaysRange profile all_frames text input output notes → PlaysFile profile text input output notes
+  plays_whole profile text input output notes h = record {
     stream = h.stream;
     frames = h.frames;
     some = h.some;
     played = h.played;
-    reads = holds_range profile h.stream.head input.old input.new (payloads h.frames) h.reads;
+    reads = holds_range profile notes h.stream.head input.old input.new (payloads h.frames) h.reads;
+    of_file = h.of_file refl;
     kept = h.kept;
     written = h.written;
     writes = h.writes;
   }
 
-  pub judges_whole : (profile : Profile) (place : Bool) (input output : Passage) (first : Option Fault) → CheckAllRangeDone profile place all_frames input output first → CheckAllDone profile place input output first
-  judges_whole profile place input output first h = record {
+  pub judges_whole : (profile : Profile) (place : Bool) (input output : Passage) (first : Option Fault) (notes : Notes) → CheckAllRangeDone profile place all_frames input output first notes →
+      CheckAllDone profile place input output first notes
+  judges_whole profile place input output first notes h = record {
     stream = h.stream;
     judged = h.judged;
     some = h.some;
     is = h.is;
     are = h.are;
-    reads = holds_range profile h.stream.head input.old input.new (payloads_of h.judged) h.reads;
+    reads = holds_range profile notes h.stream.head input.old input.new (payloads_of h.judged) h.reads;
+    of_file = h.of_file refl;
     kept = h.kept;
     written = h.written;
     writes = h.writes;
     told = h.told;
   }
 
-  pub unpacks_whole : (profile : Profile) (input output : Passage) (count : ℕ) → UnpackRangeDone profile all_frames input output count → UnpackDone profile input output count
-  unpacks_whole profile input output count h = record {
+  pub unpacks_whole : (profile : Profile) (input output : Passage) (told : ℕ × Notes) → UnpackRangeDone profile all_frames input output told.0 told.1 → UnpackDone profile input output told.0 told.1
+  unpacks_whole profile input output told h = record {
     stream = h.stream;
     frames = h.frames;
     some = h.some;
@@ -198,7 +203,8 @@ module _ (holds : (profile : Profile) (file behind rest : List ℕ) (head : Head
     text = h.text;
     played = h.played;
     alike = h.alike;
-    reads = holds_range profile h.stream.head input.old input.new (payloads h.frames) h.reads;
+    reads = holds_range profile told.1 h.stream.head input.old input.new (payloads h.frames) h.reads;
+    of_file = h.of_file refl;
     kept = h.kept;
     written = h.written;
     writes = h.writes;
@@ -219,6 +225,6 @@ unpack_file profile i0 i2 o0 o1 ib ia ob om f h = elim h [
         inr (inl (unpack_goes profile i0 i0 i2 o0 o1 ib ib ia ob om s goes.is goes.text (RangeThen profile 0 s.head) (FileThen profile) (range_file profile s.head i0 i2) refl f goes.stops))
     | inr none ↦
         let s = none.1.stream in
-        inr (inr (none.0, unpack_none profile i0 i0 i2 o0 o1 ib ib ia ob om s none.1.is none.1.text (RangeThen profile 0 s.head) (FileThen profile) (range_file profile s.head i0 i2) refl None [] refl none.1.all))
+        inr (inr (none.0, unpack_none profile i0 i0 i2 o0 o1 ib ib ia ob om s none.1.is none.1.text (RangeThen profile 0 s.head) (FileThen profile) (range_file profile s.head i0 i2) refl none.1.notes None [] refl none.1.all))
   ]
 ]

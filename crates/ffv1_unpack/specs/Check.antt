@@ -3,6 +3,7 @@ use Rattle.std.specs.Prelude.{◌≡◌, ◌⊎◌, ℕ, Bool, true, List, ◌++
 use Rattle.ffv1_range.specs.Counts.{saturated}
 use Rattle.ffv1_wire.specs.Passage.{Passage}
 use Rattle.ffv1_record.specs.Configuration.{Configuration}
+use Rattle.ffv1_files.specs.declared.notes.Notes.{Notes}
 use Rattle.ffv1_words.specs.declared.order.FrameRange.{FrameRange}
 use Rattle.ffv1_video.specs.declared.profile.Profile.{Profile}
 use Rattle.ffv1_video.specs.declared.fault.Fault.{Fault}
@@ -29,8 +30,9 @@ abbrev pub check_text : Configuration → List Frame → List ℕ
 check_text c frames = frame_lines line.Sizes c frames ++ frame_count frames
 
 module _ (profile : Profile) (place : Bool) (input output : Passage) where
-  -- all frames of the file, at least one, were decoded, and the text of them was written
-  abbrev pub CheckDone : Type 0
+  -- all frames of the file, at least one, were decoded, and the text of them was written; this is
+  -- noted of the end
+  abbrev pub CheckDone : Notes → Type 0
   CheckDone =
       PlaysFile profile (λ s frames. check_text s.accepted.configuration frames) input output
 
@@ -51,8 +53,9 @@ module _ (profile : Profile) (place : Bool) (input output : Passage) where
 -- ---- the frames of a range
 
 module _ (profile : Profile) (place : Bool) (range : FrameRange) (input output : Passage) where
-  -- they were decoded, at least one, and the text of them was written
-  abbrev pub CheckRangeDone : Type 0
+  -- they were decoded, at least one, and the text of them was written; this is noted of the end, if
+  -- it was read
+  abbrev pub CheckRangeDone : Notes → Type 0
   CheckRangeDone = PlaysRange profile range (λ s frames.
       lines_from line.Sizes s.accepted.configuration range.first frames ++ frame_count frames)
       input output

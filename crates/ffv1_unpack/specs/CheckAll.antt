@@ -1,6 +1,7 @@
 -- What `check_all` writes, and why it is refused.
 use Rattle.std.specs.Prelude.{◌≡◌, ◌⊎◌, ℕ, ◌<◌, Bool, true, false, List, ◌++◌, length, slice_get}
 use Rattle.std.specs.Prelude.{Option}
+use Rattle.ffv1_files.specs.declared.notes.Notes.{Notes}
 use Rattle.ffv1_words.specs.declared.order.FrameRange.{FrameRange}
 use Rattle.std.specs.Io.KnownBytes.{Appends}
 use Rattle.ffv1_range.specs.Counts.{saturated}
@@ -9,14 +10,15 @@ use Rattle.ffv1_record.specs.Configuration.{Configuration}
 use Rattle.ffv1_reads.specs.Known.{Known}
 use Rattle.ffv1_video.specs.declared.profile.Profile.{Profile}
 use Rattle.ffv1_video.specs.declared.fault.Fault.{Fault}
+use Rattle.ffv1_unpack.specs.Behind.{NotedIn}
 use Rattle.ffv1_unpack.specs.Checked.{CheckedRangeStops, CheckedStops}
 use Rattle.ffv1_unpack.specs.Containers.{IsReadAs}
 use Rattle.ffv1_unpack.specs.Judged.{IsJudged, Judged, counts_line, judged_from, judged_lines}
 use Rattle.ffv1_unpack.specs.Judged.{payload_of, payloads_of, refusals}
 use Rattle.ffv1_unpack.specs.JudgedItems.{ItemsDone, ItemsFault}
-use Rattle.ffv1_unpack.specs.Plays.{AtMost, NextBehind}
+use Rattle.ffv1_unpack.specs.Plays.{AtMost, HoldsNoted, NextBehind, NotedAfter, has_more}
 use Rattle.ffv1_unpack.specs.Ranges.{RangeThen}
-use Rattle.ffv1_unpack.specs.Stream.{AreAll, HoldsPayloads, IsStream, Stream}
+use Rattle.ffv1_unpack.specs.Stream.{AreAll, IsStream, Stream}
 
 -- how many frames there were, and how many of them were refused
 abbrev pub judged_count : List Judged → List ℕ
@@ -28,15 +30,17 @@ check_all_text place c js = judged_lines place c js ++ judged_count js
 
 module _ (profile : Profile) (place : Bool) (input output : Passage) where
   -- all frames of the file, at least one, were judged, and the text of them was written; the answer
-  -- is the fault of the first one that is refused
-  pub record CheckAllDone (first : Option Fault) : Type 0 where
+  -- is the fault of the first one that is refused, and what is noted of the end, which is what is
+  -- noted of the bytes of the file
+  pub record CheckAllDone (first : Option Fault) (notes : Notes) : Type 0 where
     pub stream : Stream
     pub judged : List Judged
     pub some : 0 < length judged
     pub is : IsStream profile stream
     pub are : AreAll (IsJudged stream.accepted) judged
-    pub reads : Known input.old input.new (λ file rest.
-        HoldsPayloads profile file rest stream.head (payloads_of judged))
+    pub reads : Known input.old input.new (HoldsNoted profile notes stream.head
+        (payloads_of judged))
+    pub of_file : NotedIn profile input notes
     pub kept : input.after ≡ input.before
     pub written : output.after ≡ output.before
     pub writes : Appends output.old output.new
@@ -51,10 +55,10 @@ module _ (profile : Profile) (place : Bool) (input output : Passage) where
 
   -- of a file that is no Matroska its frames, up to the first fault of the file itself; of Matroska
   -- all that it gives
-  abbrev pub AllDone : Option Fault → Type 0
-  AllDone first =
-      (IsReadAs false profile input.old × CheckAllDone first)
-      ⊎ (IsReadAs true profile input.old × ItemsDone profile place input output first)
+  abbrev pub AllDone : Option Fault → Notes → Type 0
+  AllDone first notes =
+      (IsReadAs false profile input.old × CheckAllDone first notes)
+      ⊎ (IsReadAs true profile input.old × ItemsDone profile place input output first notes)
 
   abbrev pub AllStops : Fault → Type 0
   AllStops f =
@@ -65,8 +69,9 @@ module _ (profile : Profile) (place : Bool) (input output : Passage) where
 
 module _ (profile : Profile) (place : Bool) (range : FrameRange) (input output : Passage) where
   -- they were judged, at least one, and the text of them was written; the answer is the fault of
-  -- the first one that is refused
-  pub record CheckAllRangeDone (first : Option Fault) : Type 0 where
+  -- the first one that is refused, and what is noted of the end, if it was read, which is what is
+  -- noted of the bytes of the file
+  pub record CheckAllRangeDone (first : Option Fault) (notes : Notes) : Type 0 where
     pub stream : Stream
     pub judged : List Judged
     pub some : 0 < length judged
@@ -74,7 +79,9 @@ module _ (profile : Profile) (place : Bool) (range : FrameRange) (input output :
     pub is : IsStream profile stream
     pub are : AreAll (IsJudged stream.accepted) judged
     pub reads : Known input.old input.new (RangeThen profile range.first stream.head
-        (payloads_of judged) (NextBehind range.count (length judged)))
+        (payloads_of judged) (NextBehind notes range.count (length judged)))
+    pub noted : NotedAfter notes range.count (length judged)
+    pub of_file : has_more range.count (length judged) ≡ true → NotedIn profile input notes
     pub kept : input.after ≡ input.before
     pub written : output.after ≡ output.before
     pub writes : Appends output.old output.new

@@ -8,6 +8,7 @@ use Rattle.ffv1_record.specs.Accepted.{Accepted}
 use Rattle.ffv1_record.specs.Configuration.{Configuration}
 use Rattle.ffv1_reads.specs.Head.{Head}
 use Rattle.ffv1_files.specs.Places.{Place}
+use Rattle.ffv1_files.specs.declared.notes.Notes.{Notes}
 use Rattle.ffv1_words.specs.declared.order.FrameRange.{FrameRange}
 use Rattle.ffv1_video.specs.declared.profile.Profile.{Profile}
 use Rattle.ffv1_video.specs.declared.fault.Fault.{Fault}
@@ -32,8 +33,9 @@ module _ {X : Type 0} (Is : Accepted → X → Type 0) (payload : X → List ℕ
   -- all of at most so many were played, by how a file with this head has payloads
   pub record AllOver (stream : Stream) (xs : List X) : Type 0 where
     pub is : IsStream profile stream
+    pub notes : Notes
     pub goes : GoesThen (Is stream.accepted) payload (Held stream.head)
-        (text stream.accepted.configuration) input output xs (NextBehind most (length xs))
+        (text stream.accepted.configuration) input output xs (NextBehind notes most (length xs))
     pub kept : input.after ≡ input.before
 
   -- the line after it was not written whole

@@ -8,6 +8,7 @@ use Rattle.ffv1_record.specs.Accepted.{Accepted}
 use Rattle.ffv1_record.specs.Configuration.{is_rct}
 use Rattle.ffv1_codec.specs.Picture.{Planes}
 use Rattle.ffv1_files.specs.Places.{Place}
+use Rattle.ffv1_files.specs.declared.notes.Notes.{Notes}
 use Rattle.ffv1_video.specs.RawPicture.{raw_bytes}
 use Rattle.ffv1_video.specs.declared.fault.Fault.{Fault}
 use Rattle.ffv1_video.specs.declared.profile.Profile.{Profile}
@@ -35,8 +36,9 @@ stream_numbers s = frame_numbers s.accepted
 abbrev pub met : List ℕ → ℕ → Passage
 met md5s count = between (Some []) (Some (take count md5s)) 0 0
 
--- all frames of the file, at least one, were decoded, and their MD5s are those of the list, in turn
-abbrev pub Agrees : Profile → List ℕ → Passage → Type 0
+-- all frames of the file, at least one, were decoded, and their MD5s are those of the list, in
+-- turn; this is noted of the end
+abbrev pub Agrees : Profile → List ℕ → Passage → Notes → Type 0
 Agrees profile md5s input = PlaysFile profile stream_numbers input (met md5s (length md5s))
 
 -- whether the list has this MD5 there
@@ -62,7 +64,8 @@ module _ (Has : List (List ℕ) → (Place → List ℕ → List ℕ → Type 0)
     pub differs :
         ((f : Frame) × ComparedThen (frames ++ (f ∷ [])) NextStays
         × (is_md5 (slice_get md5s number) (frame_number a f) ≡ false))
-        ⊎ (ComparedThen frames NextOver × (0 < number) × (number < length md5s))
+        ⊎ ((notes : Notes) × ComparedThen frames (NextOver notes) × (0 < number)
+        × (number < length md5s))
 
 -- the first frame that differs has this number
 pub record FileDiffers (profile : Profile) (md5s : List ℕ) (input : Passage) (number : ℕ)

@@ -1,6 +1,7 @@
 -- What `framemd5` writes, and why it is refused.
 use Rattle.std.specs.Prelude.{ℕ, List, [], ◌∷◌, ◌++◌}
 use Rattle.ffv1_wire.specs.Passage.{Passage}
+use Rattle.ffv1_files.specs.declared.notes.Notes.{Notes}
 use Rattle.ffv1_video.specs.declared.profile.Profile.{Profile}
 use Rattle.ffv1_video.specs.declared.fault.Fault.{Fault}
 use Rattle.ffv1_video.specs.Md5Text.{md5_head, md5_lines}
@@ -21,15 +22,15 @@ md5_from i s (f ∷ fs) =
 abbrev pub frames_md5 : Stream → List Frame → List ℕ
 frames_md5 = md5_from 0
 
--- the text of all frames was written; or why it was not
-abbrev pub Md5Done : Profile → Passage → Passage → Type 0
+-- the text of all frames was written, and this is noted of the end; or why it was not
+abbrev pub Md5Done : Profile → Passage → Passage → Notes → Type 0
 Md5Done profile input output = PlaysFile profile frames_md5 input output
 
 abbrev pub Md5Stops : Profile → Passage → Passage → Fault → Type 0
 Md5Stops profile input output f = FileStops profile frames_md5 input output f
 
 -- the same of the frames of a range
-abbrev pub Md5RangeDone : Profile → FrameRange → Passage → Passage → Type 0
+abbrev pub Md5RangeDone : Profile → FrameRange → Passage → Passage → Notes → Type 0
 Md5RangeDone profile range input output =
     PlaysRange profile range (md5_from range.first) input output
 

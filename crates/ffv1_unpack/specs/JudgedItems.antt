@@ -19,6 +19,7 @@ use Rattle.ffv1_files.specs.Files.{open_read}
 use Rattle.ffv1_files.specs.Items.{ItemSoFar, course_by, item_read}
 use Rattle.ffv1_files.specs.Offsets.{PlaceReached}
 use Rattle.ffv1_files.specs.Places.{Place}
+use Rattle.ffv1_files.specs.declared.notes.Notes.{Notes}
 use Rattle.ffv1_video.specs.declared.profile.Profile.{Profile}
 use Rattle.ffv1_video.specs.declared.fault.Fault.{Fault}
 use Rattle.ffv1_video.specs.declared.fault.Fault.TheVariants as fault
@@ -26,6 +27,7 @@ use Rattle.ffv1_video.specs.Faults.{Cause, cause_of, of_avi}
 use Rattle.ffv1_video.specs.Faults.Cause.{Reading, Writing, Memory, Content}
 use Rattle.ffv1_video.specs.Output.{Silent, WritesUpTo}
 use Rattle.ffv1_video.specs.Profiles.{byte_told, scope_in}
+use Rattle.ffv1_files.specs.Noted.{no_notes}
 use Rattle.ffv1_unpack.specs.Judged.{IsJudged, Judged, counts_line, judged_line, payload_of}
 use Rattle.ffv1_unpack.specs.Judged.{refusal_of, with_refusal}
 use Rattle.ffv1_unpack.specs.Located.{LocatedFault, WritesLocated}
@@ -88,6 +90,7 @@ file_word file_fault.Encoded = codes "83 Encoded"
 file_word file_fault.Laced = codes "84 Laced"
 file_word file_fault.Checksum = codes "85 Checksum"
 file_word file_fault.Rate = codes "86 Rate"
+file_word file_fault.Another = codes "88 Another"
 
 -- the line of a fault that is told
 unfoldable pub told_line : ℕ → FileFault → List ℕ
@@ -225,8 +228,8 @@ module _ (profile : Profile) (place : Bool) (input output : Passage) where
     pub kept : input.after ≡ input.before
 
   -- all items of the file, at least one, were judged, and the text of them was written; the answer
-  -- is the first fault of either kind
-  pub record ItemsDone (first : Option Fault) : Type 0 where
+  -- is the first fault of either kind, and nothing is noted
+  pub record ItemsDone (first : Option Fault) (notes : Notes) : Type 0 where
     pub stream : Stream
     pub xs : List JudgedItem
     pub some : 0 < length xs
@@ -235,6 +238,7 @@ module _ (profile : Profile) (place : Bool) (input output : Passage) where
     pub writes : Appends output.old output.new
         (items_text place stream.accepted.configuration xs)
     pub told : first ≡ slice_get (faults_of xs) 0
+    pub noted : notes ≡ no_notes
 
   -- no further one was judged
   pub record ItemsFail (why : Cause) : Type 0 where

@@ -1,5 +1,6 @@
 pub mod Containers
 pub mod Stream
+pub mod Behind
 pub mod Play
 pub mod FrameLines
 pub mod Located

@@ -36,7 +36,7 @@ pub record OpensRecord (profile : Profile) (old new : Option (List ℕ)) : Type 
   pub head : Head
   pub place : Place
   pub known : OpensKnown profile old new head place
-  pub reaches : ReachesSets (greatest_depth profile) head.config_record
+  pub reaches : ReachesSets (record_profile profile) (greatest_depth profile) head.config_record
   pub sound : HasSoundRecord profile head
 
 -- or with one whose record is accepted: the decoder, and the lines of the stream, take memory

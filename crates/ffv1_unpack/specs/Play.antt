@@ -1,14 +1,14 @@
 -- Decoding frame after frame of a file, and writing text of each: what that answers, writes, and is
 -- refused by.
-use Rattle.std.specs.Prelude.{◌≡◌, ◌⊎◌, ℕ, List, [], ◌∷◌, Option, Some}
-use Rattle.std.specs.Prelude.{None, Ok, Err, ⊤}
+use Rattle.std.specs.Prelude.{◌≡◌, ◌⊎◌, ℕ, List, [], ◌∷◌, Option, Ok, Err, ⊤}
 use Rattle.ffv1_range.specs.declared.tally.Tally.{Tally}
 use Rattle.ffv1_record.specs.Accepted.{Accepted}
 use Rattle.ffv1_record.specs.Reading.{IsRefused}
 use Rattle.ffv1_record.specs.declared.fault.RecordFault.{RecordFault}
 use Rattle.ffv1_frame.specs.declared.fault.FrameFault.{FrameFault}
 use Rattle.ffv1_files.specs.Places.{Place}
-use Rattle.ffv1_files.specs.Files.{frame_read, open_read}
+use Rattle.ffv1_files.specs.Files.{open_read}
+use Rattle.ffv1_files.specs.declared.notes.Notes.{Notes}
 use Rattle.ffv1_reads.specs.Head.{Head}
 use Rattle.ffv1_reads.specs.Reads.{Reading, Want, Short, Met}
 use Rattle.ffv1_reads.specs.declared.fault.FileFault.{FileFault}
@@ -45,30 +45,23 @@ LacksStream profile old new f = Known old new (λ file rest.
     FaultsRead (open_read (scope_in profile)) file rest f ⊎ LacksRecord profile file rest f)
 
 -- why there is no further frame: the file has a fault, or the next payload has one, after so much
--- was decided, or there is none
+-- was decided, or there is none, and this is noted of the end
 pub data End : Type 0 where
   File : Fault → End
   Payload : List ℕ → FrameFault → Tally → End
-  Over : End
-
--- from this place of the file the reading of this text ends so, and this is left of it
-abbrev pub EndsReading : Place → List ℕ → List ℕ → End → Type 0
-EndsReading from text rest (File f) = FaultsRead (frame_read from) text rest f
-EndsReading from text rest (Payload payload f tally) =
-    (to : Place) × (frame_read from text ≡ Ok (Some (payload, to), rest))
-EndsReading from text rest Over = frame_read from text ≡ Ok (None, rest)
+  Over : Notes → End
 
 -- the payload at which it ends has its fault
 abbrev pub IsFaulty : Accepted → End → Type 0
 IsFaulty a (File f) = ⊤
 IsFaulty a (Payload payload f tally) = FaultsOf a payload f tally
-IsFaulty a Over = ⊤
+IsFaulty a (Over notes) = ⊤
 
 -- the fault that this is
 abbrev pub EndsWith : List Frame → End → Fault → Type 0
 EndsWith frames (File f) g = g ≡ f
 EndsWith frames (Payload payload f tally) g = g ≡ of_codec f.fault
-EndsWith frames Over g = (frames ≡ []) × (g ≡ fault.NoFrames)
+EndsWith frames (Over notes) g = (frames ≡ []) × (g ≡ fault.NoFrames)
 
 -- frames of a stream
 pub record Played (profile : Profile) (s : Stream) (frames : List Frame) : Type 0 where

@@ -11,7 +11,9 @@ use Rattle.ffv1_record.specs.Accepted.{Accepted}
 use Rattle.ffv1_files.specs.Answers.{ReadFails, WantsMore}
 use Rattle.ffv1_files.specs.Files.{frame_read, open_read}
 use Rattle.ffv1_files.specs.Endings.{endings_from}
+use Rattle.ffv1_files.specs.Behind.{any_value}
 use Rattle.ffv1_files.specs.Places.{Place}
+use Rattle.ffv1_files.specs.declared.notes.Notes.{Notes}
 use Rattle.ffv1_reads.specs.Head.{Head}
 use Rattle.ffv1_reads.specs.Known.{Known}
 use Rattle.ffv1_reads.specs.Reads.{Kept}
@@ -21,12 +23,15 @@ use Rattle.ffv1_video.specs.Faults.{Cause, cause_of}
 use Rattle.ffv1_video.specs.Faults.Cause.{Reading, Writing, Memory, Content}
 use Rattle.ffv1_unpack.specs.Located.{WritesLocated}
 use Rattle.ffv1_unpack.specs.Opens.{LacksOpening}
-use Rattle.ffv1_unpack.specs.Play.{End, EndsReading, EndsWith, FaultsRead, IsFaulty, Played}
+use Rattle.ffv1_files.specs.Noted.{no_notes}
+use Rattle.ffv1_unpack.specs.Behind.{EndsAt, EndsThen, IsNoted, Looks, NotedIn}
+use Rattle.ffv1_unpack.specs.Play.{End, EndsWith, FaultsRead, IsFaulty, Played}
+use Rattle.ffv1_unpack.specs.Play.End.{File, Payload, Over}
 use Rattle.ffv1_video.specs.Output.{WritesUpTo}
 use Rattle.ffv1_unpack.specs.Play.{but_last}
 use Rattle.ffv1_video.specs.Profiles.{scope_in}
-use Rattle.ffv1_unpack.specs.Stream.{AreAll, Frame, IsFrame, IsStream, ReadsFile}
-use Rattle.ffv1_unpack.specs.Stream.{ReadsFrames, Stream, frame_payload}
+use Rattle.ffv1_unpack.specs.Stream.{AreAll, Frame, HoldsPayloads, IsFrame, IsStream}
+use Rattle.ffv1_unpack.specs.Stream.{ReadsFrames, Stream, frame_payload, payloads}
 use Rattle.ffv1_video.specs.Output.{Silent}
 
 -- ---- payloads, and what comes after them
@@ -47,19 +52,38 @@ FileThen profile head held Next file rest =
     × (open_read (scope_in profile) file ≡ Ok ((head, from), behind))
     × HasThen from held Next behind rest
 
--- nothing more was read; there is no further frame; the file has this fault; a read of the next
--- frame failed; memory was refused for its payload, of which more bytes were wanted; it is this one
+-- there is no further frame; the next one has this fault of the file; a read of it failed
+abbrev pub FramesEnd : Place → List ℕ → List ℕ → Type 0
+FramesEnd to at rest = frame_read to at ≡ Ok (None, rest)
+
+abbrev pub FrameHasFault : Fault → Place → List ℕ → List ℕ → Type 0
+FrameHasFault f to at rest = FaultsRead (frame_read to) at rest f
+
+abbrev pub FrameReadFails : Place → List ℕ → List ℕ → Type 0
+FrameReadFails to at rest = ReadFails (endings_from to) (frame_read to) at rest
+
+-- what stands behind the end has this fault; a read of it failed
+abbrev pub BehindHasFault : Fault → Looks
+BehindHasFault f reading text rest = FaultsRead reading text rest f
+
+abbrev pub BehindReadFails : Looks
+BehindReadFails = ReadFails any_value
+
+-- nothing more was read; there is no further frame, and this is noted of the end; the file has this
+-- fault, in the next frame or behind the end; a read of either failed; memory was refused for the
+-- next payload, of which more bytes were wanted; it is this one
 abbrev pub NextStays : Place → List ℕ → List ℕ → Type 0
 NextStays to at rest = rest ≡ at
 
-abbrev pub NextOver : Place → List ℕ → List ℕ → Type 0
-NextOver to at rest = frame_read to at ≡ Ok (None, rest)
+abbrev pub NextOver : Notes → Place → List ℕ → List ℕ → Type 0
+NextOver notes = EndsThen (IsNoted notes)
 
 abbrev pub NextHasFault : Fault → Place → List ℕ → List ℕ → Type 0
-NextHasFault f to at rest = FaultsRead (frame_read to) at rest f
+NextHasFault f to at rest =
+    FrameHasFault f to at rest ⊎ EndsThen (BehindHasFault f) to at rest
 
 abbrev pub NextReadFails : Place → List ℕ → List ℕ → Type 0
-NextReadFails to at rest = ReadFails (endings_from to) (frame_read to) at rest
+NextReadFails to at rest = FrameReadFails to at rest ⊎ EndsThen BehindReadFails to at rest
 
 abbrev pub NextPayloadLacks : Place → List ℕ → List ℕ → Type 0
 NextPayloadLacks to at rest = WantsMore (frame_read to) Kept at rest
@@ -70,7 +94,9 @@ NextIsPayload payload to at rest =
 
 -- it ends so
 abbrev pub NextEnds : End → Place → List ℕ → List ℕ → Type 0
-NextEnds end to at rest = EndsReading to at rest end
+NextEnds (File f) = NextHasFault f
+NextEnds (Payload payload f tally) = NextIsPayload payload
+NextEnds (Over notes) = NextOver notes
 
 -- ---- at most so many
 
@@ -84,13 +110,18 @@ abbrev pub AtMost : Option ℕ → ℕ → Type 0
 AtMost None n = ⊤
 AtMost (Some most) n = n ≤ most
 
--- after so many comes this: if one more may come, there is none; else nothing more was read
-abbrev pub NextBehindBy : Bool → Place → List ℕ → List ℕ → Type 0
-NextBehindBy true = NextOver
-NextBehindBy false = NextStays
+-- after so many comes this: if one more may come, there is none, and this is noted of the end; else
+-- nothing more was read
+abbrev pub NextBehindBy : Notes → Bool → Place → List ℕ → List ℕ → Type 0
+NextBehindBy notes true = NextOver notes
+NextBehindBy notes false = NextStays
 
-abbrev pub NextBehind : Option ℕ → ℕ → Place → List ℕ → List ℕ → Type 0
-NextBehind most n = NextBehindBy (has_more most n)
+abbrev pub NextBehind : Notes → Option ℕ → ℕ → Place → List ℕ → List ℕ → Type 0
+NextBehind notes most n = NextBehindBy notes (has_more most n)
+
+-- nothing is noted of an end that was not read
+abbrev pub NotedAfter : Notes → Option ℕ → ℕ → Type 0
+NotedAfter notes most n = has_more most n ≡ false → notes ≡ no_notes
 
 -- ---- what is played, frames or payloads that are judged: by what each is, and its payload
 
@@ -185,16 +216,33 @@ module _ (Has : List (List ℕ) → (Place → List ℕ → List ℕ → Type 0)
   abbrev pub PlayStops : Fault → Type 0
   PlayStops f = PlayStopsBy f (cause_of f)
 
--- ---- a whole file, by what text the frames of a stream have
+-- ---- a whole file
+
+-- a file was read to its end, with this head and these payloads; and then these notes were read of
+-- what stands behind it
+abbrev pub HoldsNoted : Profile → Notes → Head → List (List ℕ) → List ℕ → List ℕ → Type 0
+HoldsNoted profile notes head held file rest =
+    (behind : List ℕ) × HoldsPayloads profile file behind head held
+    × FileThen profile head held (EndsAt (IsNoted notes) behind) file rest
+
+-- if the file is known, it was read so, with the payloads of these frames
+abbrev pub ReadsFile : Profile → Notes → Option (List ℕ) → Option (List ℕ) → Stream → List Frame →
+    Type 0
+ReadsFile profile notes old new s frames =
+    Known old new (HoldsNoted profile notes s.head (payloads frames))
+
+-- by what text the frames of a stream have
 
 module _ (profile : Profile) (text : Stream → List Frame → List ℕ) (input output : Passage) where
-  -- all frames of the file, at least one, were decoded, and their text was written
-  pub record PlaysFile : Type 0 where
+  -- all frames of the file, at least one, were decoded, their text was written, and this is noted
+  -- of the end; it is what is noted of the bytes of the file
+  pub record PlaysFile (notes : Notes) : Type 0 where
     pub stream : Stream
     pub frames : List Frame
     pub some : 0 < length frames
     pub played : Played profile stream frames
-    pub reads : ReadsFile profile input.old input.new stream frames
+    pub reads : ReadsFile profile notes input.old input.new stream frames
+    pub of_file : NotedIn profile input notes
     pub kept : input.after ≡ input.before
     pub written : output.after ≡ output.before
     pub writes : Appends output.old output.new (text stream frames)

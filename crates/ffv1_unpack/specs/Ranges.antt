@@ -1,11 +1,12 @@
 -- Playing some frames of a file that come one after the other: those before them are read and not
 -- decoded, and those after them are not read.
-use Rattle.std.specs.Prelude.{◌≡◌, ◌⊎◌, ℕ, ◌+◌, ◌<◌, List, [], ◌++◌, length, None}
+use Rattle.std.specs.Prelude.{◌≡◌, ◌⊎◌, ℕ, ◌+◌, ◌<◌, List, [], ◌++◌, length, None, true}
 use Rattle.std.specs.Io.KnownBytes.{Appends}
 use Rattle.ffv1_range.specs.Counts.{saturated}
 use Rattle.ffv1_wire.specs.Failures.{one_more}
 use Rattle.ffv1_wire.specs.Passage.{Passage}
 use Rattle.ffv1_files.specs.Places.{Place}
+use Rattle.ffv1_files.specs.declared.notes.Notes.{Notes}
 use Rattle.ffv1_reads.specs.Head.{Head}
 use Rattle.ffv1_reads.specs.Known.{Known}
 use Rattle.ffv1_words.specs.declared.order.FrameRange.{FrameRange}
@@ -15,10 +16,12 @@ use Rattle.ffv1_video.specs.declared.fault.Fault.TheVariants as fault
 use Rattle.ffv1_video.specs.Faults.{Cause, cause_of}
 use Rattle.ffv1_video.specs.Faults.Cause.{Reading, Writing, Memory, Content}
 use Rattle.ffv1_video.specs.Output.{Silent}
+use Rattle.ffv1_unpack.specs.Behind.{NotedIn}
 use Rattle.ffv1_unpack.specs.Opens.{LacksOpening}
 use Rattle.ffv1_unpack.specs.Play.{Played}
 use Rattle.ffv1_unpack.specs.Plays.{AtMost, FileThen, FramesThen, NextBehind, NextHasFault}
-use Rattle.ffv1_unpack.specs.Plays.{NextOver, NextPayloadLacks, NextReadFails, StreamGoes}
+use Rattle.ffv1_unpack.specs.Plays.{NextOver, NextPayloadLacks, NextReadFails, NotedAfter}
+use Rattle.ffv1_unpack.specs.Plays.{StreamGoes, has_more}
 use Rattle.ffv1_unpack.specs.Stream.{Frame, IsStream, Stream, payloads}
 
 -- all frames
@@ -56,7 +59,8 @@ module _ (profile : Profile) (first : ℕ) (input : Passage) (passed : ℕ) wher
   PassStopsBy f Writing = ⊥
   PassStopsBy f Memory = (input.after ≡ input.before) × PassedThen NextPayloadLacks
   PassStopsBy f Content = (input.after ≡ input.before)
-      × (PassedThen (NextHasFault f) ⊎ ((f ≡ fault.NoFrames) × PassedThen NextOver))
+      × (PassedThen (NextHasFault f)
+      ⊎ ((f ≡ fault.NoFrames) × (notes : Notes) × PassedThen (NextOver notes)))
 
   abbrev pub PassStops : Fault → Type 0
   PassStops f = PassStopsBy f (cause_of f)
@@ -66,15 +70,18 @@ module _ (profile : Profile) (first : ℕ) (input : Passage) (passed : ℕ) wher
 module _ (profile : Profile) (range : FrameRange) (text : Stream → List Frame → List ℕ)
     (input output : Passage) where
   -- the frames of the range, at least one, were decoded, and their text was written; if there are
-  -- as many as it names, nothing after them was read
-  pub record PlaysRange : Type 0 where
+  -- as many as it names, nothing after them was read; else this is noted of the end, and it is what
+  -- is noted of the bytes of the file
+  pub record PlaysRange (notes : Notes) : Type 0 where
     pub stream : Stream
     pub frames : List Frame
     pub some : 0 < length frames
     pub few : AtMost range.count (length frames)
     pub played : Played profile stream frames
     pub reads : Known input.old input.new (RangeThen profile range.first stream.head
-        (payloads frames) (NextBehind range.count (length frames)))
+        (payloads frames) (NextBehind notes range.count (length frames)))
+    pub noted : NotedAfter notes range.count (length frames)
+    pub of_file : has_more range.count (length frames) ≡ true → NotedIn profile input notes
     pub kept : input.after ≡ input.before
     pub written : output.after ≡ output.before
     pub writes : Appends output.old output.new (text stream frames)
@@ -83,8 +90,9 @@ module _ (profile : Profile) (range : FrameRange) (text : Stream → List Frame 
   pub record RangeNone : Type 0 where
     pub stream : Stream
     pub is : IsStream profile stream
+    pub notes : Notes
     pub none : FramesThen (RangeThen profile range.first stream.head) stream.accepted
-        (text stream) input output [] (NextBehind range.count 0)
+        (text stream) input output [] (NextBehind notes range.count 0)
     pub kept : input.after ≡ input.before
 
   -- why it is refused: the file was not opened, or the range was not reached, and nothing was

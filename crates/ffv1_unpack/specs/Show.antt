@@ -6,19 +6,22 @@ use Rattle.ffv1_wire.specs.Passage.{Passage}
 use Rattle.ffv1_wire.specs.Writes.{AppendsBeginning}
 use Rattle.ffv1_files.specs.Places.{Place, container_of}
 use Rattle.ffv1_files.specs.declared.container.Container.{Container}
+use Rattle.ffv1_files.specs.declared.notes.Notes.{Notes}
 use Rattle.ffv1_reads.specs.Head.{Head}
 use Rattle.ffv1_video.specs.declared.profile.Profile.{Profile}
 use Rattle.ffv1_video.specs.declared.fault.Fault.{Fault}
 use Rattle.ffv1_video.specs.declared.fault.Fault.TheVariants as fault
 use Rattle.ffv1_unpack.specs.declared.frame_line.FrameLine.TheVariants as line
+use Rattle.ffv1_files.specs.Noted.{no_notes}
+use Rattle.ffv1_unpack.specs.Behind.{NotedIn}
 use Rattle.ffv1_unpack.specs.Containers.{is_profile_fault}
 use Rattle.ffv1_video.specs.Faults.{Cause, cause_of}
 use Rattle.ffv1_video.specs.Faults.Cause.{Writing}
 use Rattle.ffv1_unpack.specs.FrameLines.{frame_lines}
 use Rattle.ffv1_unpack.specs.Opens.{LacksOpeningBy, OpensKnown, is_opening_fault}
 use Rattle.ffv1_unpack.specs.Play.{Played}
-use Rattle.ffv1_unpack.specs.Plays.{FileThen, PlayStops}
-use Rattle.ffv1_unpack.specs.Stream.{Frame, IsStream, ReadsFile, Stream}
+use Rattle.ffv1_unpack.specs.Plays.{FileThen, PlayStops, ReadsFile}
+use Rattle.ffv1_unpack.specs.Stream.{Frame, IsStream, Stream}
 use Rattle.ffv1_unpack.specs.StreamLines.{show_text}
 use Rattle.ffv1_unpack.specs.Told.{is_telling_fault}
 use Rattle.ffv1_video.specs.Output.{Silent}
@@ -45,22 +48,24 @@ module _ (profile : Profile) (input output : Passage) where
     pub written : output.after ≡ output.before
     pub writes : Appends output.old output.new (show_text (container_of place) stream)
 
-  -- all frames of the file were decoded, and what each cost was written after those lines
-  pub record ShowsCosts : Type 0 where
+  -- all frames of the file were decoded, and what each cost was written after those lines; this is
+  -- noted of the end, and it is what is noted of the bytes of the file
+  pub record ShowsCosts (notes : Notes) : Type 0 where
     pub stream : Stream
     pub frames : List Frame
     pub played : Played profile stream frames
-    pub reads : ReadsFile profile input.old input.new stream frames
+    pub reads : ReadsFile profile notes input.old input.new stream frames
+    pub of_file : NotedIn profile input notes
     pub kept : input.after ≡ input.before
     pub written : output.after ≡ output.before
     pub comes : ComesFrom profile input.old stream.head
     pub writes : Appends output.old output.new
         (cost_text (container_of comes.place) stream frames)
 
-  -- by whether the costs are asked for
-  abbrev pub ShowDone : Bool → Type 0
-  ShowDone false = ShowsStream
-  ShowDone true = ShowsCosts
+  -- by whether the costs are asked for, and by what is noted of the end: nothing, if it is not read
+  abbrev pub ShowDone : Bool → Notes → Type 0
+  ShowDone false notes = ShowsStream × (notes ≡ no_notes)
+  ShowDone true notes = ShowsCosts notes
 
   -- the lines of the stream were not written whole
   pub record StreamFails : Type 0 where

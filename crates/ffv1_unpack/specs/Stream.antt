@@ -1,7 +1,6 @@
 -- The stream of a file: what its head says, its configuration, and its frames, decoded one after
 -- the other.
-use Rattle.std.specs.Prelude.{◌≡◌, ◌≤◌, ℕ, List, [], ◌∷◌, map, Option, Some}
-use Rattle.std.specs.Prelude.{Ok}
+use Rattle.std.specs.Prelude.{◌≡◌, ◌≤◌, ℕ, List, [], ◌∷◌, map, Some, Ok}
 use Rattle.ffv1_range.specs.declared.tally.Tally.{Tally}
 use Rattle.ffv1_record.specs.Accepted.{Accepted, IsAccepted, PassesAll, checks}
 use Rattle.ffv1_record.specs.Record.{IsRecord}
@@ -14,7 +13,6 @@ use Rattle.ffv1_avi.specs.Chunks.{AviFile}
 use Rattle.ffv1_files.specs.Files.{frame_read}
 use Rattle.ffv1_reads.specs.Head.{Head}
 use Rattle.ffv1_files.specs.Whole.{IsWhole}
-use Rattle.ffv1_reads.specs.Known.{Known}
 use Rattle.ffv1_video.specs.declared.profile.Profile.{Profile}
 use Rattle.ffv1_video.specs.declared.profile.Profile.TheVariants.{Strict, Wide}
 use Rattle.ffv1_video.specs.Profiles.{greatest_depth, record_profile}
@@ -75,11 +73,3 @@ ReadsFrames from text (frame ∷ frames) to rest =
 abbrev pub HoldsPayloads : Profile → List ℕ → List ℕ → Head → List (List ℕ) → Type 0
 HoldsPayloads Strict file rest head held = (is : AviFile file head held) × (rest ≡ is.rest)
 HoldsPayloads Wide file rest head held = IsWhole file head held rest
-
--- the same with the payloads of these frames
-abbrev pub IsRead : Profile → List ℕ → List ℕ → Stream → List Frame → Type 0
-IsRead profile file rest s frames = HoldsPayloads profile file rest s.head (payloads frames)
-
--- if the file is known, it was read so
-abbrev pub ReadsFile : Profile → Option (List ℕ) → Option (List ℕ) → Stream → List Frame → Type 0
-ReadsFile profile old new s frames = Known old new (λ file rest. IsRead profile file rest s frames)

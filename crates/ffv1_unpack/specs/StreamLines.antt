@@ -21,6 +21,7 @@ number_line name n = name ++ decimal n ++ codes "\n"
 
 -- RFC 9043, 4.2.3: coder_type
 abbrev pub coder_type : Coder → ℕ
+coder_type coder.Rice = 0
 coder_type coder.One = 1
 coder_type (coder.Two deltas) = 2
 

@@ -6,15 +6,18 @@ use Rattle.ffv1_wire.specs.Passage.{Passage}
 use Rattle.ffv1_reads.specs.Head.{Head}
 use Rattle.ffv1_reads.specs.Known.{Known}
 use Rattle.ffv1_files.specs.Places.{Place}
+use Rattle.ffv1_files.specs.declared.notes.Notes.{Notes}
 use Rattle.ffv1_words.specs.declared.order.FrameRange.{FrameRange}
 use Rattle.ffv1_video.specs.declared.profile.Profile.{Profile}
 use Rattle.ffv1_video.specs.declared.fault.Fault.{Fault}
 use Rattle.ffv1_video.specs.declared.fault.Fault.TheVariants as fault
+use Rattle.ffv1_unpack.specs.Behind.{NotedIn}
 use Rattle.ffv1_unpack.specs.Containers.{is_profile_fault}
 use Rattle.ffv1_unpack.specs.Opens.{LacksOpening, is_opening_fault}
-use Rattle.ffv1_unpack.specs.Stream.{Frame, IsStream, ReadsFile, Stream, payloads}
+use Rattle.ffv1_unpack.specs.Stream.{Frame, IsStream, Stream, payloads}
 use Rattle.ffv1_unpack.specs.Play.{Played}
-use Rattle.ffv1_unpack.specs.Plays.{AtMost, FileThen, NextBehind, NextStays}
+use Rattle.ffv1_unpack.specs.Plays.{AtMost, FileThen, NextBehind, NextStays, NotedAfter}
+use Rattle.ffv1_unpack.specs.Plays.{ReadsFile, has_more}
 use Rattle.ffv1_unpack.specs.Ranges.{PassStops, RangeThen}
 use Rattle.ffv1_unpack.specs.Told.{is_telling_fault}
 use Rattle.ffv1_video.specs.Output.{Silent}
@@ -34,8 +37,9 @@ abbrev pub LacksUnpacking : Profile → Passage → Fault → Type 0
 LacksUnpacking profile p f = LacksOpening profile p f ⊎ LacksTextIn profile p f
 
 module _ (profile : Profile) (input output : Passage) where
-  -- all frames of the file, at least one, were decoded, and the text of them was written
-  pub record UnpackDone (count : ℕ) : Type 0 where
+  -- all frames of the file, at least one, were decoded, and the text of them was written; this is
+  -- noted of the end, and it is what is noted of the bytes of the file
+  pub record UnpackDone (count : ℕ) (notes : Notes) : Type 0 where
     pub stream : Stream
     pub frames : List Frame
     pub some : 0 < length frames
@@ -43,7 +47,8 @@ module _ (profile : Profile) (input output : Passage) where
     pub text : HasText stream
     pub played : Played profile stream frames
     pub alike : AreAlike stream frames
-    pub reads : ReadsFile profile input.old input.new stream frames
+    pub reads : ReadsFile profile notes input.old input.new stream frames
+    pub of_file : NotedIn profile input notes
     pub kept : input.after ≡ input.before
     pub written : output.after ≡ output.before
     pub writes : Appends output.old output.new (text_of stream frames)
@@ -56,7 +61,8 @@ module _ (profile : Profile) (input output : Passage) where
         pub stream : Stream
         pub is : IsStream profile stream
         pub text : HasText stream
-        pub all : UnpacksMost (Held stream.head) stream input output most []
+        pub notes : Notes
+        pub all : UnpacksMost (Held stream.head) stream input output notes most []
 
       -- why no further picture is written
       pub record UnpackGoes (f : Fault) : Type 0 where
@@ -76,8 +82,9 @@ module _ (profile : Profile) (input output : Passage) where
 -- ---- the frames of a range
 
 module _ (profile : Profile) (range : FrameRange) (input output : Passage) where
-  -- they were decoded, at least one, and the text of them was written
-  pub record UnpackRangeDone (count : ℕ) : Type 0 where
+  -- they were decoded, at least one, and the text of them was written; this is noted of the end, if
+  -- it was read, and it is what is noted of the bytes of the file
+  pub record UnpackRangeDone (count : ℕ) (notes : Notes) : Type 0 where
     pub stream : Stream
     pub frames : List Frame
     pub some : 0 < length frames
@@ -87,7 +94,9 @@ module _ (profile : Profile) (range : FrameRange) (input output : Passage) where
     pub played : Played profile stream frames
     pub alike : AreAlike stream frames
     pub reads : Known input.old input.new (RangeThen profile range.first stream.head
-        (payloads frames) (NextBehind range.count (length frames)))
+        (payloads frames) (NextBehind notes range.count (length frames)))
+    pub noted : NotedAfter notes range.count (length frames)
+    pub of_file : has_more range.count (length frames) ≡ true → NotedIn profile input notes
     pub kept : input.after ≡ input.before
     pub written : output.after ≡ output.before
     pub writes : Appends output.old output.new (text_of stream frames)

@@ -10,16 +10,18 @@ use Rattle.ffv1_codec.specs.Outcome.{OffersLine}
 use Rattle.ffv1_reads.specs.Known.{Known}
 use Rattle.ffv1_matroska.specs.Items.{Given}
 use Rattle.ffv1_files.specs.Places.{InAvi, InMatroska}
+use Rattle.ffv1_files.specs.declared.notes.Notes.{Notes}
 use Rattle.ffv1_video.specs.declared.profile.Profile.{Profile}
 use Rattle.ffv1_video.specs.declared.fault.Fault.{Fault}
 use Rattle.ffv1_video.specs.declared.fault.Fault.TheVariants as fault
 use Rattle.ffv1_video.specs.Faults.{Cause, cause_of}
 use Rattle.ffv1_video.specs.Faults.Cause.{Reading, Writing, Memory, Content}
 use Rattle.ffv1_video.specs.Output.{Silent, WritesUpTo}
+use Rattle.ffv1_files.specs.Noted.{no_notes}
 use Rattle.ffv1_unpack.specs.declared.judging.JudgedCounts.{JudgedCounts}
 use Rattle.ffv1_unpack.specs.JudgedItems.{IsJudgedItem, ItemIs, ItemsNext, ItemsOver, ItemsStay}
 use Rattle.ffv1_unpack.specs.JudgedItems.{ItemsThen, ItemsWant, JudgedItem, frames_of, given_as}
-use Rattle.ffv1_unpack.specs.Plays.{NextHasFault, NextPayloadLacks, NextReadFails}
+use Rattle.ffv1_unpack.specs.Plays.{FrameHasFault, FrameReadFails, NextPayloadLacks}
 use Rattle.ffv1_unpack.specs.Salvaged.{picture_for, salvage_faults, salvage_lines, shown}
 use Rattle.ffv1_unpack.specs.Stream.{AreAll, Frame, IsStream, Stream}
 use Rattle.ffv1_unpack.specs.Unpack.{LacksUnpacking}
@@ -29,7 +31,7 @@ use Rattle.ffv1_unpack.specs.Unpacked.{HasText, is_ppm_stream, rows_by, text_of}
 
 -- a read of the next one failed
 abbrev pub ReadFailsNext : ItemsNext
-ReadFailsNext (InAvi place) c at rest = NextReadFails (InAvi place) at rest
+ReadFailsNext (InAvi place) c at rest = FrameReadFails (InAvi place) at rest
 ReadFailsNext (InMatroska segment track place) c at rest =
     ItemsWant (InMatroska segment track place) c at rest
 
@@ -41,7 +43,7 @@ LacksNext (InMatroska segment track place) c at rest =
 
 -- the file has this fault, which ends the reading of an AVI
 abbrev pub FaultNext : Fault → ItemsNext
-FaultNext f (InAvi place) c at rest = NextHasFault f (InAvi place) at rest
+FaultNext f (InAvi place) c at rest = FrameHasFault f (InAvi place) at rest
 FaultNext f (InMatroska segment track place) c at rest = ⊥
 
 -- ---- how far it goes, by how bytes have items
@@ -132,8 +134,9 @@ pub record AreSalvageCounts (ppm : Bool) (counts : JudgedCounts) (xs : List Judg
 -- ---- a whole file
 
 module _ (profile : Profile) (input lines output : Passage) where
-  -- all items of the file, at least one, were judged, and their pictures and lines were written
-  pub record UnpackAllDone (counts : JudgedCounts) : Type 0 where
+  -- all items of the file, at least one, were judged, and their pictures and lines were written;
+  -- nothing is noted
+  pub record UnpackAllDone (counts : JudgedCounts) (notes : Notes) : Type 0 where
     pub stream : Stream
     pub xs : List JudgedItem
     pub some : 0 < length xs
@@ -141,6 +144,7 @@ module _ (profile : Profile) (input lines output : Passage) where
     pub text : HasText stream
     pub all : SalvagesAll (ItemsThen profile stream.head) stream input lines output xs
     pub counted : AreSalvageCounts (is_ppm_stream stream) counts xs
+    pub noted : notes ≡ no_notes
 
   -- it goes no further
   pub record UnpackAllFails (f : Fault) (why : Cause) : Type 0 where

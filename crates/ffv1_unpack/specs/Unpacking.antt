@@ -1,6 +1,6 @@
 -- Decoding the frames of a file one after the other, and writing each picture: how far that goes,
 -- and why it goes no further.
-use Rattle.std.specs.Prelude.{◌≡◌, ◌⊎◌, ℕ, true, List, [], ◌∷◌, ◌++◌, length, Option, None}
+use Rattle.std.specs.Prelude.{◌≡◌, ◌⊎◌, ℕ, true, List, [], ◌∷◌, ◌++◌, length, Option}
 use Rattle.std.specs.Io.KnownBytes.{Appends}
 use Rattle.ffv1_range.specs.declared.tally.Tally.{Tally}
 use Rattle.ffv1_wire.specs.Failures.{one_more}
@@ -8,6 +8,7 @@ use Rattle.ffv1_wire.specs.Passage.{Passage}
 use Rattle.ffv1_wire.specs.Runs.{Line}
 use Rattle.ffv1_frame.specs.declared.fault.FrameFault.{FrameFault}
 use Rattle.ffv1_files.specs.Places.{Place}
+use Rattle.ffv1_files.specs.declared.notes.Notes.{Notes}
 use Rattle.ffv1_video.specs.declared.fault.Fault.{Fault}
 use Rattle.ffv1_video.specs.declared.fault.Fault.TheVariants as fault
 use Rattle.ffv1_video.specs.Faults.{Cause, cause_of, of_codec}
@@ -32,15 +33,11 @@ module _ (Has : List (List ℕ) → (Place → List ℕ → List ℕ → Type 0)
     pub plays : FramesThen Has s.accepted (text_of s) input output frames Next
     pub alike : AreAlike s frames
 
-  -- they are all, of at most so many
-  pub record UnpacksMost (most : Option ℕ) (frames : List Frame) : Type 0 where
-    pub unpacks : UnpacksThen frames (NextBehind most (length frames))
+  -- they are all, of at most so many, and this is noted of the end
+  pub record UnpacksMost (notes : Notes) (most : Option ℕ) (frames : List Frame) : Type 0 where
+    pub unpacks : UnpacksThen frames (NextBehind notes most (length frames))
     pub few : AtMost most (length frames)
     pub kept : input.after ≡ input.before
-
-  -- they are all
-  abbrev pub UnpacksAll : List Frame → Type 0
-  UnpacksAll frames = UnpacksMost None frames
 
   -- the picture of the last of them was not written whole
   pub record PictureFails (frames : List Frame) : Type 0 where

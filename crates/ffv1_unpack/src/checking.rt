@@ -2,7 +2,6 @@
 
 ghost use Rattle.std.specs.Prelude.{◌≡◌, IfErr, IfOk, OnOk};
 ghost use Rattle.ffv1_wire.specs.Passage.{passage};
-ghost use Rattle.ffv1_files.specs.Offsets.{Reached};
 ghost use Rattle.ffv1_video.specs.Profiles.{scope_in};
 ghost use Rattle.ffv1_unpack.specs.Check.{CheckDone, CheckStops, IsCheckFault, count_line};
 ghost use Rattle.ffv1_unpack.specs.Check.{CheckRangeDone, CheckRangeStops};
@@ -10,16 +9,17 @@ ghost use Rattle.ffv1_unpack.specs.CheckAll.{AllDone, AllStops};
 ghost use Rattle.ffv1_unpack.specs.CheckAll.{CheckAllRangeDone, CheckAllRangeStops};
 ghost use Rattle.ffv1_unpack.specs.Checked.{LacksRange};
 ghost use Rattle.ffv1_unpack.specs.Internal.Opens.{OpensRange};
+ghost use Rattle.ffv1_unpack.specs.Located.{Stands};
 ghost use Rattle.ffv1_unpack.specs.Judged.{counts_line};
 ghost use Rattle.ffv1_unpack.specs.Internal.Told.{WritesFrame};
 
 use crate::frame_line::{FrameLine, put_count, put_counts};
 use crate::judging::judge_frames;
 use crate::judging_items::judge_items;
-use crate::passing::pass_frames;
+use crate::passing::{notes_after, pass_frames};
 use crate::player::{Player, open_player_located};
 use crate::telling::{Places, Telling, tell_byte, tell_frames};
-use ffv1_files::{Container, laws as files_laws};
+use ffv1_files::{Container, Notes, laws as files_laws};
 use ffv1_video::{Fault, Profile};
 use ffv1_wire::{ByteIn, ByteOut, write_all};
 use ffv1_words::FrameRange;
@@ -68,17 +68,22 @@ fn write_count<W: ByteOut, A: Allocator + Copy>(
 /// fault frame {i} byte {offset}
 /// ```
 ///
-/// The second is written of `NotAvi`, `NoFfv1`, `Truncated`, `ChunkTooLong`, `EmptyFrame`, `Read`
-/// and the faults of Matroska. Its frame is the one that would come next, 0 up to the first one;
-/// its offset is how many bytes of the file come before the element or the chunk that is refused.
+/// The second is written of `NotAvi`, `NoFfv1`, `Truncated`, `ChunkTooLong`, `EmptyFrame`, `Read`,
+/// `Another` and the faults of Matroska. Its frame is the one that would come next, 0 up to the
+/// first one; its offset is how many bytes of the file come before the element or the chunk that is
+/// refused, or before what stands behind all of them.
+///
+/// After the last frame what stands behind the file is looked at, as `FileReader::look_behind`
+/// does: `Another` if another file begins there, after the lines of all frames; else the answer is
+/// what it notes.
 pub fn check<R: ByteIn, W: ByteOut, A: Allocator + Copy>(
     alloc: A,
     profile: Profile,
     input: &mut R,
     output: &mut W,
     place: bool,
-) -> Result<(), Fault>
-    ensures ok { OnOk result (CheckDone profile place
+) -> Result<Notes, Fault>
+    ensures ok { IfOk result (CheckDone profile place
         (passage R.remaining R.failures input.old input.new)
         (passage W.contents W.failures output.old output.new)) }
     ensures err { IfErr result (CheckStops profile place
@@ -104,7 +109,7 @@ fn open_range<R: ByteIn, W: ByteOut, A: Allocator + Copy>(
 ) -> Result<Player<A>, Fault>
     ensures ok { IfOk result (λ p. OpensRange profile first p.reader p.decoder.accepted
         (passage R.remaining R.failures input.old input.new)) }
-    ensures located { IfOk result (λ p. Reached (scope_in profile) (R.remaining input.old)
+    ensures located { IfOk result (λ p. Stands (scope_in profile) (R.remaining input.old)
         (R.remaining input.new) p.reader) }
     ensures silent { OnOk result (output.new ≡ output.old) }
     ensures err { IfErr result (LacksRange profile byte first
@@ -122,7 +127,7 @@ fn open_range<R: ByteIn, W: ByteOut, A: Allocator + Copy>(
             let mut passed = 0u64;
             match pass_frames(&mut player, input, first, &mut passed) {
                 Err(fault) => {
-                    tell_byte(output, byte, passed, player.reader.offset(), fault);
+                    tell_byte(output, byte, passed, player.offset, fault);
                     Err(fault)
                 }
                 Ok(()) => Ok(player),
@@ -137,7 +142,8 @@ fn open_range<R: ByteIn, W: ByteOut, A: Allocator + Copy>(
 /// are as many as the range names, nothing after them is read.
 ///
 /// The faults are those of `check`, as far as the file is read; `NoFrames` is also a file that has
-/// no frame of the range.
+/// no frame of the range. Nothing is noted if the end of the file is not read, as where there are
+/// as many frames as the range names.
 pub fn check_range<R: ByteIn, W: ByteOut, A: Allocator + Copy>(
     alloc: A,
     profile: Profile,
@@ -145,8 +151,8 @@ pub fn check_range<R: ByteIn, W: ByteOut, A: Allocator + Copy>(
     output: &mut W,
     place: bool,
     range: FrameRange,
-) -> Result<(), Fault>
-    ensures ok { OnOk result (CheckRangeDone profile place range
+) -> Result<Notes, Fault>
+    ensures ok { IfOk result (CheckRangeDone profile place range
         (passage R.remaining R.failures input.old input.new)
         (passage W.contents W.failures output.old output.new)) }
     ensures err { IfErr result (CheckRangeStops profile place range
@@ -165,7 +171,7 @@ pub fn check_range<R: ByteIn, W: ByteOut, A: Allocator + Copy>(
         return Err(Fault::NoFrames);
     }
     write_count(alloc, output, count)?;
-    Ok(())
+    Ok(notes_after(player.notes, range.count, count))
 }
 
 /// Writes how many frames there were, and how many faults.
@@ -205,9 +211,11 @@ fn write_counts<W: ByteOut, A: Allocator + Copy>(
 /// fault frame {i} slice {s} plane {p} line {l} x {x} decisions {d}
 /// ```
 ///
-/// Answers the first fault of either kind, and None if there is none. Frames are counted from 0; a
-/// count of 64 bits stays at its greatest value, and of a Matroska file at most 2^64 - 1 frames and
-/// faults are judged. Beside what the decoder holds, one payload and its lines are held.
+/// Answers the first fault of either kind, and None if there is none, and what is noted of the end:
+/// of an AVI as `check` does, and of a Matroska file nothing, and what stands behind that is not
+/// looked at. Frames are counted from 0; a count of 64 bits stays at its greatest value, and of a
+/// Matroska file at most 2^64 - 1 frames and faults are judged. Beside what the decoder holds, one
+/// payload and its lines are held.
 ///
 /// All other faults end it as they end `check`, after the lines of the frames before: those of the
 /// file up to its first frame, of its record, and of the chunks of its frames, if it is an AVI
@@ -221,10 +229,10 @@ pub fn check_all<R: ByteIn, W: ByteOut, A: Allocator + Copy>(
     input: &mut R,
     output: &mut W,
     place: bool,
-) -> Result<Option<Fault>, Fault>
-    ensures ok { IfOk result (AllDone profile place
+) -> Result<(Option<Fault>, Notes), Fault>
+    ensures ok { IfOk result (λ told. AllDone profile place
         (passage R.remaining R.failures input.old input.new)
-        (passage W.contents W.failures output.old output.new)) }
+        (passage W.contents W.failures output.old output.new) told.0 told.1) }
     ensures err { IfErr result (AllStops profile place
         (passage R.remaining R.failures input.old input.new)
         (passage W.contents W.failures output.old output.new)) }
@@ -254,7 +262,7 @@ pub fn check_all<R: ByteIn, W: ByteOut, A: Allocator + Copy>(
                     return Err(Fault::NoFrames);
                 }
                 write_counts(alloc, output, counts.frames, counts.faults)?;
-                Ok(counts.first)
+                Ok((counts.first, player.notes))
             }
             Container::Matroska(_size) => {
                 let counts = judge_items(alloc, &mut player, input, output, place)?;
@@ -262,7 +270,7 @@ pub fn check_all<R: ByteIn, W: ByteOut, A: Allocator + Copy>(
                     return Err(Fault::NoFrames);
                 }
                 write_counts(alloc, output, counts.frames, counts.faults)?;
-                Ok(counts.first)
+                Ok((counts.first, Notes::NONE))
             }
         },
     }
@@ -274,10 +282,10 @@ pub fn check_all<R: ByteIn, W: ByteOut, A: Allocator + Copy>(
 /// The frames before the range are read, and not decoded. If there are as many as the range names,
 /// nothing after them is read.
 ///
-/// Answers the fault of the first payload of the range that is refused, and None if none is. The
-/// first fault of the file itself ends it, in a Matroska file, too, which `check_all` reads on. The
-/// faults are those of `check`, as far as the file is read; `NoFrames` is also a file that has no
-/// frame of the range.
+/// Answers the fault of the first payload of the range that is refused, and None if none is, and
+/// what is noted of the end: nothing, if that is not read. The first fault of the file itself ends
+/// it, in a Matroska file, too, which `check_all` reads on. The faults are those of `check`, as far
+/// as the file is read; `NoFrames` is also a file that has no frame of the range.
 pub fn check_all_range<R: ByteIn, W: ByteOut, A: Allocator + Copy>(
     alloc: A,
     profile: Profile,
@@ -285,10 +293,10 @@ pub fn check_all_range<R: ByteIn, W: ByteOut, A: Allocator + Copy>(
     output: &mut W,
     place: bool,
     range: FrameRange,
-) -> Result<Option<Fault>, Fault>
-    ensures ok { IfOk result (CheckAllRangeDone profile place range
+) -> Result<(Option<Fault>, Notes), Fault>
+    ensures ok { IfOk result (λ told. CheckAllRangeDone profile place range
         (passage R.remaining R.failures input.old input.new)
-        (passage W.contents W.failures output.old output.new)) }
+        (passage W.contents W.failures output.old output.new) told.0 told.1) }
     ensures err { IfErr result (CheckAllRangeStops profile place range
         (passage R.remaining R.failures input.old input.new)
         (passage W.contents W.failures output.old output.new)) }
@@ -302,5 +310,6 @@ pub fn check_all_range<R: ByteIn, W: ByteOut, A: Allocator + Copy>(
         return Err(Fault::NoFrames);
     }
     write_counts(alloc, output, counts.frames, counts.faults)?;
-    Ok(counts.first)
+    let notes = notes_after(player.notes, range.count, counts.frames);
+    Ok((counts.first, notes))
 }

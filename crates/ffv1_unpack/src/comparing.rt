@@ -1,6 +1,6 @@
 //! Compares the pictures of a file with a list of MD5s.
 
-ghost use Rattle.std.specs.Prelude.{◌≡◌, ◌<◌, ◌≤◌, IfErr, IfOk, List, None, OnOk, length};
+ghost use Rattle.std.specs.Prelude.{◌≡◌, ◌<◌, ◌≤◌, IfErr, IfOk, List, None, OnOk, length, false};
 ghost use Rattle.std.specs.Prelude.{slice_get, true};
 ghost use Rattle.ffv1_wire.specs.Passage.{passage};
 ghost use Rattle.ffv1_record.specs.Accepted.{IsAccepted};
@@ -19,10 +19,11 @@ ghost use Rattle.ffv1_unpack.specs.Internal.Told.{IsToldFault};
 ghost use Rattle.ffv1_unpack.specs.Plays.{HasThen};
 ghost use Rattle.ffv1_unpack.specs.Stream.{Frame, IsFrame, frame_payload};
 ghost use Rattle.ffv1_unpack.specs.declared.comparing.Unlike.TheVariants as unlike;
+ghost use Rattle.ffv1_unpack.specs.Internal.Located.{EndsNoted, StaysReached};
 
 use crate::player::{Player, Stop, open_player, play};
 use ffv1_codec::{KeepLines, laws as codec_laws};
-use ffv1_files::laws as files_laws;
+use ffv1_files::{Notes, laws as files_laws};
 use ffv1_record::{Checked, laws as record_laws};
 use ffv1_video::picture_md5::picture_md5;
 use ffv1_video::{Fault, Profile};
@@ -98,16 +99,20 @@ fn compare_next<R: ByteIn, A: Allocator>(
     requires kept { IsKeptFor player.old.decoder.accepted kept.old }
     ensures answer { CompareAnswers player.old.decoder.accepted md5s.now number
         player.old.reader.place player.new.reader.place
-        (passage R.remaining R.failures input.old input.new) result }
+        (passage R.remaining R.failures input.old input.new) player.new.notes result }
     ensures within { IfOk result (λ more. more ≡ true → number < length md5s.now) }
     ensures kept { OnOk result (IsKeptFor player.old.decoder.accepted kept.new) }
     ensures sound { OnOk result (player.new.reader.fault ≡ None) }
     ensures less { IfOk result (λ more. more ≡ true →
         amount player.new.reader.place < amount player.old.reader.place) }
+    ensures reached { IfOk result (λ more. more ≡ true → StaysReached player.old.reader
+        player.new.reader (passage R.remaining R.failures input.old input.new)) }
+    ensures noted { IfOk result (λ more. more ≡ false → EndsNoted player.old.reader
+        (passage R.remaining R.failures input.old input.new) player.new.notes) }
     ensures same { player.new.decoder.accepted ≡ player.old.decoder.accepted }
     ensures container { container_of player.new.reader.place
         ≡ container_of player.old.reader.place }
-    ensures own { IfErr result (IsUnlike (IsToldFault (container_of player.old.reader.place))) }
+    ensures own { IfErr result (IsUnlike (IsToldFault player.old.reader (R.remaining input.old))) }
 {
     codec_laws::answer::answer_is_ok_for_coded_pictures::<KeepLines<A>>();
     codec_laws::sink::sinks_of_own_lines_refuse_none();
@@ -143,10 +148,13 @@ fn compare_frames<R: ByteIn, A: Allocator + Copy>(
         × (n ≤ length md5s.now)
         × PlaysAll (IsFrame player.old.decoder.accepted) frame_payload
         (HasThen player.old.reader.place) (frame_numbers player.old.decoder.accepted)
-        (passage R.remaining R.failures input.old input.new) (met md5s.now n) frames) }
+        (passage R.remaining R.failures input.old input.new) (met md5s.now n) player.new.notes
+        frames) }
     ensures err { IfErr result (FramesStop player.old.reader.place player.old.decoder.accepted
         md5s.now (passage R.remaining R.failures input.old input.new)) }
-    ensures own { IfErr result (IsUnlike (IsToldFault (container_of player.old.reader.place))) }
+    ensures own { IfErr result (IsUnlike (IsToldFault player.old.reader (R.remaining input.old))) }
+    ensures noted { IfOk result (λ n. EndsNoted player.old.reader
+        (passage R.remaining R.failures input.old input.new) player.new.notes) }
 {
     let checked = player.decoder.config();
     let mut kept = kept_lines(alloc, checked)?;
@@ -166,14 +174,17 @@ fn compare_frames<R: ByteIn, A: Allocator + Copy>(
 /// after a frame that differs nothing is read. `Fault` has the faults of `framemd5`, but for
 /// `Write`.
 ///
+/// After the last frame what stands behind the file is looked at, as `FileReader::look_behind`
+/// does: `Fault` has `Another` if another file begins there; else the answer is what it notes.
+///
 /// Beside the list and what the decoder holds, one payload and one picture are held.
 pub fn check_against<R: ByteIn, A: Allocator + Copy>(
     alloc: A,
     profile: Profile,
     input: &mut R,
     md5s: &[u128],
-) -> Result<(), Unlike>
-    ensures ok { OnOk result (Agrees profile md5s.now
+) -> Result<Notes, Unlike>
+    ensures ok { IfOk result (Agrees profile md5s.now
         (passage R.remaining R.failures input.old input.new)) }
     ensures err { IfErr result (ComparingStops profile md5s.now
         (passage R.remaining R.failures input.old input.new)) }
@@ -189,5 +200,5 @@ pub fn check_against<R: ByteIn, A: Allocator + Copy>(
     if number < md5s.len() {
         return Err(Unlike::Differs(number as u64));
     }
-    Ok(())
+    Ok(player.notes)
 }

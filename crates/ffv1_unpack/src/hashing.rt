@@ -18,16 +18,20 @@ ghost use Rattle.ffv1_unpack.specs.Opens.{LacksOpening};
 ghost use Rattle.ffv1_unpack.specs.Ranges.{PassStops};
 ghost use Rattle.ffv1_video.specs.KeptLines.{IsKeptFor};
 ghost use Rattle.ffv1_unpack.specs.Internal.PicturesOut.{head_saying};
-ghost use Rattle.ffv1_unpack.specs.Plays.{HasThen, PlayStops};
+ghost use Rattle.ffv1_unpack.specs.Plays.{HasThen, PlayStops, has_more};
 ghost use Rattle.ffv1_unpack.specs.Internal.Plays.{NextAnswers, PlaysMost};
 ghost use Rattle.ffv1_unpack.specs.Stream.{Frame, IsFrame, frame_payload};
 ghost use Rattle.ffv1_unpack.specs.Internal.Told.{IsToldFault, WritesFrame};
+ghost use Rattle.std.specs.Prelude.{false};
+ghost use Rattle.ffv1_unpack.specs.Internal.Located.{EndsNoted, StaysReached};
+ghost use Rattle.ffv1_video.specs.Profiles.{scope_in};
+ghost use Rattle.ffv1_unpack.specs.Located.{Stands};
 
-use crate::passing::{has_more, pass_frames};
+use crate::passing::{has_more, notes_after, pass_frames};
 use crate::pictures_out::text_head;
 use crate::player::{Player, Stop, open_player, play};
 use ffv1_codec::{Info, KeepLines, laws as codec_laws};
-use ffv1_files::laws as files_laws;
+use ffv1_files::{Notes, laws as files_laws};
 use ffv1_record::{Checked, laws as record_laws};
 use ffv1_video::md5_lines::{push_picture, put_head};
 use ffv1_video::{Fault, Profile};
@@ -134,16 +138,20 @@ fn write_next<R: ByteIn, W: ByteOut, A: Allocator>(
         (frame_md5 player.old.decoder.accepted lines.old.head place.first place.number)
         player.old.reader.place player.new.reader.place
         (passage R.remaining R.failures input.old input.new)
-        (passage W.contents W.failures output.old output.new) result }
+        (passage W.contents W.failures output.old output.new) player.new.notes result }
     ensures kept { OnOk result (IsKeptFor player.old.decoder.accepted kept.new) }
     ensures head { lines.new.head ≡ lines.old.head }
     ensures sound { OnOk result (player.new.reader.fault ≡ None) }
     ensures less { IfOk result (λ more. more ≡ true →
         amount player.new.reader.place < amount player.old.reader.place) }
+    ensures reached { IfOk result (λ more. more ≡ true → StaysReached player.old.reader
+        player.new.reader (passage R.remaining R.failures input.old input.new)) }
+    ensures noted { IfOk result (λ more. more ≡ false → EndsNoted player.old.reader
+        (passage R.remaining R.failures input.old input.new) player.new.notes) }
     ensures same { player.new.decoder.accepted ≡ player.old.decoder.accepted }
     ensures container { container_of player.new.reader.place
         ≡ container_of player.old.reader.place }
-    ensures own { IfErr result (IsToldFault (container_of player.old.reader.place)) }
+    ensures own { IfErr result (IsToldFault player.old.reader (R.remaining input.old)) }
 {
     codec_laws::answer::answer_is_ok_for_coded_pictures::<KeepLines<A>>();
     codec_laws::sink::sinks_of_own_lines_refuse_none();
@@ -178,13 +186,17 @@ fn write_frames<R: ByteIn, W: ByteOut, A: Allocator + Copy>(
         (HasThen player.old.reader.place)
         (md5_from range.first (stream_of player.old.reader player.old.decoder.accepted))
         (passage R.remaining R.failures input.old input.new)
-        (passage W.contents W.failures output.old output.new) range.count frames) }
+        (passage W.contents W.failures output.old output.new) player.new.notes range.count
+        frames) }
     ensures err { IfErr result (PlayStops (HasThen player.old.reader.place)
         player.old.decoder.accepted
         (md5_from range.first (stream_of player.old.reader player.old.decoder.accepted))
         (passage R.remaining R.failures input.old input.new)
         (passage W.contents W.failures output.old output.new)) }
-    ensures own { IfErr result (IsToldFault (container_of player.old.reader.place)) }
+    ensures own { IfErr result (IsToldFault player.old.reader (R.remaining input.old)) }
+    ensures noted { IfOk result (λ n. (k : ℕ) → n ≡ saturated k → has_more range.count k ≡ true →
+        EndsNoted player.old.reader (passage R.remaining R.failures input.old input.new)
+        player.new.notes) }
 {
     let checked = player.decoder.config();
     let mut kept = KeepLines::new(alloc, checked)?;
@@ -242,14 +254,16 @@ fn write_frames<R: ByteIn, W: ByteOut, A: Allocator + Copy>(
 /// inside a `RIFF`, or that has fewer frames than its `dmlh` says, and `NotAvi` one in which
 /// something that is no `RIFF` comes after the last one; and a file that begins with the byte 1A
 /// is Matroska, with the faults that `MatroskaReader::open` and `MatroskaReader::next_frame` name
-/// in place of those of AVI.
+/// in place of those of AVI. After the last frame what stands behind the file is looked at, as
+/// `FileReader::look_behind` does: `Another` if another file begins there, after all lines; else
+/// the answer is what it notes.
 pub fn framemd5<R: ByteIn, W: ByteOut, A: Allocator + Copy>(
     alloc: A,
     profile: Profile,
     input: &mut R,
     output: &mut W,
-) -> Result<(), Fault>
-    ensures ok { OnOk result (Md5Done profile
+) -> Result<Notes, Fault>
+    ensures ok { IfOk result (Md5Done profile
         (passage R.remaining R.failures input.old input.new)
         (passage W.contents W.failures output.old output.new)) }
     ensures err { IfErr result (Md5Stops profile
@@ -276,6 +290,8 @@ fn open_range<R: ByteIn, A: Allocator + Copy>(
         ⊎ ((passed : ℕ) × PassStops profile first
         (passage R.remaining R.failures input.old input.new) passed f)) }
     ensures own { IfErr result (IsCheckFault profile) }
+    ensures located { IfOk result (λ p. Stands (scope_in profile) (R.remaining input.old)
+        (R.remaining input.new) p.reader) }
 {
     let mut player = open_player(alloc, profile, input)?;
     let mut passed = 0u64;
@@ -289,15 +305,16 @@ fn open_range<R: ByteIn, A: Allocator + Copy>(
 /// not decoded. If there are as many as the range names, nothing after them is read.
 ///
 /// The faults are those of `framemd5`, as far as the file is read; `NoFrames` is also a file that
-/// has no frame of the range.
+/// has no frame of the range. Nothing is noted if the end of the file is not read, as where there
+/// are as many frames as the range names.
 pub fn framemd5_range<R: ByteIn, W: ByteOut, A: Allocator + Copy>(
     alloc: A,
     profile: Profile,
     input: &mut R,
     output: &mut W,
     range: FrameRange,
-) -> Result<(), Fault>
-    ensures ok { OnOk result (Md5RangeDone profile range
+) -> Result<Notes, Fault>
+    ensures ok { IfOk result (Md5RangeDone profile range
         (passage R.remaining R.failures input.old input.new)
         (passage W.contents W.failures output.old output.new)) }
     ensures err { IfErr result (Md5RangeStops profile range
@@ -310,5 +327,5 @@ pub fn framemd5_range<R: ByteIn, W: ByteOut, A: Allocator + Copy>(
     if count == 0 {
         return Err(Fault::NoFrames);
     }
-    Ok(())
+    Ok(notes_after(player.notes, range.count, count))
 }

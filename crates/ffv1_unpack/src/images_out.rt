@@ -12,7 +12,8 @@ ghost use Rattle.ffv1_unpack.specs.Internal.Opens.{stream_of};
 ghost use Rattle.ffv1_unpack.specs.Stream.{Frame};
 ghost use Rattle.ffv1_unpack.specs.Internal.Unpack.{IsWritingFault};
 ghost use Rattle.ffv1_unpack.specs.Unpacking.{UnpackingStops, UnpacksMost};
-ghost use Rattle.ffv1_unpack.specs.Plays.{HasThen};
+ghost use Rattle.ffv1_unpack.specs.Plays.{HasThen, has_more};
+ghost use Rattle.ffv1_unpack.specs.Internal.Located.{EndsNoted, StaysReached};
 
 use crate::passing::has_more;
 use crate::player::{Player, Stop, play};
@@ -37,15 +38,19 @@ fn write_next<R: ByteIn, W: ByteOut, A: Allocator>(
     requires sink { IsSinkFor player.old.decoder.accepted.configuration sink.old }
     ensures answer { WritesImage player.old.decoder.accepted player.old.reader.place
         player.new.reader.place (passage R.remaining R.failures input.old input.new)
-        (passage W.contents W.failures sink.old.out sink.new.out) result }
+        (passage W.contents W.failures sink.old.out sink.new.out) player.new.notes result }
     ensures sink { OnOk result (IsSinkFor player.old.decoder.accepted.configuration sink.new) }
     ensures sound { OnOk result (player.new.reader.fault ≡ None) }
     ensures less { IfOk result (λ more. more ≡ true →
         amount player.new.reader.place < amount player.old.reader.place) }
+    ensures reached { IfOk result (λ more. more ≡ true → StaysReached player.old.reader
+        player.new.reader (passage R.remaining R.failures input.old input.new)) }
+    ensures noted { IfOk result (λ more. more ≡ false → EndsNoted player.old.reader
+        (passage R.remaining R.failures input.old input.new) player.new.notes) }
     ensures same { player.new.decoder.accepted ≡ player.old.decoder.accepted }
     ensures container { container_of player.new.reader.place
         ≡ container_of player.old.reader.place }
-    ensures own { IfErr result (IsWritingFault (container_of player.old.reader.place)) }
+    ensures own { IfErr result (IsWritingFault player.old.reader (R.remaining input.old)) }
 {
     codec_laws::answer::answer_is_ok_for_coded_pictures::<PpmWriter<W, A>>();
     codec_laws::answer::answered_fault_is_of_decoding::<PpmWriter<W, A>>();
@@ -88,12 +93,15 @@ fn write_all_images<R: ByteIn, W: ByteOut, A: Allocator>(
         × UnpacksMost (HasThen player.old.reader.place)
         (stream_of player.old.reader player.old.decoder.accepted)
         (passage R.remaining R.failures input.old input.new)
-        (passage W.contents W.failures sink.old.out sink.new.out) most frames) }
+        (passage W.contents W.failures sink.old.out sink.new.out) player.new.notes most frames) }
     ensures err { IfErr result (UnpackingStops (HasThen player.old.reader.place)
         (stream_of player.old.reader player.old.decoder.accepted)
         (passage R.remaining R.failures input.old input.new)
         (passage W.contents W.failures sink.old.out sink.new.out)) }
-    ensures own { IfErr result (IsWritingFault (container_of player.old.reader.place)) }
+    ensures own { IfErr result (IsWritingFault player.old.reader (R.remaining input.old)) }
+    ensures noted { IfOk result (λ n. (k : ℕ) → n ≡ saturated k → has_more most k ≡ true →
+        EndsNoted player.old.reader (passage R.remaining R.failures input.old input.new)
+        player.new.notes) }
 {
     let mut count = 0u64;
     'frames: while has_more(most, count) {
@@ -123,12 +131,15 @@ pub(crate) fn write_images<R: ByteIn, W: ByteOut, A: Allocator + Copy>(
         × UnpacksMost (HasThen player.old.reader.place)
         (stream_of player.old.reader player.old.decoder.accepted)
         (passage R.remaining R.failures input.old input.new)
-        (passage W.contents W.failures output result.0) most frames) }
+        (passage W.contents W.failures output result.0) player.new.notes most frames) }
     ensures err { IfErr result.1 (UnpackingStops (HasThen player.old.reader.place)
         (stream_of player.old.reader player.old.decoder.accepted)
         (passage R.remaining R.failures input.old input.new)
         (passage W.contents W.failures output result.0)) }
-    ensures own { IfErr result.1 (IsWritingFault (container_of player.old.reader.place)) }
+    ensures own { IfErr result.1 (IsWritingFault player.old.reader (R.remaining input.old)) }
+    ensures noted { IfOk result.1 (λ n. (k : ℕ) → n ≡ saturated k → has_more most k ≡ true →
+        EndsNoted player.old.reader (passage R.remaining R.failures input.old input.new)
+        player.new.notes) }
 {
     let checked = player.decoder.config();
     let config = checked.config();

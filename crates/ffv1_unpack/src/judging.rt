@@ -1,22 +1,21 @@
 //! Judges frames one after the other, and writes the lines of each at once, whether it is decoded
 //! or refused.
 
-ghost use Rattle.std.specs.Prelude.{◌≡◌, ◌++◌, ◌<◌, IfErr, IfOk, List, None, OnOk, true};
+ghost use Rattle.std.specs.Prelude.{◌≡◌, ◌++◌, ◌<◌, IfErr, IfOk, List, None, OnOk, true, false, ℕ};
 ghost use Rattle.ffv1_wire.specs.Passage.{passage};
 ghost use Rattle.ffv1_record.specs.Accepted.{IsAccepted};
 ghost use Rattle.ffv1_files.specs.Places.{amount, container_of};
 ghost use Rattle.ffv1_video.specs.Faults.{cause_of};
 ghost use Rattle.ffv1_unpack.specs.FrameLines.{place_text};
-ghost use Rattle.ffv1_unpack.specs.Judged.{IsJudged, Judged};
-ghost use Rattle.ffv1_unpack.specs.Internal.Judged.{AreCounts, JudgeAnswers};
-ghost use Rattle.ffv1_unpack.specs.Judged.{judged_from, payload_of, refused_line};
-ghost use Rattle.ffv1_unpack.specs.Internal.Judged.{one_counted};
+ghost use Rattle.ffv1_unpack.specs.Judged.{IsJudged, Judged, judged_from, payload_of, refused_line};
+ghost use Rattle.ffv1_unpack.specs.Internal.Judged.{AreCounts, JudgeAnswers, one_counted};
 ghost use Rattle.ffv1_unpack.specs.Internal.JudgedItems.{told_counted};
-ghost use Rattle.ffv1_unpack.specs.Internal.Located.{LocatedAfter, StaysReached};
-ghost use Rattle.ffv1_unpack.specs.Plays.{GoesFrom, HasThen};
+ghost use Rattle.ffv1_unpack.specs.Internal.Located.{EndsNoted, LocatedAfter, StaysReached};
+ghost use Rattle.ffv1_unpack.specs.Plays.{GoesFrom, HasThen, has_more};
 ghost use Rattle.ffv1_unpack.specs.Ranges.{number_in};
 ghost use Rattle.ffv1_unpack.specs.Internal.Plays.{PlaysMost};
 ghost use Rattle.ffv1_unpack.specs.Internal.Told.{IsToldFault, WritesFrame};
+ghost use Rattle.ffv1_range.specs.Counts.{saturated};
 
 use crate::frame_line::{FrameLine, put_refused, write_place};
 use crate::passing::has_more;
@@ -127,16 +126,19 @@ fn judge_frame<R: ByteIn, W: ByteOut, A: Allocator>(
     ensures answer { JudgeAnswers judging.places.place judging.places.byte
         player.old.decoder.accepted judging.number player.old.reader player.new.reader.place
         (passage R.remaining R.failures input.old input.new)
-        (passage W.contents W.failures output.old output.new) counts.old counts.new result }
+        (passage W.contents W.failures output.old output.new) player.new.notes counts.old
+        counts.new result }
     ensures sound { OnOk result (player.new.reader.fault ≡ None) }
     ensures less { IfOk result (λ more. more ≡ true →
         amount player.new.reader.place < amount player.old.reader.place) }
     ensures reached { IfOk result (λ more. more ≡ true → StaysReached player.old.reader
         player.new.reader (passage R.remaining R.failures input.old input.new)) }
+    ensures noted { IfOk result (λ more. more ≡ false → EndsNoted player.old.reader
+        (passage R.remaining R.failures input.old input.new) player.new.notes) }
     ensures same { player.new.decoder.accepted ≡ player.old.decoder.accepted }
     ensures container { container_of player.new.reader.place
         ≡ container_of player.old.reader.place }
-    ensures own { IfErr result (IsToldFault (container_of player.old.reader.place)) }
+    ensures own { IfErr result (IsToldFault player.old.reader (R.remaining input.old)) }
 {
     codec_laws::answer::answer_is_ok_for_coded_pictures::<DropLines>();
     codec_laws::answer::answered_fault_is_of_decoding::<DropLines>();
@@ -154,8 +156,7 @@ fn judge_frame<R: ByteIn, W: ByteOut, A: Allocator>(
         }
         Err(Stop::File(fault)) => {
             let fault = Fault::from(fault);
-            let offset = player.reader.offset();
-            tell_byte(output, places.byte, number, offset, fault);
+            tell_byte(output, places.byte, number, player.offset, fault);
             Err(fault)
         }
         Err(Stop::Payload(fault)) => {
@@ -167,7 +168,8 @@ fn judge_frame<R: ByteIn, W: ByteOut, A: Allocator>(
 }
 
 /// Judges the frames that are left, of a range whose first one comes next, and writes the lines of
-/// each as soon as it is judged. Answers how many there were, and how many of them are refused.
+/// each as soon as it is judged. Answers how many there were, and how many of them are refused;
+/// what is noted of the end is in the player, if it was read.
 pub(crate) fn judge_frames<R: ByteIn, W: ByteOut, A: Allocator + Copy>(
     alloc: A,
     player: &mut Player<A>,
@@ -184,7 +186,8 @@ pub(crate) fn judge_frames<R: ByteIn, W: ByteOut, A: Allocator + Copy>(
         (HasThen player.old.reader.place)
         (judged_from places.place player.old.decoder.accepted.configuration range.first)
         (passage R.remaining R.failures input.old input.new)
-        (passage W.contents W.failures output.old output.new) range.count js) }
+        (passage W.contents W.failures output.old output.new) player.new.notes range.count
+        js) }
     ensures err { IfErr result (λ f. GoesFrom (IsJudged player.old.decoder.accepted) payload_of
         (HasThen player.old.reader.place)
         (judged_from places.place player.old.decoder.accepted.configuration range.first)
@@ -192,7 +195,11 @@ pub(crate) fn judge_frames<R: ByteIn, W: ByteOut, A: Allocator + Copy>(
         (passage W.contents W.failures output.old output.new) (number_in range)
         (LocatedAfter player.old.reader (passage R.remaining R.failures input.old input.new))
         places.byte f (cause_of f)) }
-    ensures own { IfErr result (IsToldFault (container_of player.old.reader.place)) }
+    ensures own { IfErr result (IsToldFault player.old.reader (R.remaining input.old)) }
+    ensures noted { IfOk result (λ counts. (k : ℕ) → counts.frames ≡ saturated k →
+        has_more range.count k ≡ true →
+        EndsNoted player.old.reader (passage R.remaining R.failures input.old input.new)
+        player.new.notes) }
 {
     let mut text = Vec::new(alloc);
     let mut counts = JudgedCounts {

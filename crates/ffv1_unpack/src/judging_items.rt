@@ -49,6 +49,7 @@ fn file_word(fault: FileFault) -> &'static str
         FileFault::Laced => "84 Laced",
         FileFault::Checksum => "85 Checksum",
         FileFault::Rate => "86 Rate",
+        FileFault::Another => "88 Another",
     }
 }
 

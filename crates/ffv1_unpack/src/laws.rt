@@ -5,6 +5,7 @@ ghost use Rattle.std.specs.Prelude.{Option};
 ghost use Rattle.ffv1_codec.specs.Picture.{Planes};
 ghost use Rattle.ffv1_record.specs.Accepted.{Accepted};
 ghost use Rattle.ffv1_record.specs.Configuration.{Configuration};
+ghost use Rattle.ffv1_files.specs.declared.notes.Notes.{Notes};
 ghost use Rattle.ffv1_reads.specs.Head.{Head};
 ghost use Rattle.ffv1_video.specs.Md5Text.{md5_lines};
 ghost use Rattle.ffv1_video.specs.declared.profile.Profile.{Profile};
@@ -12,7 +13,7 @@ ghost use Rattle.ffv1_unpack.specs.declared.frame_line.FrameLine.{FrameLine};
 ghost use Rattle.ffv1_unpack.specs.FrameLines.{lines_from};
 ghost use Rattle.ffv1_unpack.specs.Judged.{Judged, judged_from};
 ghost use Rattle.ffv1_unpack.specs.JudgedItems.{IsJudgedItem, JudgedItem, frames_of};
-ghost use Rattle.ffv1_unpack.specs.Plays.{NextBehind, NextOver, has_more};
+ghost use Rattle.ffv1_unpack.specs.Plays.{FramesEnd, NextBehind, has_more};
 ghost use Rattle.ffv1_unpack.specs.Ranges.{RangeThen};
 ghost use Rattle.ffv1_unpack.specs.Salvaged.{leading, salvage_faults, salvage_lines, shown};
 ghost use Rattle.ffv1_unpack.specs.Salvaged.{of_good};
@@ -24,8 +25,8 @@ ghost use Rattle.ffv1_unpack.specs.Unpacked.{AlikeBy, ppm_text};
 pub fn range_has_the_payloads_of_the_file()
     ensures { (profile : Profile) (head other : Head) (first : ℕ) (most : Option ℕ)
         (held some : List (List ℕ)) (file rest left : List ℕ) →
-        RangeThen profile 0 head held NextOver file rest →
-        RangeThen profile first other some (NextBehind most (length some)) file left →
+        RangeThen profile 0 head held FramesEnd file rest → (notes : Notes) →
+        RangeThen profile first other some (NextBehind notes most (length some)) file left →
         (before : List (List ℕ)) × (more : List (List ℕ)) × (length before ≡ first)
         × (held ≡ before ++ (some ++ more)) × (other ≡ head)
         × (has_more most (length some) ≡ true → more ≡ []) }

@@ -1,16 +1,17 @@
 //! Passes frames of a file: reads them, and does not decode them.
 
-ghost use Rattle.std.specs.Prelude.{◌≡◌, ◌⊎◌, ℕ, IfErr, None, OnOk};
+ghost use Rattle.std.specs.Prelude.{◌≡◌, ◌⊎◌, ℕ, IfErr, None, OnOk, true};
 ghost use Rattle.ffv1_wire.specs.Passage.{passage};
 ghost use Rattle.ffv1_range.specs.Counts.{saturated};
 ghost use Rattle.ffv1_files.specs.Places.{container_of};
 ghost use Rattle.ffv1_video.specs.declared.fault.Fault.TheVariants as fault;
-ghost use Rattle.ffv1_unpack.specs.Plays.{has_more};
+ghost use Rattle.ffv1_unpack.specs.Plays.{NotedAfter, has_more};
 ghost use Rattle.ffv1_unpack.specs.Internal.Located.{LocatedAfter, StaysReached};
 ghost use Rattle.ffv1_unpack.specs.Internal.Passing.{PassAnswers};
 ghost use Rattle.ffv1_unpack.specs.Internal.Told.{IsToldFault};
 
-use crate::player::Player;
+use crate::player::{Player, read_payload};
+use ffv1_files::Notes;
 use ffv1_video::Fault;
 use ffv1_wire::ByteIn;
 use std::alloc::Allocator;
@@ -25,8 +26,20 @@ pub(crate) fn has_more(most: Option<u32>, count: u64) -> bool
     }
 }
 
+/// What is noted of a file of which at most so many frames were read, and so many were there: what
+/// was noted of its end, and nothing if that was not read.
+pub(crate) fn notes_after(notes: Notes, most: Option<u32>, count: u64) -> Notes
+    ensures read { (n : ℕ) → count ≡ saturated n → has_more most n ≡ true → result ≡ notes }
+    ensures unread { (n : ℕ) → count ≡ saturated n → NotedAfter result most n }
+{
+    if has_more(most, count) {
+        return notes;
+    }
+    Notes::NONE
+}
+
 /// Reads so many frames, and decodes none. `passed` is how many were read. Refuses with `NoFrames`
-/// if the file has fewer.
+/// if the file has fewer, after what stands behind it was looked at.
 pub(crate) fn pass_frames<R: ByteIn, A: Allocator>(
     player: &mut Player<A>,
     input: &mut R,
@@ -44,13 +57,13 @@ pub(crate) fn pass_frames<R: ByteIn, A: Allocator>(
     ensures reached { OnOk result (StaysReached player.old.reader player.new.reader
         (passage R.remaining R.failures input.old input.new)) }
     ensures located { IfErr result (λ f. LocatedAfter player.old.reader
-        (passage R.remaining R.failures input.old input.new) f player.new.reader.offset) }
+        (passage R.remaining R.failures input.old input.new) f player.new.offset) }
     ensures own { IfErr result (λ f. (f ≡ fault.NoFrames)
-        ⊎ IsToldFault (container_of player.old.reader.place) f) }
+        ⊎ IsToldFault player.old.reader (R.remaining input.old) f) }
 {
     *passed = 0;
     while *passed < u64::from(first) {
-        if !player.reader.next_frame(input, &mut player.payload)? {
+        if !read_payload(player, input)? {
             return Err(Fault::NoFrames);
         }
         *passed += 1;

@@ -11,16 +11,16 @@ ghost use Rattle.ffv1_codec.specs.SliceList.{Said};
 ghost use Rattle.ffv1_reads.specs.Head.{head_of};
 ghost use Rattle.ffv1_files.specs.Places.{amount, container_of};
 ghost use Rattle.ffv1_unpack.specs.Internal.Opens.{stream_of};
-ghost use Rattle.ffv1_unpack.specs.Internal.PicturesOut.{IsBegun, WritesNext};
+ghost use Rattle.ffv1_unpack.specs.Internal.PicturesOut.{IsBegun, WritesNext, head_saying, said_in};
 ghost use Rattle.ffv1_video.specs.KeptLines.{IsKeptFor};
 ghost use Rattle.ffv1_unpack.specs.Internal.PicturesOut.{WritesPicture};
-ghost use Rattle.ffv1_unpack.specs.Internal.PicturesOut.{head_saying, said_in};
-ghost use Rattle.ffv1_unpack.specs.Plays.{HasThen};
+ghost use Rattle.ffv1_unpack.specs.Plays.{HasThen, has_more};
 ghost use Rattle.ffv1_unpack.specs.Stream.{Frame};
 ghost use Rattle.ffv1_unpack.specs.Unpack.{IsUnpackFault};
 ghost use Rattle.ffv1_unpack.specs.Internal.Unpack.{IsWritingFault};
 ghost use Rattle.ffv1_unpack.specs.Unpacked.{video_of};
 ghost use Rattle.ffv1_unpack.specs.Unpacking.{UnpackingStops, UnpacksMost};
+ghost use Rattle.ffv1_unpack.specs.Internal.Located.{EndsNoted, StaysReached};
 
 use crate::passing::has_more;
 use crate::player::{Player, Stop, play};
@@ -118,17 +118,22 @@ fn write_next<R: ByteIn, W: ByteOut, A: Allocator>(
     ensures answer { WritesNext player.old.decoder.accepted text.old.head
         (said_in text.old.begun) player.old.reader.place player.new.reader.place
         (passage R.remaining R.failures input.old input.new)
-        (passage W.contents W.failures output.old output.new) text.new.begun result }
+        (passage W.contents W.failures output.old output.new) player.new.notes text.new.begun
+        result }
     ensures kept { OnOk result (IsKeptFor player.old.decoder.accepted kept.new) }
     ensures end { IfOk result (λ more. more ≡ false → text.new.begun ≡ text.old.begun) }
     ensures head { text.new.head ≡ text.old.head }
     ensures sound { OnOk result (player.new.reader.fault ≡ None) }
     ensures less { IfOk result (λ more. more ≡ true →
         amount player.new.reader.place < amount player.old.reader.place) }
+    ensures reached { IfOk result (λ more. more ≡ true → StaysReached player.old.reader
+        player.new.reader (passage R.remaining R.failures input.old input.new)) }
+    ensures noted { IfOk result (λ more. more ≡ false → EndsNoted player.old.reader
+        (passage R.remaining R.failures input.old input.new) player.new.notes) }
     ensures same { player.new.decoder.accepted ≡ player.old.decoder.accepted }
     ensures container { container_of player.new.reader.place
         ≡ container_of player.old.reader.place }
-    ensures own { IfErr result (IsWritingFault (container_of player.old.reader.place)) }
+    ensures own { IfErr result (IsWritingFault player.old.reader (R.remaining input.old)) }
 {
     codec_laws::answer::answer_is_ok_for_coded_pictures::<KeepLines<A>>();
     codec_laws::sink::sinks_of_own_lines_refuse_none();
@@ -147,7 +152,7 @@ fn write_next<R: ByteIn, W: ByteOut, A: Allocator>(
 }
 
 /// Decodes the frames that are left, at most so many, and writes the picture of each. Answers how
-/// many there were, at most 2^64 - 1.
+/// many there were, at most 2^64 - 1; what is noted of the end is in the player, if it was read.
 pub(crate) fn write_pictures<R: ByteIn, W: ByteOut, A: Allocator + Copy>(
     alloc: A,
     player: &mut Player<A>,
@@ -163,12 +168,15 @@ pub(crate) fn write_pictures<R: ByteIn, W: ByteOut, A: Allocator + Copy>(
         × UnpacksMost (HasThen player.old.reader.place)
         (stream_of player.old.reader player.old.decoder.accepted)
         (passage R.remaining R.failures input.old input.new)
-        (passage W.contents W.failures output.old output.new) most frames) }
+        (passage W.contents W.failures output.old output.new) player.new.notes most frames) }
     ensures err { IfErr result (UnpackingStops (HasThen player.old.reader.place)
         (stream_of player.old.reader player.old.decoder.accepted)
         (passage R.remaining R.failures input.old input.new)
         (passage W.contents W.failures output.old output.new)) }
-    ensures own { IfErr result (IsWritingFault (container_of player.old.reader.place)) }
+    ensures own { IfErr result (IsWritingFault player.old.reader (R.remaining input.old)) }
+    ensures noted { IfOk result (λ n. (k : ℕ) → n ≡ saturated k → has_more most k ≡ true →
+        EndsNoted player.old.reader (passage R.remaining R.failures input.old input.new)
+        player.new.notes) }
 {
     let checked = player.decoder.config();
     let mut kept = KeepLines::new(alloc, checked)?;

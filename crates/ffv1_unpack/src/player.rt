@@ -5,6 +5,8 @@ ghost use Rattle.std.specs.Prelude.{OnOk, Some, length, max, true};
 ghost use Rattle.std.specs.Vec.{vec_capacity};
 ghost use Rattle.ffv1_wire.specs.Passage.{passage};
 ghost use Rattle.ffv1_reads.specs.Head.{head_of};
+ghost use Rattle.ffv1_files.specs.Behind.{EndsThere};
+ghost use Rattle.ffv1_files.specs.Noted.{NotesReached};
 ghost use Rattle.ffv1_files.specs.Offsets.{Reached};
 ghost use Rattle.ffv1_files.specs.Places.{amount, container_of};
 ghost use Rattle.ffv1_record.specs.Reading.{IsRefused, ReachesSets};
@@ -12,16 +14,18 @@ ghost use Rattle.ffv1_record.specs.declared.fault.RecordFault.{RecordFault};
 ghost use Rattle.ffv1_record.specs.declared.fault.RecordFault.TheVariants as record_fault;
 ghost use Rattle.ffv1_video.specs.declared.fault.Fault.TheVariants as fault;
 ghost use Rattle.ffv1_unpack.specs.Containers.{is_profile_fault};
-ghost use Rattle.ffv1_unpack.specs.Located.{LocatedFault};
-ghost use Rattle.ffv1_unpack.specs.Internal.Located.{LocatedStep};
+ghost use Rattle.ffv1_unpack.specs.Located.{LocatedFault, Stands};
+ghost use Rattle.ffv1_unpack.specs.Internal.Located.{LocatedPayload, LocatedStep};
+ghost use Rattle.ffv1_video.specs.Faults.{of_avi};
 ghost use Rattle.ffv1_video.specs.Profiles.{greatest_depth, record_profile, scope_in};
 ghost use Rattle.ffv1_unpack.specs.Opens.{LacksOpening, is_opening_fault};
 ghost use Rattle.ffv1_unpack.specs.Internal.Opens.{OpensStream};
 ghost use Rattle.ffv1_unpack.specs.Stream.{IsStream};
-ghost use Rattle.ffv1_unpack.specs.Internal.Told.{IsOwnStop, OnPayload, StepAnswers};
+ghost use Rattle.ffv1_unpack.specs.Internal.Told.{IsOwnStop, IsToldFault, OnPayload};
+ghost use Rattle.ffv1_unpack.specs.Internal.Told.{ReadAnswers, StepAnswers};
 
 use ffv1_codec::{FrameDecoder, FrameFault, Info};
-use ffv1_files::FileReader;
+use ffv1_files::{FileReader, Notes};
 use ffv1_reads::{FileFault, FileHead};
 use ffv1_record::{Checked, RecordFault, read_record_in};
 use ffv1_video::{Fault, Profile};
@@ -51,7 +55,8 @@ pub fn read_head<A: Allocator + Copy>(
         ⊎ IsRefused (record_profile profile) (greatest_depth profile)
         head.now.config_record.items head.now.width head.now.height f) }
     ensures memory { IfErr result (λ f. f ≡ record_fault.OutOfMemory →
-        ReachesSets (greatest_depth profile) head.now.config_record.items) }
+        ReachesSets (record_profile profile) (greatest_depth profile)
+        head.now.config_record.items) }
     ensures sound { IfErr result (λ f. f ≡ record_fault.OutOfMemory → (g : RecordFault) →
         IsRefused (record_profile profile) (greatest_depth profile)
         head.now.config_record.items head.now.width head.now.height g → ⊥) }
@@ -86,6 +91,9 @@ fn open_stream_located<R: ByteIn, A: Allocator + Copy>(
         ⊎ (is_profile_fault profile f ≡ true)) }
     ensures located { IfOk result (λ p. Reached (scope_in profile) (R.remaining input.old)
         (R.remaining input.new) p.0) }
+    ensures ends { IfOk result (λ p. EndsThere p.0) }
+    ensures noted { IfOk result (λ p. NotesReached (scope_in profile) (R.remaining input.old)
+        (R.remaining input.new) p.0) }
     ensures stopped { IfErr result (λ f. LocatedFault (scope_in profile)
         (passage R.remaining R.failures input.old input.new) f offset.new) }
 {
@@ -108,6 +116,8 @@ pub(crate) fn open_stream<R: ByteIn, A: Allocator + Copy>(
         (passage R.remaining R.failures input.old input.new)) }
     ensures own { IfErr result (λ f. (is_opening_fault f ≡ true)
         ⊎ (is_profile_fault profile f ≡ true)) }
+    ensures located { IfOk result (λ p. Stands (scope_in profile) (R.remaining input.old)
+        (R.remaining input.new) p.0) }
 {
     let mut offset = 0u64;
     match open_stream_located(alloc, profile, input, &mut offset) {
@@ -117,11 +127,14 @@ pub(crate) fn open_stream<R: ByteIn, A: Allocator + Copy>(
 }
 
 /// A file that is played: its reader, the decoder of its frames, and the payload that was read
-/// last. Both vectors that it needs are reused for each frame.
+/// last. Both vectors that it needs are reused for each frame. Then what is noted of the end, once
+/// it was read, and after a fault of the file the number of bytes before what is refused.
 pub struct Player<A: Allocator = Global> {
     pub(crate) reader: FileReader<A>,
     pub(crate) decoder: FrameDecoder<A>,
     pub(crate) payload: Vec<u8, A>,
+    pub(crate) notes: Notes,
+    pub(crate) offset: u64,
 }
 
 impl<A: Allocator> Drop for Player<A> {
@@ -130,6 +143,8 @@ impl<A: Allocator> Drop for Player<A> {
             reader: _reader,
             decoder: _decoder,
             payload: _payload,
+            notes: _notes,
+            offset: _offset,
         } = self;
     }
 }
@@ -150,6 +165,8 @@ pub(crate) fn player_of<A: Allocator + Copy>(
         reader,
         decoder,
         payload: Vec::new(alloc),
+        notes: Notes::NONE,
+        offset: 0,
     })
 }
 
@@ -168,6 +185,9 @@ pub(crate) fn open_player_located<R: ByteIn, A: Allocator + Copy>(
     ensures own { IfErr result (λ f. (is_opening_fault f ≡ true)
         ⊎ (is_profile_fault profile f ≡ true)) }
     ensures located { IfOk result (λ p. Reached (scope_in profile) (R.remaining input.old)
+        (R.remaining input.new) p.reader) }
+    ensures ends { IfOk result (λ p. EndsThere p.reader) }
+    ensures noted { IfOk result (λ p. NotesReached (scope_in profile) (R.remaining input.old)
         (R.remaining input.new) p.reader) }
     ensures stopped { IfErr result (λ f. LocatedFault (scope_in profile)
         (passage R.remaining R.failures input.old input.new) f offset.new) }
@@ -190,6 +210,8 @@ pub(crate) fn open_player<R: ByteIn, A: Allocator + Copy>(
         (passage R.remaining R.failures input.old input.new)) }
     ensures own { IfErr result (λ f. (is_opening_fault f ≡ true)
         ⊎ (is_profile_fault profile f ≡ true)) }
+    ensures located { IfOk result (λ p. Stands (scope_in profile) (R.remaining input.old)
+        (R.remaining input.new) p.reader) }
 {
     let mut offset = 0u64;
     match open_player_located(alloc, profile, input, &mut offset) {
@@ -198,8 +220,54 @@ pub(crate) fn open_player<R: ByteIn, A: Allocator + Copy>(
     }
 }
 
+/// Reads the next payload. Answers false if there is none; then what stands behind the end was
+/// looked at, and what is noted of it is in `notes`. After a fault `offset` is the number of bytes
+/// of the file before the element or chunk that is refused, or before what stands behind the end.
+pub(crate) fn read_payload<R: ByteIn, A: Allocator>(
+    player: &mut Player<A>,
+    input: &mut R,
+) -> Result<bool, FileFault>
+    requires sound { player.old.reader.fault ≡ None }
+    ensures answer { ReadAnswers player.old.reader.place player.new.reader.place
+        player.new.payload.items player.new.notes
+        (passage R.remaining R.failures input.old input.new) result }
+    ensures sound { OnOk result (player.new.reader.fault ≡ None) }
+    ensures less { IfOk result (λ more. more ≡ true →
+        amount player.new.reader.place < amount player.old.reader.place) }
+    ensures same { player.new.decoder ≡ player.old.decoder }
+    ensures head { player.new.reader.head ≡ player.old.reader.head }
+    ensures container { container_of player.new.reader.place
+        ≡ container_of player.old.reader.place }
+    ensures own { IfErr result (λ f. IsToldFault player.old.reader (R.remaining input.old)
+        (of_avi f)) }
+    ensures located { LocatedPayload player.old.reader
+        (passage R.remaining R.failures input.old input.new) player.new.notes result
+        player.new.reader player.new.offset }
+    ensures kept { player.new.reader.room ≡ player.old.reader.room }
+    ensures room { vec_capacity player.new.payload ≤ max (vec_capacity player.old.payload)
+        (2 * length player.new.payload.items + 65536) }
+{
+    match player.reader.next_frame(input, &mut player.payload) {
+        Ok(true) => Ok(true),
+        Ok(false) => match player.reader.look_behind(input) {
+            Ok(notes) => {
+                player.notes = notes;
+                Ok(false)
+            }
+            Err(fault) => {
+                player.offset = player.reader.end();
+                Err(fault)
+            }
+        },
+        Err(fault) => {
+            player.offset = player.reader.offset();
+            Err(fault)
+        }
+    }
+}
+
 /// Reads the next frame and decodes it into a sink, and answers what it says of its picture; None
-/// at the end of the file.
+/// at the end of the file, as `read_payload` does.
 pub(crate) fn play<R: ByteIn, S: LineSink, A: Allocator>(
     player: &mut Player<A>,
     input: &mut R,
@@ -208,24 +276,25 @@ pub(crate) fn play<R: ByteIn, S: LineSink, A: Allocator>(
     requires sound { player.old.reader.fault ≡ None }
     ensures answer { StepAnswers S.takes S.refuses player.old.decoder.accepted
         player.old.reader.place player.new.reader.place player.new.payload.items
-        player.new.decoder.tally (passage R.remaining R.failures input.old input.new)
-        sink.old sink.new result }
+        player.new.decoder.tally player.new.notes
+        (passage R.remaining R.failures input.old input.new) sink.old sink.new result }
     ensures sound { OnOk result (player.new.reader.fault ≡ None) }
     ensures less { IfOk result (λ o. IfSome o (λ _.
         amount player.new.reader.place < amount player.old.reader.place)) }
     ensures same { player.new.decoder.accepted ≡ player.old.decoder.accepted }
     ensures container { container_of player.new.reader.place
         ≡ container_of player.old.reader.place }
-    ensures own { IfErr result (IsOwnStop (container_of player.old.reader.place)) }
+    ensures own { IfErr result (IsOwnStop player.old.reader (R.remaining input.old)) }
     ensures goes_on { IfErr result (OnPayload ((player.new.reader.fault ≡ None)
         × (amount player.new.reader.place < amount player.old.reader.place))) }
     ensures located { LocatedStep player.old.reader
-        (passage R.remaining R.failures input.old input.new) result player.new.reader }
+        (passage R.remaining R.failures input.old input.new) player.new.notes result
+        player.new.reader player.new.offset }
     ensures kept { player.new.reader.room ≡ player.old.reader.room }
     ensures room { vec_capacity player.new.payload ≤ max (vec_capacity player.old.payload)
         (2 * length player.new.payload.items + 65536) }
 {
-    match player.reader.next_frame(input, &mut player.payload) {
+    match read_payload(player, input) {
         Ok(false) => Ok(None),
         Ok(true) => match player.decoder.decode(&player.payload, sink) {
             Ok(info) => Ok(Some(info)),

@@ -9,6 +9,8 @@ ghost use Rattle.ffv1_codec.specs.SliceList.{Said};
 ghost use Rattle.ffv1_files.specs.Answers.{ReadsAs};
 ghost use Rattle.ffv1_files.specs.Items.{course_of, item_of, item_read};
 ghost use Rattle.ffv1_files.specs.Places.{container_of};
+ghost use Rattle.ffv1_files.specs.declared.container.Container.TheVariants as container;
+ghost use Rattle.ffv1_matroska.specs.declared.items.Item.TheVariants as item;
 ghost use Rattle.ffv1_video.specs.Faults.{cause_of};
 ghost use Rattle.ffv1_unpack.specs.Internal.Judged.{one_counted};
 ghost use Rattle.ffv1_unpack.specs.JudgedItems.{IsJudgedItem, ItemsFrom, JudgedItem};
@@ -22,6 +24,7 @@ ghost use Rattle.ffv1_unpack.specs.Told.{is_telling_fault};
 ghost use Rattle.ffv1_unpack.specs.Stream.{AreAll, Frame, Stream};
 ghost use Rattle.ffv1_unpack.specs.UnpackAll.{AreSalvageCounts, SalvageStopsBy, SalvagesAll};
 ghost use Rattle.ffv1_unpack.specs.Unpacked.{HasText, is_ppm_stream};
+ghost use Rattle.ffv1_unpack.specs.Internal.Located.{StaysReached};
 
 use crate::judging::{JudgedCounts, write_refused};
 use crate::judging_items::write_told;
@@ -79,7 +82,11 @@ fn read_item<R: ByteIn, A: Allocator>(
     ensures head { player.new.reader.head ≡ player.old.reader.head }
     ensures container { container_of player.new.reader.place
         ≡ container_of player.old.reader.place }
-    ensures own { IfErr result (IsToldFault (container_of player.old.reader.place)) }
+    ensures own { IfErr result (IsToldFault player.old.reader (R.remaining input.old)) }
+    ensures reached { IfOk result (λ i. (i ≡ item.End → ⊥) →
+        container_of player.old.reader.place ≡ container.Avi →
+        StaysReached player.old.reader player.new.reader
+        (passage R.remaining R.failures input.old input.new)) }
 {
     match player.reader.container() {
         Container::Avi => match player.reader.next_frame(input, &mut player.payload) {
@@ -292,7 +299,11 @@ fn salvage_item<R: ByteIn, L: ByteOut, P: PictureOut, A: Allocator>(
     ensures same { player.new.decoder.accepted ≡ player.old.decoder.accepted }
     ensures container { container_of player.new.reader.place
         ≡ container_of player.old.reader.place }
-    ensures own { IfErr result (IsToldFault (container_of player.old.reader.place)) }
+    ensures own { IfErr result (IsToldFault player.old.reader (R.remaining input.old)) }
+    ensures reached { IfOk result (λ more. more ≡ true →
+        container_of player.old.reader.place ≡ container.Avi →
+        StaysReached player.old.reader player.new.reader
+        (passage R.remaining R.failures input.old input.new)) }
 {
     match read_item(player, input, &mut salvage.course) {
         Err(fault) => Err(fault),
@@ -341,7 +352,7 @@ pub(crate) fn salvage_items<R: ByteIn, L: ByteOut, P: PictureOut, A: Allocator +
         (passage R.remaining R.failures input.old input.new)
         (passage L.contents L.failures lines.old lines.new)
         (passage P.contents P.failures output.old output.new) f (cause_of f)) }
-    ensures own { IfErr result (IsToldFault (container_of player.old.reader.place)) }
+    ensures own { IfErr result (IsToldFault player.old.reader (R.remaining input.old)) }
 {
     let mut salvage = Salvage {
         ppm,

@@ -1,13 +1,12 @@
 //! Prints what a file says, and what its frames cost.
 
-ghost use Rattle.std.specs.Prelude.{◌≡◌, ◌⊎◌, IfErr, List, None, OnOk, false, true};
+ghost use Rattle.std.specs.Prelude.{◌≡◌, ◌⊎◌, IfErr, IfOk, List, None, false, true};
 ghost use Rattle.ffv1_wire.specs.Passage.{passage};
 ghost use Rattle.ffv1_reads.specs.Head.{head_of};
-ghost use Rattle.ffv1_files.specs.Places.{container_of};
 ghost use Rattle.ffv1_record.specs.Accepted.{IsAccepted};
 ghost use Rattle.ffv1_unpack.specs.declared.frame_line.FrameLine.TheVariants as line;
 ghost use Rattle.ffv1_unpack.specs.FrameLines.{frame_lines};
-ghost use Rattle.ffv1_unpack.specs.Internal.Located.{LocatedAfter};
+ghost use Rattle.ffv1_unpack.specs.Internal.Located.{LocatedAfter, EndsNoted};
 ghost use Rattle.ffv1_unpack.specs.Plays.{HasThen};
 ghost use Rattle.ffv1_unpack.specs.Ranges.{all_frames};
 ghost use Rattle.ffv1_unpack.specs.Internal.Plays.{PlaysAll};
@@ -21,7 +20,7 @@ use crate::frame_line::FrameLine;
 use crate::player::{open_stream, player_of};
 use crate::stream_lines::show_text;
 use crate::telling::{Places, Telling, tell_frames};
-use ffv1_files::{Container, FileReader, laws as files_laws};
+use ffv1_files::{Container, FileReader, Notes, laws as files_laws};
 use ffv1_reads::FileHead;
 use ffv1_record::Checked;
 use ffv1_video::{Fault, Profile};
@@ -48,21 +47,22 @@ fn write_stream<W: ByteOut, A: Allocator + Copy>(
     Ok(())
 }
 
-/// Decodes all frames of a file that was opened, and writes what each cost.
+/// Decodes all frames of a file that was opened, and writes what each cost. Answers what is noted
+/// of the end.
 fn tell_costs<R: ByteIn, W: ByteOut, A: Allocator + Copy>(
     alloc: A,
     reader: FileReader<A>,
     checked: Checked<A>,
     input: &mut R,
     output: &mut W,
-) -> Result<(), Fault>
+) -> Result<Notes, Fault>
     requires sound { reader.fault ≡ None }
     requires accepted { IsAccepted checked.configuration checked.table }
-    ensures ok { OnOk result ((frames : List Frame)
+    ensures ok { IfOk result (λ notes. (frames : List Frame)
         × PlaysAll (IsFrame checked) frame_payload (HasThen reader.place)
         (frame_lines line.Cost checked.configuration)
         (passage R.remaining R.failures input.old input.new)
-        (passage W.contents W.failures output.old output.new) frames) }
+        (passage W.contents W.failures output.old output.new) notes frames) }
     ensures err { IfErr result (λ f.
         NoDecoder (passage R.remaining R.failures input.old input.new)
         (passage W.contents W.failures output.old output.new) f
@@ -70,7 +70,9 @@ fn tell_costs<R: ByteIn, W: ByteOut, A: Allocator + Copy>(
         (passage R.remaining R.failures input.old input.new)
         (passage W.contents W.failures output.old output.new)
         (LocatedAfter reader (passage R.remaining R.failures input.old input.new)) false f) }
-    ensures own { IfErr result (IsToldFault (container_of reader.place)) }
+    ensures own { IfErr result (IsToldFault reader (R.remaining input.old)) }
+    ensures noted { IfOk result
+        (EndsNoted reader (passage R.remaining R.failures input.old input.new)) }
 {
     let mut player = player_of(alloc, reader, checked)?;
     let telling = Telling {
@@ -81,7 +83,7 @@ fn tell_costs<R: ByteIn, W: ByteOut, A: Allocator + Copy>(
         },
     };
     tell_frames(alloc, &mut player, input, output, telling, FrameRange::ALL)?;
-    Ok(())
+    Ok(player.notes)
 }
 
 /// Writes what a file's head and its record say, and how much a decoder of its frames holds:
@@ -128,14 +130,18 @@ fn tell_costs<R: ByteIn, W: ByteOut, A: Allocator + Copy>(
 /// AVI.
 /// `Read`, `OutOfMemory` and `Write` come as they come; if a write failed, a beginning of what
 /// was to be written is.
+///
+/// With `cost`, after the last frame what stands behind the file is looked at, as
+/// `FileReader::look_behind` does: `Another` if another file begins there, after all lines; else
+/// the answer is what it notes. Without `cost` nothing is noted.
 pub fn show<R: ByteIn, W: ByteOut, A: Allocator + Copy>(
     alloc: A,
     profile: Profile,
     input: &mut R,
     output: &mut W,
     cost: bool,
-) -> Result<(), Fault>
-    ensures ok { OnOk result (ShowDone profile
+) -> Result<Notes, Fault>
+    ensures ok { IfOk result (ShowDone profile
         (passage R.remaining R.failures input.old input.new)
         (passage W.contents W.failures output.old output.new) cost) }
     ensures err { IfErr result (ShowStops profile
@@ -148,7 +154,8 @@ pub fn show<R: ByteIn, W: ByteOut, A: Allocator + Copy>(
     let (reader, checked) = open_stream(alloc, profile, input)?;
     write_stream(alloc, output, reader.container(), reader.head(), &checked)?;
     if cost {
-        tell_costs(alloc, reader, checked, input, output)?;
+        let notes = tell_costs(alloc, reader, checked, input, output)?;
+        return Ok(notes);
     }
-    Ok(())
+    Ok(Notes::NONE)
 }

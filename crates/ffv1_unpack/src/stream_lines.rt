@@ -36,6 +36,7 @@ fn coder_type(coder: &Coder) -> u64
     ensures { result ≡ coder_type coder.now }
 {
     match coder {
+        Coder::Rice => 0,
         Coder::One => 1,
         Coder::Two(_) => 2,
     }

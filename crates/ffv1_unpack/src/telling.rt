@@ -6,14 +6,14 @@ ghost use Rattle.ffv1_range.specs.Counts.{saturated};
 ghost use Rattle.ffv1_record.specs.Accepted.{IsAccepted};
 ghost use Rattle.ffv1_files.specs.Places.{amount, container_of};
 ghost use Rattle.ffv1_unpack.specs.FrameLines.{frame_line, lines_from, place_text};
-ghost use Rattle.ffv1_unpack.specs.Located.{WritesLine};
-ghost use Rattle.ffv1_unpack.specs.Internal.Located.{LocatedAfter, StaysReached};
-ghost use Rattle.ffv1_unpack.specs.Located.{located_text};
-ghost use Rattle.ffv1_unpack.specs.Plays.{HasThen};
+ghost use Rattle.ffv1_unpack.specs.Located.{WritesLine, located_text};
+ghost use Rattle.ffv1_unpack.specs.Internal.Located.{EndsNoted, LocatedAfter, StaysReached};
+ghost use Rattle.ffv1_unpack.specs.Plays.{HasThen, has_more};
 ghost use Rattle.ffv1_unpack.specs.Internal.Plays.{PlaysMost};
 ghost use Rattle.ffv1_unpack.specs.Stream.{Frame, IsFrame, frame_payload};
 ghost use Rattle.ffv1_unpack.specs.Internal.Told.{FrameAnswers, IsToldFault, TellingStops};
 ghost use Rattle.ffv1_unpack.specs.Internal.Told.{WritesFrame};
+ghost use Rattle.std.specs.Prelude.{false, ℕ};
 
 use crate::frame_line::{FrameLine, put_cost, put_sizes, write_offset, write_place};
 use crate::passing::has_more;
@@ -147,16 +147,18 @@ fn tell_frame<R: ByteIn, W: ByteOut, A: Allocator>(
     ensures answer { FrameAnswers telling.kind telling.places.place telling.places.byte
         player.old.decoder.accepted number player.old.reader player.new.reader.place
         (passage R.remaining R.failures input.old input.new)
-        (passage W.contents W.failures output.old output.new) result }
+        (passage W.contents W.failures output.old output.new) player.new.notes result }
     ensures sound { OnOk result (player.new.reader.fault ≡ None) }
     ensures less { IfOk result (λ more. more ≡ true →
         amount player.new.reader.place < amount player.old.reader.place) }
     ensures reached { IfOk result (λ more. more ≡ true → StaysReached player.old.reader
         player.new.reader (passage R.remaining R.failures input.old input.new)) }
+    ensures noted { IfOk result (λ more. more ≡ false → EndsNoted player.old.reader
+        (passage R.remaining R.failures input.old input.new) player.new.notes) }
     ensures same { player.new.decoder.accepted ≡ player.old.decoder.accepted }
     ensures container { container_of player.new.reader.place
         ≡ container_of player.old.reader.place }
-    ensures own { IfErr result (IsToldFault (container_of player.old.reader.place)) }
+    ensures own { IfErr result (IsToldFault player.old.reader (R.remaining input.old)) }
 {
     codec_laws::answer::answer_is_ok_for_coded_pictures::<DropLines>();
     codec_laws::answer::answered_fault_is_of_decoding::<DropLines>();
@@ -171,8 +173,7 @@ fn tell_frame<R: ByteIn, W: ByteOut, A: Allocator>(
         }
         Err(Stop::File(fault)) => {
             let fault = Fault::from(fault);
-            let offset = player.reader.offset();
-            tell_byte(output, telling.places.byte, number, offset, fault);
+            tell_byte(output, telling.places.byte, number, player.offset, fault);
             Err(fault)
         }
         Err(Stop::Payload(fault)) => {
@@ -183,7 +184,8 @@ fn tell_frame<R: ByteIn, W: ByteOut, A: Allocator>(
 }
 
 /// Decodes the frames that are left, of a range whose first one comes next, and writes the line of
-/// each as soon as it is decoded. Answers how many there were, at most 2^64 - 1.
+/// each as soon as it is decoded. Answers how many there were, at most 2^64 - 1; what is noted of
+/// the end is in the player, if it was read.
 pub(crate) fn tell_frames<R: ByteIn, W: ByteOut, A: Allocator + Copy>(
     alloc: A,
     player: &mut Player<A>,
@@ -200,14 +202,18 @@ pub(crate) fn tell_frames<R: ByteIn, W: ByteOut, A: Allocator + Copy>(
         (HasThen player.old.reader.place)
         (lines_from telling.kind player.old.decoder.accepted.configuration range.first)
         (passage R.remaining R.failures input.old input.new)
-        (passage W.contents W.failures output.old output.new) range.count frames) }
+        (passage W.contents W.failures output.old output.new) player.new.notes range.count
+        frames) }
     ensures err { IfErr result (TellingStops (HasThen player.old.reader.place)
         telling.kind range telling.places.place player.old.decoder.accepted
         (passage R.remaining R.failures input.old input.new)
         (passage W.contents W.failures output.old output.new)
         (LocatedAfter player.old.reader (passage R.remaining R.failures input.old input.new))
         telling.places.byte) }
-    ensures own { IfErr result (IsToldFault (container_of player.old.reader.place)) }
+    ensures own { IfErr result (IsToldFault player.old.reader (R.remaining input.old)) }
+    ensures noted { IfOk result (λ n. (k : ℕ) → n ≡ saturated k → has_more range.count k ≡ true →
+        EndsNoted player.old.reader (passage R.remaining R.failures input.old input.new)
+        player.new.notes) }
 {
     let mut text = Vec::new(alloc);
     let mut count = 0u64;

@@ -1,27 +1,28 @@
 //! Unpacks the frames of a file into pictures.
 
-ghost use Rattle.std.specs.Prelude.{◌≡◌, ◌⊎◌, ℕ, IfErr, IfOk, IfSome, List, length, None};
+ghost use Rattle.std.specs.Prelude.{◌≡◌, ◌⊎◌, ℕ, IfErr, IfOk, IfSome, List, length, None, true};
 ghost use Rattle.ffv1_wire.specs.Passage.{passage};
 ghost use Rattle.ffv1_range.specs.Counts.{saturated};
-ghost use Rattle.ffv1_files.specs.Places.{container_of};
 ghost use Rattle.ffv1_record.specs.Accepted.{IsAccepted};
 ghost use Rattle.ffv1_record.specs.Configuration.{configuration_of, is_rct};
 ghost use Rattle.ffv1_unpack.specs.Internal.Opens.{OpensRange, OpensStream, stream_of};
 ghost use Rattle.ffv1_unpack.specs.Ranges.{PassStops};
-ghost use Rattle.ffv1_unpack.specs.Plays.{HasThen};
+ghost use Rattle.ffv1_unpack.specs.Plays.{HasThen, has_more};
 ghost use Rattle.ffv1_unpack.specs.Stream.{Frame};
-ghost use Rattle.ffv1_unpack.specs.Unpack.{IsUnpackFaultIn, LacksUnpacking};
+ghost use Rattle.ffv1_unpack.specs.Unpack.{IsUnpackFaultIn, LacksUnpacking, UnpackStops};
 ghost use Rattle.ffv1_unpack.specs.Internal.Unpack.{IsWritingFault};
 ghost use Rattle.ffv1_unpack.specs.Unpack.{UnpackDone, UnpackRangeDone, UnpackRangeStops};
-ghost use Rattle.ffv1_unpack.specs.Unpack.{UnpackStops};
 ghost use Rattle.ffv1_unpack.specs.Unpacked.{HasText, HasTextBy, LacksTextBy};
 ghost use Rattle.ffv1_unpack.specs.Unpacking.{UnpackingStops, UnpacksMost};
+ghost use Rattle.ffv1_unpack.specs.Internal.Located.{EndsNoted};
+ghost use Rattle.ffv1_video.specs.Profiles.{scope_in};
+ghost use Rattle.ffv1_unpack.specs.Located.{Stands};
 
 use crate::images_out::write_images;
-use crate::passing::pass_frames;
+use crate::passing::{notes_after, pass_frames};
 use crate::pictures_out::{text_head, write_pictures};
 use crate::player::{Player, open_stream, player_of};
-use ffv1_files::laws as files_laws;
+use ffv1_files::{Notes, laws as files_laws};
 use ffv1_reads::FileHead;
 use ffv1_record::{Checked, Colour};
 use ffv1_video::{Fault, Profile};
@@ -67,6 +68,8 @@ fn open_unpacking<R: ByteIn, A: Allocator + Copy>(
     ensures err { IfErr result (LacksUnpacking profile
         (passage R.remaining R.failures input.old input.new)) }
     ensures own { IfErr result (IsUnpackFaultIn profile) }
+    ensures located { IfOk result (λ p. Stands (scope_in profile) (R.remaining input.old)
+        (R.remaining input.new) p.reader) }
 {
     let (reader, checked) = open_stream(alloc, profile, input)?;
     check_text(reader.head(), &checked)?;
@@ -90,12 +93,15 @@ fn write_frames<R: ByteIn, W: ByteOut, A: Allocator + Copy>(
         × UnpacksMost (HasThen player.old.reader.place)
         (stream_of player.old.reader player.old.decoder.accepted)
         (passage R.remaining R.failures input.old input.new)
-        (passage W.contents W.failures output result.0) most frames) }
+        (passage W.contents W.failures output result.0) player.new.notes most frames) }
     ensures err { IfErr result.1 (UnpackingStops (HasThen player.old.reader.place)
         (stream_of player.old.reader player.old.decoder.accepted)
         (passage R.remaining R.failures input.old input.new)
         (passage W.contents W.failures output result.0)) }
-    ensures own { IfErr result.1 (IsWritingFault (container_of player.old.reader.place)) }
+    ensures own { IfErr result.1 (IsWritingFault player.old.reader (R.remaining input.old)) }
+    ensures noted { IfOk result.1 (λ n. (k : ℕ) → n ≡ saturated k → has_more most k ≡ true →
+        EndsNoted player.old.reader (passage R.remaining R.failures input.old input.new)
+        player.new.notes) }
 {
     match player.decoder.config().config().colour {
         Colour::YCbCr => {
@@ -126,15 +132,19 @@ fn write_frames<R: ByteIn, W: ByteOut, A: Allocator + Copy>(
 /// Matroska, with the faults that `MatroskaReader::open` and `MatroskaReader::next_frame` name in
 /// place of those of AVI. What is written then is the text of the frames before, and of an image
 /// the rows before the fault; after `Write` a beginning of the next picture or row, too.
+///
+/// After the last frame what stands behind the file is looked at, as `FileReader::look_behind`
+/// does: `Another` if another file begins there, after all pictures; else what it notes is answered
+/// beside the count.
 pub fn unpack<R: ByteIn, W: ByteOut, A: Allocator + Copy>(
     alloc: A,
     profile: Profile,
     input: &mut R,
     output: W,
-) -> (W, Result<u64, Fault>)
-    ensures ok { IfOk result.1 (UnpackDone profile
+) -> (W, Result<(u64, Notes), Fault>)
+    ensures ok { IfOk result.1 (λ told. UnpackDone profile
         (passage R.remaining R.failures input.old input.new)
-        (passage W.contents W.failures output result.0)) }
+        (passage W.contents W.failures output result.0) told.0 told.1) }
     ensures err { IfErr result.1 (UnpackStops profile
         (passage R.remaining R.failures input.old input.new)
         (passage W.contents W.failures output result.0)) }
@@ -161,6 +171,8 @@ fn open_unpacking_range<R: ByteIn, A: Allocator + Copy>(
         ⊎ ((passed : ℕ) × PassStops profile first
         (passage R.remaining R.failures input.old input.new) passed f)) }
     ensures own { IfErr result (IsUnpackFaultIn profile) }
+    ensures located { IfOk result (λ p. Stands (scope_in profile) (R.remaining input.old)
+        (R.remaining input.new) p.reader) }
 {
     let mut player = open_unpacking(alloc, profile, input)?;
     let mut passed = 0u64;
@@ -175,17 +187,18 @@ fn open_unpacking_range<R: ByteIn, A: Allocator + Copy>(
 /// there were, at most 2^64 - 1, and hands the writer back.
 ///
 /// The faults are those of `unpack`, as far as the file is read; `NoFrames` is also a file that has
-/// no frame of the range.
+/// no frame of the range. Nothing is noted if the end of the file is not read, as where there are
+/// as many frames as the range names.
 pub fn unpack_range<R: ByteIn, W: ByteOut, A: Allocator + Copy>(
     alloc: A,
     profile: Profile,
     input: &mut R,
     output: W,
     range: FrameRange,
-) -> (W, Result<u64, Fault>)
-    ensures ok { IfOk result.1 (UnpackRangeDone profile range
+) -> (W, Result<(u64, Notes), Fault>)
+    ensures ok { IfOk result.1 (λ told. UnpackRangeDone profile range
         (passage R.remaining R.failures input.old input.new)
-        (passage W.contents W.failures output result.0)) }
+        (passage W.contents W.failures output result.0) told.0 told.1) }
     ensures err { IfErr result.1 (UnpackRangeStops profile range
         (passage R.remaining R.failures input.old input.new)
         (passage W.contents W.failures output result.0)) }
@@ -197,7 +210,10 @@ pub fn unpack_range<R: ByteIn, W: ByteOut, A: Allocator + Copy>(
             let (output, answer) = write_frames(alloc, &mut player, input, output, range.count);
             match answer {
                 Ok(0) => (output, Err(Fault::NoFrames)),
-                Ok(count) => (output, Ok(count)),
+                Ok(count) => {
+                    let notes = notes_after(player.notes, range.count, count);
+                    (output, Ok((count, notes)))
+                }
                 Err(fault) => (output, Err(fault)),
             }
         }

@@ -6,7 +6,6 @@ ghost use Rattle.ffv1_record.specs.Accepted.{IsAccepted};
 ghost use Rattle.ffv1_record.specs.Configuration.{is_rct};
 ghost use Rattle.ffv1_files.specs.Items.{course_of};
 ghost use Rattle.ffv1_files.specs.Offsets.{Reached};
-ghost use Rattle.ffv1_files.specs.Places.{container_of};
 ghost use Rattle.ffv1_video.specs.Faults.{cause_of};
 ghost use Rattle.ffv1_video.specs.declared.fault.Fault.TheVariants as fault;
 ghost use Rattle.ffv1_video.specs.Profiles.{scope_in};
@@ -17,6 +16,7 @@ ghost use Rattle.ffv1_unpack.specs.Unpack.{IsUnpackFaultIn, LacksUnpacking};
 ghost use Rattle.ffv1_unpack.specs.UnpackAll.{AreSalvageCounts, SalvageStopsBy, SalvagesAll};
 ghost use Rattle.ffv1_unpack.specs.UnpackAll.{UnpackAllDone, UnpackAllStops};
 ghost use Rattle.ffv1_unpack.specs.Unpacked.{HasText};
+ghost use Rattle.ffv1_unpack.specs.Located.{Stands};
 
 use crate::judging::JudgedCounts;
 use crate::picture_out::TextOut;
@@ -25,6 +25,7 @@ use crate::player::{Player, open_player_located};
 use crate::salvaging::salvage_items;
 use crate::unpacking::check_text;
 use ffv1_codec::KeepLines;
+use ffv1_files::Notes;
 use ffv1_record::{Colour, laws as record_laws};
 use ffv1_video::{Fault, Profile};
 use ffv1_wire::{ByteIn, ByteOut};
@@ -40,6 +41,8 @@ fn open_whole<R: ByteIn, A: Allocator + Copy>(
     ensures ok { IfOk result (λ p. OpensStream profile p.reader p.decoder.accepted
         (passage R.remaining R.failures input.old input.new)) }
     ensures located { IfOk result (λ p. Reached (scope_in profile) (R.remaining input.old)
+        (R.remaining input.new) p.reader) }
+    ensures stands { IfOk result (λ p. Stands (scope_in profile) (R.remaining input.old)
         (R.remaining input.new) p.reader) }
     ensures text { IfOk result (λ p. HasText (stream_of p.reader p.decoder.accepted)) }
     ensures err { IfErr result (LacksUnpacking profile
@@ -78,7 +81,7 @@ fn salvage_text<R: ByteIn, L: ByteOut, W: ByteOut, A: Allocator + Copy>(
         (passage R.remaining R.failures input.old input.new)
         (passage L.contents L.failures lines.old lines.new)
         (passage W.contents W.failures output result.0) f (cause_of f)) }
-    ensures own { IfErr result.1 (IsWritingFault (container_of player.old.reader.place)) }
+    ensures own { IfErr result.1 (IsWritingFault player.old.reader (R.remaining input.old)) }
 {
     let checked = player.decoder.config();
     match KeepLines::new(alloc, checked) {
@@ -124,7 +127,7 @@ fn salvage_images<R: ByteIn, L: ByteOut, W: ByteOut, A: Allocator + Copy>(
         (passage R.remaining R.failures input.old input.new)
         (passage L.contents L.failures lines.old lines.new)
         (passage W.contents W.failures output result.0) f (cause_of f)) }
-    ensures own { IfErr result.1 (IsWritingFault (container_of player.old.reader.place)) }
+    ensures own { IfErr result.1 (IsWritingFault player.old.reader (R.remaining input.old)) }
 {
     record_laws::accepted_configuration_is_in_range();
     let checked = player.decoder.config();
@@ -163,7 +166,7 @@ fn salvage_file<R: ByteIn, L: ByteOut, W: ByteOut, A: Allocator + Copy>(
         (passage R.remaining R.failures input.old input.new)
         (passage L.contents L.failures lines.old lines.new)
         (passage W.contents W.failures output result.0) f (cause_of f)) }
-    ensures own { IfErr result.1 (IsWritingFault (container_of player.old.reader.place)) }
+    ensures own { IfErr result.1 (IsWritingFault player.old.reader (R.remaining input.old)) }
 {
     match player.decoder.config().config().colour {
         Colour::YCbCr => salvage_text(alloc, player, input, lines, output),
@@ -214,18 +217,19 @@ fn found(counts: JudgedCounts) -> Result<JudgedCounts, Fault>
 /// file up to its first frame, of its record, `NoY4mName` and `NoPpm`, and of the chunks of its
 /// frames, if it is an AVI (`EmptyFrame`, too); `NoFrames` at the end if there was neither a frame
 /// nor a fault; `Read`, `OutOfMemory` and `Write` as they come. After `Write` a beginning of the
-/// next line or of the next picture is written.
+/// next line or of the next picture is written. What stands behind the file is not looked at, and
+/// nothing is noted.
 pub fn unpack_all<R: ByteIn, L: ByteOut, W: ByteOut, A: Allocator + Copy>(
     alloc: A,
     profile: Profile,
     input: &mut R,
     lines: &mut L,
     output: W,
-) -> (W, Result<JudgedCounts, Fault>)
-    ensures ok { IfOk result.1 (UnpackAllDone profile
+) -> (W, Result<(JudgedCounts, Notes), Fault>)
+    ensures ok { IfOk result.1 (λ told. UnpackAllDone profile
         (passage R.remaining R.failures input.old input.new)
         (passage L.contents L.failures lines.old lines.new)
-        (passage W.contents W.failures output result.0)) }
+        (passage W.contents W.failures output result.0) told.0 told.1) }
     ensures err { IfErr result.1 (UnpackAllStops profile
         (passage R.remaining R.failures input.old input.new)
         (passage L.contents L.failures lines.old lines.new)
@@ -239,7 +243,7 @@ pub fn unpack_all<R: ByteIn, L: ByteOut, W: ByteOut, A: Allocator + Copy>(
             match answer {
                 Err(fault) => (output, Err(fault)),
                 Ok(counts) => match found(counts) {
-                    Ok(counts) => (output, Ok(counts)),
+                    Ok(counts) => (output, Ok((counts, Notes::NONE))),
                     Err(fault) => (output, Err(fault)),
                 },
             }

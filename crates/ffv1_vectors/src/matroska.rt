@@ -31,6 +31,7 @@ pub(crate) fn number_of(fault: FileFault) -> u32 {
         FileFault::Laced => 84,
         FileFault::Checksum => 85,
         FileFault::Rate => 86,
+        FileFault::Another => 88,
     }
 }
 
@@ -62,8 +63,17 @@ pub(crate) fn is_frame(field: &str, frame: &[u8]) -> Result<bool> {
     Ok(has_length && crc32(frame) == sum.parse::<u32>()?)
 }
 
+/// Whether what stands behind the Segment is refused with this fault, or by none if that is 0.
+fn is_end<R: ByteIn>(reader: &MatroskaReader, input: &mut R, fault: u32) -> bool {
+    match reader.look_behind(input) {
+        Ok(_) => fault == 0,
+        Err(met) => number_of(met) == fault,
+    }
+}
+
 /// Whether the frames of a file have the lengths and sums of the rest of a line, and then it has
-/// this fault, the second time too and with no frame, or ends if that is 0.
+/// this fault, the second time too and with no frame, or ends if that is 0, and what stands behind
+/// it is then looked at too.
 fn are_frames<R: ByteIn>(
     alloc: Global,
     fields: &mut SplitWhitespace<'_>,
@@ -78,7 +88,7 @@ fn are_frames<R: ByteIn>(
         }
     }
     match reader.next_frame(input, &mut frame) {
-        Ok(more) => Ok(!more && fault == 0),
+        Ok(more) => Ok(!more && is_end(reader, input, fault)),
         Err(met) => {
             let again = reader.next_frame(input, &mut frame) == Err(met);
             Ok(again && frame.is_empty() && number_of(met) == fault)

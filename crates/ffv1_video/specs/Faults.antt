@@ -57,6 +57,9 @@ of_codec codec_fault.SymbolTooLong = fault.SymbolTooLong
 of_codec codec_fault.Colour = fault.Colour
 of_codec codec_fault.Overread = fault.Overread
 of_codec codec_fault.Ending = fault.Ending
+of_codec codec_fault.BitsEnd = fault.BitsEnd
+of_codec codec_fault.BadCode = fault.BadCode
+of_codec codec_fault.Padding = fault.Padding
 of_codec codec_fault.NotKey = fault.NotKey
 of_codec codec_fault.Place = fault.Place
 of_codec codec_fault.SetIndex = fault.SetIndex
@@ -88,6 +91,7 @@ of_avi avi_fault.Encoded = fault.Encoded
 of_avi avi_fault.Laced = fault.Laced
 of_avi avi_fault.Checksum = fault.Checksum
 of_avi avi_fault.Rate = fault.Rate
+of_avi avi_fault.Another = fault.Another
 
 abbrev pub of_y4m : Y4mFault → Fault
 of_y4m y4m_fault.OutOfMemory = fault.OutOfMemory
@@ -129,9 +133,10 @@ is_file_fault fault.NoTracks = true
 is_file_fault fault.Encoded = true
 is_file_fault fault.Laced = true
 is_file_fault fault.Checksum = true
+is_file_fault fault.Another = true
 is_file_fault f = false
 
--- the faults that a file of Matroska alone has
+-- the faults that a file of Matroska has beside those of AVI
 abbrev pub is_matroska_fault : Fault → Bool
 is_matroska_fault fault.NotMatroska = true
 is_matroska_fault fault.BadElement = true
@@ -139,4 +144,5 @@ is_matroska_fault fault.NoTracks = true
 is_matroska_fault fault.Encoded = true
 is_matroska_fault fault.Laced = true
 is_matroska_fault fault.Checksum = true
+is_matroska_fault fault.Another = true
 is_matroska_fault f = false

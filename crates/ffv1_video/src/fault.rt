@@ -71,7 +71,7 @@ pub enum Fault {
     /// The micro version is not 4.
     #[error("18 MicroVersion")]
     MicroVersion,
-    /// The coder type is not 1 or 2.
+    /// The coder type is not 1 or 2; at `Wide` also not 0, or 0 of samples of more than 8 bits.
     #[error("19 Coder")]
     Coder,
     /// The colour space type is not 0 or 1.
@@ -93,6 +93,15 @@ pub enum Fault {
     /// There is a plane of transparency, but no chroma planes.
     #[error("25 ExtraPlane")]
     ExtraPlane,
+    /// The bits of a slice of Golomb-Rice coded samples end within a sample.
+    #[error("27 BitsEnd")]
+    BitsEnd,
+    /// They are those of nothing that can stand at a sample.
+    #[error("28 BadCode")]
+    BadCode,
+    /// Something other than zeros up to a byte stands behind the last of them.
+    #[error("29 Padding")]
+    Padding,
     /// The keyframe of a frame is 0.
     #[error("30 NotKey")]
     NotKey,
@@ -217,6 +226,9 @@ pub enum Fault {
     /// A frame that was coded does not decode to its picture.
     #[error("87 NotSame")]
     NotSame,
+    /// Another file stands behind the end of this one.
+    #[error("88 Another")]
+    Another,
 }
 
 impl Fault {
@@ -236,7 +248,8 @@ impl Fault {
             | Fault::NoTracks
             | Fault::Encoded
             | Fault::Laced
-            | Fault::Checksum => true,
+            | Fault::Checksum
+            | Fault::Another => true,
             _ => false,
         }
     }
@@ -309,6 +322,9 @@ impl From<ffv1_frame::CodecFault> for Fault {
             ffv1_frame::CodecFault::Colour => Fault::Colour,
             ffv1_frame::CodecFault::Overread => Fault::Overread,
             ffv1_frame::CodecFault::Ending => Fault::Ending,
+            ffv1_frame::CodecFault::BitsEnd => Fault::BitsEnd,
+            ffv1_frame::CodecFault::BadCode => Fault::BadCode,
+            ffv1_frame::CodecFault::Padding => Fault::Padding,
             ffv1_frame::CodecFault::NotKey => Fault::NotKey,
             ffv1_frame::CodecFault::Place => Fault::Place,
             ffv1_frame::CodecFault::SetIndex => Fault::SetIndex,
@@ -347,6 +363,7 @@ impl From<FileFault> for Fault {
             FileFault::Laced => Fault::Laced,
             FileFault::Checksum => Fault::Checksum,
             FileFault::Rate => Fault::Rate,
+            FileFault::Another => Fault::Another,
         }
     }
 }

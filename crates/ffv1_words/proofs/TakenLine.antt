@@ -197,7 +197,11 @@ module _ (lists : OptionWords) (are : AreOptionWords lists) where
       let no_clobber = flag_named (rows_after unpack.rules [] rest) (codes "no-clobber") kept.text kept.is kept.passes in
       let told = value_left unpack rest (rule_at unpack 6) refl refl (inr (inr (inr (inr (inr (inr (inl refl))))))) refl e in
       let progress = flag_named (rows_after unpack.rules [] rest) (codes "progress") told.text told.is told.passes in
-      (order.Unpack (path input.text) (path output.text) no_clobber.0 progress.0 range.0 all.0, (refl, input.is, output.is, no_clobber.1, progress.1, range.1, all.1))
+      let noting = value_left unpack rest (rule_at unpack 7) refl refl (inr (inr (inr (inr (inr (inr (inr (inl refl)))))))) refl e in
+      let noted = flag_named (rows_after unpack.rules [] rest) (codes "notes-as-faults") noting.text noting.is noting.passes in (
+        order.Unpack (path input.text) (path output.text) no_clobber.0 progress.0 range.0 all.0 noted.0,
+        (refl, input.is, output.is, no_clobber.1, progress.1, range.1, all.1, noted.1),
+      )
 
   abbrev check : Shape
   check = command 2
@@ -217,9 +221,11 @@ module _ (lists : OptionWords) (are : AreOptionWords lists) where
       let range = frames_named check rest refl refl (inr (inr (inr (inr (inr (inr (inl refl))))))) (inr (inr (inr (inr (inr (inr (inr (inl refl)))))))) e in
       let told = value_left check rest (rule_at check 8) refl refl (inr (inr (inr (inr (inr (inr (inr (inr (inl refl))))))))) refl e in
       let progress = flag_named (rows_after check.rules [] rest) (codes "progress") told.text told.is told.passes in
+      let noting = value_left check rest (rule_at check 9) refl refl (inr (inr (inr (inr (inr (inr (inr (inr (inr (inl refl)))))))))) refl e in
+      let noted = flag_named (rows_after check.rules [] rest) (codes "notes-as-faults") noting.text noting.is noting.passes in
       let list = first_of (codes "against") (rows_after check.rules [] rest) in (
-        order.Check (paths input.texts) all.0 flag.0 quiet.0 json.0 progress.0 (option_map path list) range.0,
-        (refl, input.all ∙ ap Some (texts_of input.texts), all.1, flag.1, quiet.1, json.1, progress.1, text_of list, range.1),
+        order.Check (paths input.texts) all.0 flag.0 quiet.0 json.0 progress.0 (option_map path list) range.0 noted.0,
+        (refl, input.all ∙ ap Some (texts_of input.texts), all.1, flag.1, quiet.1, json.1, progress.1, text_of list, range.1, noted.1),
       )
 
   abbrev show : Shape
@@ -254,7 +260,9 @@ module _ (lists : OptionWords) (are : AreOptionWords lists) where
   framemd5_named rest e =
       let input = value_left framemd5 rest (rule_at framemd5 0) refl refl (inl refl) refl e in
       let range = frames_named framemd5 rest refl refl (inr (inl refl)) (inr (inr (inl refl))) e in
-      (order.FrameMd5 (paths input.texts) range.0, (refl, input.all ∙ ap Some (texts_of input.texts), range.1))
+      let noting = value_left framemd5 rest (rule_at framemd5 3) refl refl (inr (inr (inr (inl refl)))) refl e in
+      let noted = flag_named (rows_after framemd5.rules [] rest) (codes "notes-as-faults") noting.text noting.is noting.passes in
+      (order.FrameMd5 (paths input.texts) range.0 noted.0, (refl, input.all ∙ ap Some (texts_of input.texts), range.1, noted.1))
 
   abbrev trial : Shape
   trial = command 6

@@ -94,6 +94,10 @@ with_verify a = with_rule a (flag_rule (codes "verify"))
 abbrev pub with_progress : App → App
 with_progress a = with_rule a (flag_rule (codes "progress"))
 
+-- a note of a file is a fault
+abbrev pub with_notes : App → App
+with_notes a = with_rule a (flag_rule (codes "notes-as-faults"))
+
 -- a file that is there is refused as OUT
 abbrev pub with_no_clobber : App → App
 with_no_clobber a = with_rule a (flag_rule (codes "no-clobber"))
@@ -119,17 +123,17 @@ pack_app words =
     (with_pace (with_slices (with_model words.contexts (two_files (codes "pack"))))))))))
 
 abbrev pub unpack_app : App
-unpack_app = with_progress (with_no_clobber (with_range
-    (with_rule (two_files (codes "unpack")) (flag_rule (codes "all")))))
+unpack_app = with_notes (with_progress (with_no_clobber (with_range
+    (with_rule (two_files (codes "unpack")) (flag_rule (codes "all"))))))
 
 abbrev pub check_app : App
-check_app = with_progress (with_range
+check_app = with_notes (with_progress (with_range
     (with_rule (with_rule (with_rule (with_rule (with_rule (some_files (codes "check"))
     (flag_rule (codes "all"))) (flag_rule (codes "place"))) (flag_rule (codes "quiet")))
-    (flag_rule (codes "json"))) (path_rule (codes "against"))))
+    (flag_rule (codes "json"))) (path_rule (codes "against")))))
 
 abbrev pub framemd5_app : App
-framemd5_app = with_range (some_files (codes "framemd5"))
+framemd5_app = with_notes (with_range (some_files (codes "framemd5")))
 
 abbrev pub show_app : App
 show_app = with_rule (some_files (codes "show")) (flag_rule (codes "cost"))

@@ -150,23 +150,25 @@ Names (order.Pack i w c holder no_clobber progress) (Some p) = (p.0 ≡ codes "p
     × NamesFile p.1 (codes "IN") i.now × NamesFile p.1 (codes "OUT") w.now × NamesChoice p.1 c
     × (first_of (codes "container") p.1 ≡ Some (container_word holder))
     × NamesFlag p.1 (codes "no-clobber") no_clobber × NamesFlag p.1 (codes "progress") progress
-Names (order.Unpack i w no_clobber progress range all) (Some p) = (p.0 ≡ codes "unpack")
+Names (order.Unpack i w no_clobber progress range all noted) (Some p) = (p.0 ≡ codes "unpack")
     × NamesFile p.1 (codes "IN") i.now × NamesFile p.1 (codes "OUT") w.now
     × NamesFlag p.1 (codes "no-clobber") no_clobber × NamesFlag p.1 (codes "progress") progress
     × NamesRange p.1 range × NamesFlag p.1 (codes "all") all
-Names (order.Check is all place quiet json progress against range) (Some p) =
+    × NamesFlag p.1 (codes "notes-as-faults") noted
+Names (order.Check is all place quiet json progress against range noted) (Some p) =
     (p.0 ≡ codes "check") × NamesFiles p.1 (codes "IN") (map (λ i. i.now) is.now)
     × NamesFlag p.1 (codes "all") all × NamesFlag p.1 (codes "place") place
     × NamesFlag p.1 (codes "quiet") quiet × NamesFlag p.1 (codes "json") json
     × NamesFlag p.1 (codes "progress") progress × NamesList p.1 (codes "against") against
-    × NamesRange p.1 range
+    × NamesRange p.1 range × NamesFlag p.1 (codes "notes-as-faults") noted
 Names (order.Show is cost) (Some p) = (p.0 ≡ codes "show")
     × NamesFiles p.1 (codes "IN") (map (λ i. i.now) is.now) × NamesFlag p.1 (codes "cost") cost
 Names (order.Info is count json) (Some p) = (p.0 ≡ codes "info")
     × NamesFiles p.1 (codes "IN") (map (λ i. i.now) is.now)
     × NamesFlag p.1 (codes "count") count × NamesFlag p.1 (codes "json") json
-Names (order.FrameMd5 is range) (Some p) = (p.0 ≡ codes "framemd5")
+Names (order.FrameMd5 is range noted) (Some p) = (p.0 ≡ codes "framemd5")
     × NamesFiles p.1 (codes "IN") (map (λ i. i.now) is.now) × NamesRange p.1 range
+    × NamesFlag p.1 (codes "notes-as-faults") noted
 Names (order.Trial i) (Some p) = (p.0 ≡ codes "trial") × NamesFile p.1 (codes "IN") i.now
 
 -- no order is
@@ -272,15 +274,15 @@ abbrev pub is_in_conflict : Order → Bool
 is_in_conflict (order.Pack i w c holder no_clobber progress) =
     is_conflict i.now w.now || (is_misnamed holder w.now
     || (lacks_codec_id c holder w.now || lacks_colour c holder w.now))
-is_in_conflict (order.Unpack i w no_clobber progress range all) =
+is_in_conflict (order.Unpack i w no_clobber progress range all noted) =
     is_conflict i.now w.now || (all && leaves_out range)
-is_in_conflict (order.Check is all place quiet json progress against range) =
+is_in_conflict (order.Check is all place quiet json progress against range noted) =
     are_in_conflict (map (λ i. i.now) is.now)
     || (is_range_in_conflict range against (map (λ i. i.now) is.now)
     || is_list_in_conflict against all place (map (λ i. i.now) is.now))
 is_in_conflict (order.Show is cost) = are_in_conflict (map (λ i. i.now) is.now)
 is_in_conflict (order.Info is count json) = are_in_conflict (map (λ i. i.now) is.now)
-is_in_conflict (order.FrameMd5 is range) = are_in_conflict (map (λ i. i.now) is.now)
+is_in_conflict (order.FrameMd5 is range noted) = are_in_conflict (map (λ i. i.now) is.now)
     || is_range_in_conflict range None (map (λ i. i.now) is.now)
 is_in_conflict (order.Trial i) = false
 

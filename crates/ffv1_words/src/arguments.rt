@@ -115,3 +115,12 @@ pub(crate) fn progress_arg<'a>(alloc: Global) -> Arg<'a>
     let help = "Say on standard error, once a second, how much of IN is read";
     flag_arg(alloc, "progress", help)
 }
+
+/// Whether a note of a file is a fault.
+pub(crate) fn notes_arg<'a>(alloc: Global) -> Arg<'a>
+    ensures rule { rule_of result ≡ flag_rule (codes "notes-as-faults") }
+    ensures own { result.global ≡ false }
+{
+    let help = "End with status 1 if anything is noted of a file";
+    flag_arg(alloc, "notes-as-faults", help)
+}

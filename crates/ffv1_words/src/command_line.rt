@@ -17,8 +17,8 @@ ghost use Rattle.ffv1_words.specs.CommandLine.{OnLine};
 ghost use Rattle.ffv1_words.specs.Order.{IsOrder, IsRefused, IsRefusedIfTaken, is_in_conflict};
 
 use crate::arguments::{
-    contexts_arg, count_arg, file_arg, files_arg, flag_arg, number_arg, path_arg, progress_arg,
-    word_arg,
+    contexts_arg, count_arg, file_arg, files_arg, flag_arg, notes_arg, number_arg, path_arg,
+    progress_arg, word_arg,
 };
 use crate::matched::{order_of, paths};
 use crate::order::Order;
@@ -264,7 +264,8 @@ fn unpack_command<'a>(alloc: Global) -> Result<Command<'a>, AllocError>
     let command = two_files_command(alloc, "unpack", about, CODED_FILE, output)?;
     let command = command.arg(flag_arg(alloc, "all", all))?;
     let command = add_range(alloc, command)?;
-    add_making(alloc, command)
+    let command = add_making(alloc, command)?;
+    command.arg(notes_arg(alloc))
 }
 
 fn check_command<'a>(alloc: Global) -> Result<Command<'a>, AllocError>
@@ -284,7 +285,8 @@ fn check_command<'a>(alloc: Global) -> Result<Command<'a>, AllocError>
         .arg(flag_arg(alloc, "json", json))?
         .arg(path_arg(alloc, "against", against))?;
     let command = add_range(alloc, command)?;
-    command.arg(progress_arg(alloc))
+    let command = command.arg(progress_arg(alloc))?;
+    command.arg(notes_arg(alloc))
 }
 
 fn show_command<'a>(alloc: Global) -> Result<Command<'a>, AllocError>
@@ -314,7 +316,8 @@ fn framemd5_command<'a>(alloc: Global) -> Result<Command<'a>, AllocError>
 {
     let about = "Write the MD5 of each picture of files, as FFmpeg's framemd5 does";
     let command = some_files_command(alloc, "framemd5", about, PICTURE_FILES)?;
-    add_range(alloc, command)
+    let command = add_range(alloc, command)?;
+    command.arg(notes_arg(alloc))
 }
 
 fn trial_command<'a>(alloc: Global) -> Result<Command<'a>, AllocError>

@@ -14,6 +14,7 @@
 
 mod arguments;
 mod command_line;
+mod conflicts;
 mod matched;
 mod order;
 mod topic;

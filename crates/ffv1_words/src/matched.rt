@@ -338,6 +338,7 @@ fn unpack_order<'a>(rows: &ArgMatches<'a>) -> Option<Order<'a>>
     let no_clobber = flag(rows, "no-clobber")?;
     let progress = flag(rows, "progress")?;
     let all = flag(rows, "all")?;
+    let notes_as_faults = flag(rows, "notes-as-faults")?;
     let range = range_of_frames(rows)?;
     Some(Order::Unpack {
         input,
@@ -346,6 +347,7 @@ fn unpack_order<'a>(rows: &ArgMatches<'a>) -> Option<Order<'a>>
         progress,
         range,
         all,
+        notes_as_faults,
     })
 }
 
@@ -361,6 +363,7 @@ fn check_order<'a>(rows: &ArgMatches<'a>, inputs: Option<&'a [&'a str]>) -> Opti
     let quiet = flag(rows, "quiet")?;
     let json = flag(rows, "json")?;
     let progress = flag(rows, "progress")?;
+    let notes_as_faults = flag(rows, "notes-as-faults")?;
     let range = range_of_frames(rows)?;
     Some(Order::Check {
         inputs,
@@ -371,6 +374,7 @@ fn check_order<'a>(rows: &ArgMatches<'a>, inputs: Option<&'a [&'a str]>) -> Opti
         progress,
         against: path(rows, "against"),
         range,
+        notes_as_faults,
     })
 }
 
@@ -409,8 +413,13 @@ fn framemd5_order<'a>(rows: &ArgMatches<'a>, inputs: Option<&'a [&'a str]>) -> O
         NamesNone (Some (codes "framemd5", rows_of (found_of rows.now))) }
 {
     let inputs = inputs?;
+    let notes_as_faults = flag(rows, "notes-as-faults")?;
     let range = range_of_frames(rows)?;
-    Some(Order::FrameMd5 { inputs, range })
+    Some(Order::FrameMd5 {
+        inputs,
+        range,
+        notes_as_faults,
+    })
 }
 
 fn trial_order<'a>(rows: &ArgMatches<'a>) -> Option<Order<'a>>

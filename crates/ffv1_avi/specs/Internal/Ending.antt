@@ -1,5 +1,6 @@
 -- Calls that may come to the end of the input if there is nothing more.
-use Rattle.std.specs.Prelude.{◌≡◌, ◌⊎◌, ℕ, List, [], ◌∷◌, Option, Some, None, Result, Ok, Err}
+use Rattle.std.specs.Prelude.{◌≡◌, ◌⊎◌, ℕ, List, Option, Some, None, Result, Ok, Err}
+use Rattle.std.specs.Prelude.{if◌then◌else◌, nat_lt}
 use Rattle.std.specs.Io.KnownBytes.{IsAtEnd}
 use Rattle.ffv1_wire.specs.Failures.{one_more}
 use Rattle.ffv1_wire.specs.Passage.{Passage}
@@ -38,7 +39,6 @@ AnswersOrNone extent view reading p (Ok y) =
 AnswersOrNone extent view reading p (Err f) =
     RefusedOrNone extent reading p.old p.new p.before p.after f
 
--- the next byte, or none at the end of the input
-unfoldable pub byte_or_end : Reading (Option ℕ)
-byte_or_end [] = Ok (None, [])
-byte_or_end (b ∷ bs) = Ok (Some b, bs)
+-- the bytes that were asked for, so many, if as many stand there
+abbrev pub all_of : ℕ → ℕ → List ℕ → Option (List ℕ)
+all_of size n bytes = if nat_lt n size then None else Some bytes

@@ -7,8 +7,10 @@ use Rattle.ffv1_reads.specs.Reads.{Read}
 use Rattle.ffv1_reads.specs.declared.fault.FileFault.{FileFault}
 use Rattle.ffv1_avi.specs.declared.chunk.Entry.{Entry}
 use Rattle.ffv1_avi.specs.declared.place.Extent.{Extent}
+use Rattle.ffv1_avi.specs.declared.place.Extent.TheVariants.{FirstMovi, EveryRiff}
 use Rattle.ffv1_avi.specs.declared.place.Place.{Place}
 use Rattle.ffv1_avi.specs.declared.stream.Sizes.{Sizes}
+use Rattle.ffv1_avi.specs.Behind.{EndsBehind}
 use Rattle.ffv1_avi.specs.Files.{no_headers, visit_movi}
 use Rattle.ffv1_avi.specs.Internal.Views.{head_with}
 use Rattle.ffv1_avi.specs.Places.{frame_at, movi_at}
@@ -48,6 +50,13 @@ abbrev pub MovesTo : Place → Passage → Result (Option Place) FileFault → �
 MovesTo place p (Ok None) before after = ⊤
 MovesTo place p (Ok (Some next)) before after = ReadsUpTo place p.old p.new next before after
 MovesTo place p (Err f) before after = StopsAt place p f before after
+
+-- what a call that came to the end tells of bytes behind it; nothing if the first movi alone is
+-- read
+abbrev pub TellsBehind : Extent → Place → Option (List ℕ) → Option (List ℕ) → ℕ → Option ℕ →
+    Type 0
+TellsBehind FirstMovi from old new before after = after ≡ None
+TellsBehind EveryRiff from old new before after = EndsBehind from old new before after
 
 -- up to the chunk of the next frame
 abbrev pub FindsFrom : Place → Passage → Result (Option (ℕ × Place)) FileFault → ℕ → ℕ → Type 0

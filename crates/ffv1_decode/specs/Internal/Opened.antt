@@ -1,6 +1,6 @@
 -- What the start, the key and the head of a slice leave of its decoder.
-use Rattle.std.specs.Prelude.{◌≡◌, ◌⊎◌, ℕ, ◌*◌, ◌<◌, ◌≤◌, Option, Some, List, [], ◌++◌, length}
-use Rattle.std.specs.Prelude.{replicate, map, slice_index}
+use Rattle.std.specs.Prelude.{◌≡◌, ◌⊎◌, ℕ, ◌*◌, ◌<◌, ◌≤◌, Option, Some, None, List}
+use Rattle.std.specs.Prelude.{[], ◌++◌, length, replicate, map, slice_index}
 use Rattle.std.proofs.Common.{suc}
 use Rattle.std.specs.List.{range_with_len}
 use Rattle.ffv1_range.specs.Reading.{Reading, At}
@@ -69,6 +69,8 @@ pub record ColumnOpened (a : Accepted) (coded : ℕ → List ℕ) (payload : Lis
   pub indexes : column.indexes ≡ head.indexes
   pub stands : (slots : ℕ) → Stands (coded n) a.table 33 column.parked (replicate slots 128)
       (key_steps n ++ head_steps a.configuration n head)
+  pub bits : column.bits ≡ None
+  pub index : column.index ≡ 0
 
 -- or was refused
 pub record ColumnRefused (a : Accepted) (coded : ℕ → List ℕ) (n : ℕ) (column : Column)
@@ -86,6 +88,8 @@ pub record IsOpened (a : Accepted) (coded : ℕ → List ℕ) (payload : List �
   pub indexes : column.indexes ≡ head.indexes
   pub stands : (slots : ℕ) → Stands (coded (slice_number a.configuration r k)) a.table 33
       column.parked (replicate slots 128) (slice_at s k).past
+  pub bits : column.bits ≡ None
+  pub index : column.index ≡ 0
 
 -- the columns of a row, and what the first slice said
 pub record RowHeads : Type 0 where

@@ -1,7 +1,6 @@
 -- What is asked of a row of slices while it is decoded: of its slices, of planes that are coded
 -- together, of a line of these, and of the segment of a line that lies in one slice.
 use Rattle.std.specs.Prelude.{◌≡◌, ℕ, ◌+◌, ◌-◌, ◌*◌, ◌<◌, ◌≤◌, length}
-use Rattle.ffv1_range.specs.Symbols.{AllHeld}
 use Rattle.ffv1_record.specs.Configuration.{Configuration}
 use Rattle.ffv1_slice.specs.Grid.{division_of, down, shared_of}
 use Rattle.ffv1_frame.specs.Order.{lines_down}
@@ -11,6 +10,7 @@ use Rattle.ffv1_decode.specs.declared.parts.Frame.{Frame}
 use Rattle.ffv1_decode.specs.declared.parts.CodedLine.{CodedLine}
 use Rattle.ffv1_decode.specs.declared.parts.Segment.{Segment}
 use Rattle.ffv1_decode.specs.Internal.Finished.{IsTogether}
+use Rattle.ffv1_decode.specs.Internal.LeftBits.{AreKept}
 use Rattle.ffv1_decode.specs.Internal.Shared.{KeepsChroma}
 use Rattle.ffv1_decode.specs.Internal.Tied.{IsFrame, AreOpen, RowSlices, row_slices, row_slots}
 use Rattle.ffv1_decode.specs.Internal.Tied.{line_length}
@@ -26,7 +26,7 @@ pub record IsRow {A : Type 0} (f : Frame A) (r : ℕ) (slices : RowSlices) : Typ
   pub many : length slices.columns ≡ f.checked.now.configuration.columns
   pub opened : AreOpen f.payload.now f.checked.now.configuration.sets slices.columns
   pub room : length slices.states ≡ row_slots f.checked.now.configuration
-  pub held : AllHeld f.checked.now.table slices.states
+  pub held : AreKept f.checked.now slices.states
 
 -- so many planes from the first on are coded together
 pub record ArePlanes (c : Configuration) (first count : ℕ) : Type 0 where

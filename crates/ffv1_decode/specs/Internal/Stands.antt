@@ -15,14 +15,19 @@ use Rattle.ffv1_line.specs.Row.{row_steps}
 use Rattle.ffv1_line.specs.Coded.{CodesRow, RefusesRow, refused_row_steps}
 use Rattle.ffv1_line.specs.Coding.{RowCoding}
 
--- the parked decoder, and the states of the slots from base on, are those after past
-pub record Stands (bytes : List ℕ) (t : Table) (base : ℕ) (parked : Option Pause)
-    (states : List ℕ) (past : List Step) : Type 0 where
+-- the parked decoder is where it is after past
+pub record IsParked (bytes : List ℕ) (t : Table) (parked : Option Pause) (past : List Step)
+    : Type 0 where
   pub pause : Pause
   pub is : parked ≡ Some pause
   pub at : At (resumed pause bytes) (interval_of (decisions_after t [] past))
-  pub has : HasStates t states base past
   pub counted : Counted uncounted past pause.counts
+
+-- and so are the states of the slots from base on
+pub record Stands (bytes : List ℕ) (t : Table) (base : ℕ) (parked : Option Pause)
+    (states : List ℕ) (past : List Step) : Type 0 where
+  pub decoder : IsParked bytes t parked past
+  pub has : HasStates t states base past
 
 -- what a parked decoder tells of its decisions
 abbrev pub told_by : Option Pause → Tally

@@ -1,12 +1,13 @@
 -- What ties the columns, states and lines of a decoder to what is known between two events.
-use Rattle.std.specs.Prelude.{◌≡◌, ◌≢◌, ℕ, ◌+◌, ◌-◌, ◌*◌, ◌^◌, ◌<◌, ◌≤◌, IsSome, None, List}
+use Rattle.std.specs.Prelude.{◌≡◌, ◌≢◌, ℕ, ◌+◌, ◌-◌, ◌*◌, ◌^◌, ◌<◌, ◌≤◌, IsSome, Some, None, List}
 use Rattle.std.specs.Prelude.{◌⊎◌, [], ◌++◌, IsFalse, length, slice_index, slice_index_or}
 use Rattle.std.proofs.Common.{suc}
 use Rattle.std.specs.List.{flat_map, range_with_len}
 use Rattle.ffv1_range.specs.Table.{Table}
+use Rattle.ffv1_range.specs.History.{HasStates}
 use Rattle.ffv1_plane.specs.Quantisation.{Set}
 use Rattle.ffv1_record.specs.Configuration.{Configuration}
-use Rattle.ffv1_record.specs.Accepted.{Accepted, IsAccepted}
+use Rattle.ffv1_record.specs.Accepted.{Accepted, IsAccepted, is_rice}
 use Rattle.ffv1_record.specs.Held.{classes_of, planes_of}
 use Rattle.ffv1_record.specs.Sets.{most_contexts}
 use Rattle.ffv1_slice.specs.Grid.{division_of, across, down, shared_of}
@@ -16,16 +17,18 @@ use Rattle.ffv1_decode.specs.declared.parts.Frame.{Frame}
 use Rattle.ffv1_frame.specs.declared.fault.CodecFault.TheVariants as fault
 use Rattle.ffv1_frame.specs.declared.fault.FrameFault.{FrameFault}
 use Rattle.ffv1_frame.specs.Overread.{IsWithin, IsOverread}
-use Rattle.ffv1_frame.specs.Ending.{HasEnding, LacksEnding}
+use Rattle.ffv1_frame.specs.Ending.{SliceEnds, SliceGoesOn}
+use Rattle.ffv1_frame.specs.RiceLines.{ByCoder}
 use Rattle.ffv1_frame.specs.Picture.{plane, plane_count, plane_width, width_bytes}
 use Rattle.ffv1_frame.specs.SliceList.{bits_of}
 use Rattle.ffv1_frame.specs.Runs.{Runs, Stops}
 use Rattle.ffv1_frame.specs.Order.{Event, IsLastLine, column_events, lines_down}
 use Rattle.ffv1_frame.specs.Order.Event.{Read}
 use Rattle.ffv1_frame.specs.Decoding.{State, Slice, StepsBy, FaultsWith, slice_at, slice_number}
-use Rattle.ffv1_frame.specs.Decoding.{fault_in, left_of, width_in, above_sample}
+use Rattle.ffv1_frame.specs.Decoding.{ending_fault, fault_in, left_of, width_in, above_sample}
 use Rattle.ffv1_frame.specs.Decoding.{SaidBefore, Agrees}
-use Rattle.ffv1_decode.specs.Internal.Stands.{Stands, told_by, tally_after}
+use Rattle.ffv1_decode.specs.Internal.Stands.{IsParked, told_by, tally_after}
+use Rattle.ffv1_decode.specs.Internal.LeftBits.{KeepsBits}
 use Rattle.ffv1_frame.specs.Windows.{window}
 use Rattle.ffv1_line.specs.declared.cell.rows.RollingRows.{RollingRows}
 
@@ -58,7 +61,8 @@ pub record IsFrame {A : Type 0} (f : Frame A) : Type 0 where
   pub accepted : IsAccepted f.checked.now.configuration f.checked.now.table
 
 abbrev pub no_column : Column
-no_column = record { parked = None; first = 0; last = 0; indexes = [] }
+no_column =
+    record { parked = None; bits = None; index = 0; first = 0; last = 0; indexes = [] }
 
 abbrev pub column_at : List Column → ℕ → Column
 column_at columns k = slice_index_or columns k no_column
@@ -73,6 +77,8 @@ pub record IsOpen (payload : List ℕ) (sets : List Set) (q : Column) : Type 0 w
   pub rises : q.first ≤ q.last
   pub inside : q.last ≤ length payload
   pub index : (class : ℕ) → class < 3 → slice_index q.indexes class < length sets
+  pub left : (n : ℕ) → q.bits ≡ Some n → n ≤ 8 * (q.last - q.first)
+  pub run : q.index ≤ 32
 
 abbrev pub AreOpen : List ℕ → List Set → List Column → Type 0
 AreOpen payload sets columns =
@@ -86,7 +92,9 @@ pub record TiedColumn (a : Accepted) (bytes payload : List ℕ) (next : ℕ) (co
   pub cells : length q.cells ≡ plane_count a.configuration
   pub small : (p i : ℕ) → slice_index (plane q.cells p) i < 2 ^ bits_of a.configuration
   pub begun : (p : ℕ) → next ≤ p → plane q.cells p ≡ []
-  pub stands : Stands bytes a.table 33 column.parked states q.past
+  pub stands : IsParked bytes a.table column.parked q.past
+  pub kept : ByCoder (is_rice a.configuration.coder) (HasStates a.table states 33 q.past)
+      (KeepsBits a bytes column states q)
 
 -- the columns of a row, and their states, one column's after the other's
 pub record RowSlices : Type 0 where
@@ -183,7 +191,7 @@ overread_in c r k p y = fault_in c fault.Overread r k p y 0
 
 -- the fault of a slice that does not end after the last line of its cells
 abbrev pub unended_in : Configuration → ℕ → ℕ → ℕ → ℕ → FrameFault
-unended_in c r k p y = fault_in c fault.Ending r k p y 0
+unended_in c r k p y = fault_in c (ending_fault (is_rice c.coder)) r k p y 0
 
 -- the fault of a sample of which a slice before says another value
 abbrev pub overlap_in : Configuration → ℕ → ℕ → ℕ → ℕ → ℕ → FrameFault
@@ -200,14 +208,16 @@ module _ (a : Accepted) (coded : ℕ → List ℕ) (r next : ℕ) (payload : Lis
     pub row_is : part_of a.configuration p offset k cur ≡ row
     pub step : IsWithin a (coded (slice_number a.configuration r k)) (slice_at state k).past →
         (IsLastLine a.configuration r p y →
-        HasEnding a (coded (slice_number a.configuration r k)) (slice_at state k).past) →
+        SliceEnds a (coded (slice_number a.configuration r k)) (slice_at state k).past
+        (slice_at state k).bits) →
         Agrees a.configuration s r k p y (width_in a.configuration p k) row →
         StepsBy a coded s (Read r k p y) state
     pub fault : IsOverread a (coded (slice_number a.configuration r k)) (slice_at state k).past →
         FaultsWith a coded s (Read r k p y) (overread_in a.configuration r k p y) state
     pub unended : IsWithin a (coded (slice_number a.configuration r k)) (slice_at state k).past →
         IsLastLine a.configuration r p y →
-        LacksEnding a (coded (slice_number a.configuration r k)) (slice_at state k).past →
+        SliceGoesOn a (coded (slice_number a.configuration r k)) (slice_at state k).past
+        (slice_at state k).bits →
         Agrees a.configuration s r k p y (width_in a.configuration p k) row →
         FaultsWith a coded s (Read r k p y) (unended_in a.configuration r k p y) state
     pub differs : IsWithin a (coded (slice_number a.configuration r k)) (slice_at state k).past →

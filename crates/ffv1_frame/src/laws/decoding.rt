@@ -1,7 +1,7 @@
 //! Laws of decoding, each the contract of a function that does nothing.
 
 ghost use Rattle.std.specs.Prelude.{◌≡◌, ◌⊎◌, ℕ, ◌+◌, ◌*◌, ◌<◌, ◌≤◌, ◌++◌, ◌∷◌, List, [], length};
-ghost use Rattle.std.specs.Prelude.{Some};
+ghost use Rattle.std.specs.Prelude.{Some, false};
 ghost use Rattle.std.proofs.Common.{get_or};
 ghost use Rattle.std.specs.List.{All, sum_by, range_with_len};
 ghost use Rattle.ffv1_range.specs.Interval.{interval_of};
@@ -13,7 +13,9 @@ ghost use Rattle.ffv1_frame.specs.declared.fault.FrameFault.{FrameFault};
 ghost use Rattle.ffv1_slice.specs.Footer.{foot_length};
 ghost use Rattle.ffv1_slice.specs.Cutting.{Cuts, coded_of};
 ghost use Rattle.ffv1_frame.specs.Picture.{Planes};
-ghost use Rattle.ffv1_frame.specs.SliceList.{Said, Line, CodesSlice, decided_by_slice, lines_in};
+ghost use Rattle.ffv1_frame.specs.SliceList.{Said, Line, lines_in};
+ghost use Rattle.ffv1_frame.specs.CodedSlice.{CodesSlice, decided_by_slice};
+ghost use Rattle.ffv1_record.specs.Accepted.{is_rice};
 ghost use Rattle.ffv1_frame.specs.Answer.{slices_in, decisions_in};
 ghost use Rattle.ffv1_frame.specs.Known.{CodesRead, IsBegun, ShowSame, cells_of};
 ghost use Rattle.ffv1_frame.specs.Handed.{IsFinishOf, offered, slice_of};
@@ -29,6 +31,7 @@ use ffv1_line::laws as line_laws;
 use ffv1_range::laws as range_laws;
 use ffv1_rct::laws as rct_laws;
 use ffv1_record::laws as record_laws;
+use ffv1_rice::laws as rice_laws;
 use ffv1_slice::laws as slice_laws;
 
 /// Decoding has one end at most: it comes to its end in one state, or is refused at one first
@@ -52,6 +55,8 @@ pub fn decoding_has_one_end()
 {
     line_laws::bytes_code_one_row();
     line_laws::reading_its_rows_reads_the_cell();
+    rice_laws::bits_begin_with_one_row_of_samples();
+    rice_laws::a_row_is_refused_in_one_way();
     slice_laws::bytes_code_one_head();
     range_laws::bytes_code_each_beginning();
     range_laws::bytes_code_one_bit_next();
@@ -95,6 +100,7 @@ pub fn coded_picture_is_decoded()
     rct_laws::line_transform_is_lists_at_depth();
     rct_laws::transform_is_one_to_one_at_depth();
     rct_laws::transform_stays_in_range_at_depth();
+    laws::coded_samples_fit_their_bits();
     laws::planes_are_divided_part_by_part();
 }
 
@@ -129,12 +135,12 @@ pub fn bytes_code_what_was_decoded()
     laws::planes_are_divided_part_by_part();
 }
 
-/// What the bytes of a slice code of its first lines, no others do: one head, and one row of
-/// samples for each of the lines.
+/// What the bytes of a range coded slice code of its first lines, no others do: one head, and one
+/// row of samples for each of the lines.
 pub fn bytes_code_one_head_and_lines()
     ensures { (a : Accepted) (coded : ℕ → List ℕ) (n : ℕ) (q r : Slice) (read more : List Line) →
-        IsAccepted a.configuration a.table → AreBytes (coded n) →
-        n < a.configuration.columns * a.configuration.rows →
+        IsAccepted a.configuration a.table → is_rice a.configuration.coder ≡ false →
+        AreBytes (coded n) → n < a.configuration.columns * a.configuration.rows →
         lines_in a.configuration n ≡ read ++ more →
         CodesRead a coded n q read → CodesRead a coded n r read →
         (q.head ≡ r.head) × (q.past ≡ r.past)
@@ -151,12 +157,13 @@ pub fn bytes_code_one_head_and_lines()
     laws::planes_are_divided_part_by_part();
 }
 
-/// At `Wide` no slice begins another: bytes that code a slice, of whatever picture, and more bytes
-/// after them code no slice of that number.
+/// At `Wide` no range coded slice begins another: bytes that code a slice, of whatever picture, and
+/// more bytes after them code no slice of that number.
 pub fn no_slice_begins_another()
     ensures { (a : Accepted) (xs ys : List ℕ) (planes others : Planes) (info said : Said)
-        (n : ℕ) → IsAccepted a.configuration a.table → a.profile ≡ profile.Wide →
-        AreBytes (xs ++ ys) → n < a.configuration.columns * a.configuration.rows →
+        (n : ℕ) → IsAccepted a.configuration a.table → is_rice a.configuration.coder ≡ false →
+        a.profile ≡ profile.Wide → AreBytes (xs ++ ys) →
+        n < a.configuration.columns * a.configuration.rows →
         CodesSlice xs a planes info n → CodesSlice (xs ++ ys) a others said n → ys ≡ [] }
 {
     line_laws::bytes_code_one_row();
@@ -171,19 +178,20 @@ pub fn no_slice_begins_another()
     laws::planes_are_divided_part_by_part();
 }
 
-/// At `Wide` the bytes of a slice are as many as those of the sentinel ending of its decisions,
-/// with a number that is no less and at most 254 more; and all bytes that end its decisions code
-/// it.
+/// At `Wide` the bytes of a range coded slice are as many as those of the sentinel ending of its
+/// decisions, with a number that is no less and at most 254 more; and all bytes that end its
+/// decisions code it.
 pub fn slices_end_near_the_sentinel_ending()
     ensures near { (a : Accepted) (bytes : List ℕ) (planes : Planes) (info : Said) (n : ℕ)
         (slice : CodesSlice bytes a planes info n) →
         let least = sentinel_of (interval_of (decided_by_slice slice)) in
-        IsAccepted a.configuration a.table → a.profile ≡ profile.Wide →
-        (length bytes ≡ length least) × (value least (length least) ≤ value bytes (length bytes))
+        IsAccepted a.configuration a.table → is_rice a.configuration.coder ≡ false →
+        a.profile ≡ profile.Wide → (length bytes ≡ length least)
+        × (value least (length least) ≤ value bytes (length bytes))
         × (value bytes (length bytes) ≤ value least (length least) + 254) }
     ensures others { (a : Accepted) (bytes others : List ℕ) (planes : Planes) (info : Said) (n : ℕ)
-        (slice : CodesSlice bytes a planes info n) → AreBytes others →
-        IsEnded others (interval_of (decided_by_slice slice)) →
+        (slice : CodesSlice bytes a planes info n) → is_rice a.configuration.coder ≡ false →
+        AreBytes others → IsEnded others (interval_of (decided_by_slice slice)) →
         CodesSlice others a planes info n }
 {
     range_laws::each_decision_has_a_state();

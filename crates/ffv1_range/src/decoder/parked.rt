@@ -1,8 +1,9 @@
 //! Decoders without their bytes.
 
-ghost use Rattle.std.specs.Prelude.{◌≡◌, IsTrue, IsFalse};
-ghost use Rattle.ffv1_range.specs.Interval.{Interval};
-ghost use Rattle.ffv1_range.specs.Ending.{IsEnded};
+ghost use Rattle.std.specs.Prelude.{◌≡◌, ◌-◌, ◌^◌, ℕ, min, Bool, List, IsTrue, IsFalse};
+ghost use Rattle.ffv1_range.specs.Interval.{Interval, narrow};
+ghost use Rattle.ffv1_range.specs.Codes.{AreBytes, Inside};
+ghost use Rattle.ffv1_range.specs.Ending.{IsEnded, bits_place};
 ghost use Rattle.ffv1_range.specs.Counts.{total};
 ghost use Rattle.ffv1_range.specs.Reading.{At, resumed};
 
@@ -74,6 +75,28 @@ impl Parked {
         let left = (bytes.len() as u64).saturating_sub(self.renormalisations);
         let last = if self.width - part < 256 { 2 } else { 1 };
         left == last
+    }
+
+    /// The byte at which bits begin behind the next decision by state 129, whichever it is (RFC
+    /// 9043, 3.8.1.1.1): the one that a coder reads last. It is at most 2^64 - 1. That decision is
+    /// looked at, and neither read nor counted.
+    pub fn bits_place(&self) -> u64
+        ensures { (bytes : List ℕ) (i : Interval) → AreBytes bytes →
+            At (resumed self.now bytes) i → (bit : Bool) × Inside bytes (narrow i 129 bit)
+            × (result ≡ min (bits_place (narrow i 129 bit)) (2 ^ 64 - 1)) }
+    {
+        let part = self.width * u32::from(SENTINEL_STATE) / 256;
+        let place = self.renormalisations.saturating_add(1);
+        if self.gap <= part {
+            if part < 256 {
+                return place.saturating_add(1);
+            }
+            return place;
+        }
+        if self.width - part < 256 {
+            return place.saturating_add(1);
+        }
+        place
     }
 
     /// Goes on with bytes. On the bytes that it had, the decoder is as if it had never been parked;

@@ -25,7 +25,7 @@ fn checked(alloc: Global, file: &[u8], place: bool) -> (Result<(), Fault>, Vec<u
         &mut output,
         place,
     );
-    (answer, output.into_inner())
+    (answer.map(|_| ()), output.into_inner())
 }
 
 /// A check of so many frames answers so, and writes this.

@@ -19,7 +19,7 @@ fn are_shown<T: Display>(rt: &impl Abort, alloc: Global, rows: &[(T, &str)]) {
 }
 
 /// Those of the engine.
-static ENGINE: [(Fault, &str); 63] = [
+static ENGINE: [(Fault, &str); 67] = [
     (Fault::StateTable, "1 StateTable"),
     (Fault::OutOfMemory, "2 OutOfMemory"),
     (Fault::BadStart, "3 BadStart"),
@@ -45,6 +45,9 @@ static ENGINE: [(Fault, &str); 63] = [
     (Fault::Ec, "23 Ec"),
     (Fault::Intra, "24 Intra"),
     (Fault::ExtraPlane, "25 ExtraPlane"),
+    (Fault::BitsEnd, "27 BitsEnd"),
+    (Fault::BadCode, "28 BadCode"),
+    (Fault::Padding, "29 Padding"),
     (Fault::NotKey, "30 NotKey"),
     (Fault::Place, "31 Place"),
     (Fault::SetIndex, "32 SetIndex"),
@@ -83,6 +86,7 @@ static ENGINE: [(Fault, &str); 63] = [
     (Fault::Checksum, "85 Checksum"),
     (Fault::Rate, "86 Rate"),
     (Fault::NotSame, "87 NotSame"),
+    (Fault::Another, "88 Another"),
 ];
 
 /// Those of the range coder.
@@ -127,7 +131,7 @@ static RECORD: [(RecordFault, &str); 22] = [
 ];
 
 /// Those of files.
-static FILES: [(FileFault, &str); 16] = [
+static FILES: [(FileFault, &str); 17] = [
     (FileFault::OutOfMemory, "2 OutOfMemory"),
     (FileFault::NotAvi, "50 NotAvi"),
     (FileFault::NoFfv1, "51 NoFfv1"),
@@ -144,6 +148,7 @@ static FILES: [(FileFault, &str); 16] = [
     (FileFault::Laced, "84 Laced"),
     (FileFault::Checksum, "85 Checksum"),
     (FileFault::Rate, "86 Rate"),
+    (FileFault::Another, "88 Another"),
 ];
 
 /// Those of texts of pictures.
@@ -176,13 +181,16 @@ static SLICES: [(SliceFault, &str); 12] = [
 ];
 
 /// Those of the codec.
-static CODEC: [(CodecFault, &str); 19] = [
+static CODEC: [(CodecFault, &str); 22] = [
     (CodecFault::OutOfMemory, "2 OutOfMemory"),
     (CodecFault::BadStart, "3 BadStart"),
     (CodecFault::SymbolTooLong, "4 SymbolTooLong"),
     (CodecFault::Colour, "7 Colour"),
     (CodecFault::Overread, "8 Overread"),
     (CodecFault::Ending, "9 Ending"),
+    (CodecFault::BitsEnd, "27 BitsEnd"),
+    (CodecFault::BadCode, "28 BadCode"),
+    (CodecFault::Padding, "29 Padding"),
     (CodecFault::NotKey, "30 NotKey"),
     (CodecFault::Place, "31 Place"),
     (CodecFault::SetIndex, "32 SetIndex"),

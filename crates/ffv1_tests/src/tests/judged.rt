@@ -2,7 +2,7 @@
 
 use super::shows;
 use ffv1_doubles::{Scarce, ShortWriter, made};
-use ffv1_engine::{Fault, Profile, check_all};
+use ffv1_engine::{Fault, Notes, Profile, check_all};
 use ffv1_wire::{FromRead, ToWrite};
 use std::alloc::Global;
 use std::io::ErrorKind;
@@ -29,7 +29,7 @@ fn comes_to(
     let mut output = ToWrite::new(Vec::new(alloc));
     let mut input = FromRead::new(file.as_slice());
     let found = check_all(alloc, Profile::Strict, &mut input, &mut output, place);
-    assert!(rt; found == answer);
+    assert!(rt; found == answer.map(|first| (first, Notes::NONE)));
     assert!(rt; output.into_inner().as_slice() == text);
     Ok(())
 }
@@ -82,7 +82,7 @@ fn refused_memory_ends_it(rt: HostRuntime) -> Result<(), Fail> {
             refused = refused.saturating_add(1);
             assert!(rt; PLACES.starts_with(output.into_inner().as_slice()));
         } else {
-            assert!(rt; answer == Ok(Some(Fault::Place)));
+            assert!(rt; answer == Ok((Some(Fault::Place), Notes::NONE)));
         }
     }
     assert!(rt; 10 < refused && refused < 40);

@@ -72,6 +72,7 @@ static COMMANDS: [(&[&str], Order<'static>); 7] = [
             progress: false,
             range: FrameRange::ALL,
             all: false,
+            notes_as_faults: false,
         },
     ),
     (
@@ -85,6 +86,7 @@ static COMMANDS: [(&[&str], Order<'static>); 7] = [
             progress: false,
             against: None,
             range: FrameRange::ALL,
+            notes_as_faults: false,
         },
     ),
     (
@@ -107,6 +109,7 @@ static COMMANDS: [(&[&str], Order<'static>); 7] = [
         Order::FrameMd5 {
             inputs: &["a"],
             range: FrameRange::ALL,
+            notes_as_faults: false,
         },
     ),
     (&["ffv1", "trial", "a"], Order::Trial { input: "a" }),

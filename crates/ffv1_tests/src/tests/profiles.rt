@@ -4,7 +4,7 @@
 use crate::tests::shows;
 use ffv1_doubles::made;
 use ffv1_doubles::riffs::MORE;
-use ffv1_engine::{Fault, Profile, check, show, unpack};
+use ffv1_engine::{Fault, Notes, Profile, check, show, unpack};
 use ffv1_wire::{FromRead, ToWrite};
 use std::alloc::Global;
 use std::test::Fail;
@@ -25,7 +25,7 @@ fn checks(
     alloc: Global,
     profile: Profile,
     file: &[u8],
-    answer: Result<(), Fault>,
+    answer: Result<Notes, Fault>,
     text: &[u8],
 ) -> bool {
     let mut output = ToWrite::new(Vec::new(alloc));
@@ -39,7 +39,7 @@ fn unpacks(alloc: Global, profile: Profile, file: &[u8], count: u64, text: &[u8]
     let output = ToWrite::new(Vec::new(alloc));
     let (written, found) = unpack(alloc, profile, &mut FromRead::new(file), output);
     let same = written.into_inner().as_slice() == text;
-    found == Ok(count) && same
+    found == Ok((count, Notes::NONE)) && same
 }
 
 /// Whether what a file says ends with this text, with what its frames cost.
@@ -47,7 +47,7 @@ fn is_shown(alloc: Global, profile: Profile, file: &[u8], end: &[u8]) -> bool {
     let mut output = ToWrite::new(Vec::new(alloc));
     let found = show(alloc, profile, &mut FromRead::new(file), &mut output, true);
     let same = output.into_inner().as_slice().ends_with(end);
-    found == Ok(()) && same
+    found == Ok(Notes::NONE) && same
 }
 
 const ONE: &[u8] = b"frame 0: 5 bytes, 1 slices, 11 decisions\nframes 1\n";
@@ -66,16 +66,30 @@ static COST: &[u8] = b"cost frame 1: ones 11 zeros 0 renormalisations 1\n";
 #[test]
 fn each_frame_is_checked(rt: HostRuntime) -> Result<(), Fail> {
     let file = file_of(rt.alloc(), 2, b"")?;
-    assert!(rt; checks(rt.alloc(), Profile::Wide, &file, Ok(()), THREE));
-    assert!(rt; checks(rt.alloc(), Profile::Strict, &file, Ok(()), ONE));
+    assert!(rt; checks(rt.alloc(), Profile::Wide, &file, Ok(Notes::NONE), THREE));
+    assert!(rt; checks(rt.alloc(), Profile::Strict, &file, Ok(Notes::NONE), ONE));
     Ok(())
 }
 
+/// Bytes with which no file begins are noted at the wide profile, behind the last `RIFF`.
 #[test]
 fn what_stands_behind_is_looked_at(rt: HostRuntime) -> Result<(), Fail> {
     let file = file_of(rt.alloc(), 2, b"\0\0\0")?;
-    assert!(rt; checks(rt.alloc(), Profile::Wide, &file, Err(Fault::Truncated), TWO));
-    assert!(rt; checks(rt.alloc(), Profile::Strict, &file, Ok(()), ONE));
+    let noted = Notes {
+        is_open: false,
+        after: Some(file.len().saturating_sub(3) as u64),
+    };
+    assert!(rt; checks(rt.alloc(), Profile::Wide, &file, Ok(noted), THREE));
+    assert!(rt; checks(rt.alloc(), Profile::Strict, &file, Ok(Notes::NONE), ONE));
+    Ok(())
+}
+
+/// Another file there is refused.
+#[test]
+fn another_file_is_refused(rt: HostRuntime) -> Result<(), Fail> {
+    let file = file_of(rt.alloc(), 2, b"RIFF\x04\0\0\0AVI ")?;
+    assert!(rt; checks(rt.alloc(), Profile::Wide, &file, Err(Fault::Another), TWO));
+    assert!(rt; checks(rt.alloc(), Profile::Strict, &file, Ok(Notes::NONE), ONE));
     Ok(())
 }
 

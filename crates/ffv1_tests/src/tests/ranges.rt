@@ -45,11 +45,15 @@ fn called(
     let mut input = FromRead::new(file);
     let wide = Profile::Wide;
     let answer = match call {
-        Call::Check => check_range(alloc, wide, &mut input, &mut output, true, range),
+        Call::Check => {
+            check_range(alloc, wide, &mut input, &mut output, true, range).map(|_| ())
+        }
         Call::CheckAll => {
             check_all_range(alloc, wide, &mut input, &mut output, true, range).map(|_| ())
         }
-        Call::FrameMd5 => framemd5_range(alloc, wide, &mut input, &mut output, range),
+        Call::FrameMd5 => {
+            framemd5_range(alloc, wide, &mut input, &mut output, range).map(|_| ())
+        }
         Call::Unpack => {
             let (written, count) = unpack_range(alloc, wide, &mut input, output, range);
             return (count.map(|_| ()), written.into_inner());

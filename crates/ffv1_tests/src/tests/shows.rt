@@ -84,7 +84,7 @@ fn shown(alloc: Global, file: &[u8], cost: bool) -> (Result<(), Fault>, Vec<u8>)
         &mut output,
         cost,
     );
-    (answer, output.into_inner())
+    (answer.map(|_| ()), output.into_inner())
 }
 
 /// A file is answered so, and these lines and others are written.

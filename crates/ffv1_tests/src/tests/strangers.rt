@@ -45,7 +45,7 @@ fn checked(alloc: Global, file: &mut [u8], place: usize, bits: u8) -> (Result<()
     if place < file.len() {
         file[place] ^= bits;
     }
-    (answer, output.into_inner().len())
+    (answer.map(|_| ()), output.into_inner().len())
 }
 
 /// Each bit of the record of a file is flipped, which is the 26 bytes from the 212th on; then its

@@ -156,8 +156,8 @@ fn run<R: ByteIn, W: PatchOut, A: Allocator + Copy>(
         Command::Unpack => return unpack_all(alloc, input, output),
         Command::Pack => pack_plain(alloc, input, &mut output),
         Command::PackMatroska => pack_clusters(alloc, input, &mut output),
-        Command::Check => check(alloc, Profile::Strict, input, &mut output, true),
-        Command::Show => show(alloc, Profile::Strict, input, &mut output, true),
+        Command::Check => check(alloc, Profile::Strict, input, &mut output, true).map(|_| ()),
+        Command::Show => show(alloc, Profile::Strict, input, &mut output, true).map(|_| ()),
         Command::Trial => trial(alloc, input, &mut output),
     };
     (output, answer)

@@ -3,7 +3,7 @@
 use super::orders::NO_COLOUR;
 use ffv1_avi::write_avi;
 use ffv1_doubles::made;
-use ffv1_engine::{Choice, CodecIdChoice, CoderChoice, Fault, Profile, pack, unpack};
+use ffv1_engine::{Choice, CodecIdChoice, CoderChoice, Fault, Notes, Profile, pack, unpack};
 use ffv1_reads::FileHead;
 use ffv1_record::{Colour, Config, write_record};
 use ffv1_wire::{FromRead, ToWrite};
@@ -48,7 +48,7 @@ fn file_of(alloc: Global, text: &[u8], choice: &Choice) -> Result<Vec<u8>, Fault
 fn comes_to(rt: &impl Abort, alloc: Global, file: &[u8], answer: Result<u64, Fault>, text: &[u8]) {
     let output = ToWrite::new(Vec::new(alloc));
     let (written, found) = unpack(alloc, Profile::Strict, &mut FromRead::new(file), output);
-    assert!(rt; found == answer);
+    assert!(rt; found == answer.map(|count| (count, Notes::NONE)));
     assert!(rt; written.into_inner().as_slice() == text);
 }
 

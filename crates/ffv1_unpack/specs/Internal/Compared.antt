@@ -4,6 +4,7 @@ use Rattle.std.specs.Prelude.{Result, Ok, Err}
 use Rattle.ffv1_wire.specs.Passage.{Passage, at_rest}
 use Rattle.ffv1_record.specs.Accepted.{Accepted}
 use Rattle.ffv1_files.specs.Places.{Place}
+use Rattle.ffv1_files.specs.declared.notes.Notes.{Notes}
 use Rattle.ffv1_unpack.specs.Compared.{DiffersAt, frame_number, frame_numbers, is_md5, met}
 use Rattle.ffv1_unpack.specs.Internal.Play.{ReadsEnd}
 use Rattle.ffv1_unpack.specs.Internal.Plays.{NextAnswers, PlaysFrame}
@@ -18,15 +19,16 @@ Compares a md5s number from to input agrees = (frame : Frame) × PlaysFrame a fr
     × (is_md5 (slice_get md5s number) (frame_number a frame) ≡ agrees)
 
 -- what comparing the frame with this number answers: it agrees, there is none, or why it does not
-abbrev pub CompareAnswers : Accepted → List ℕ → ℕ → Place → Place → Passage →
+abbrev pub CompareAnswers : Accepted → List ℕ → ℕ → Place → Place → Passage → Notes →
     Result Bool Unlike → Type 0
-CompareAnswers a md5s number from to input (Ok true) = Compares a md5s number from to input true
-CompareAnswers a md5s number from to input (Ok false) = ReadsEnd from input
-CompareAnswers a md5s number from to input (Err (unlike.Differs k)) =
+CompareAnswers a md5s number from to input notes (Ok true) =
+    Compares a md5s number from to input true
+CompareAnswers a md5s number from to input notes (Ok false) = ReadsEnd from notes input
+CompareAnswers a md5s number from to input notes (Err (unlike.Differs k)) =
     (k ≡ number) × Compares a md5s number from to input false
-CompareAnswers a md5s number from to input (Err (unlike.Fault f)) =
+CompareAnswers a md5s number from to input notes (Err (unlike.Fault f)) =
     NextAnswers a (λ frame. frame_number a frame ∷ []) from to input
-    (at_rest (Some (take number md5s)) 0) (Err f)
+    (at_rest (Some (take number md5s)) 0) notes (Err f)
 
 -- why no further frame is compared
 abbrev pub FramesStop : Place → Accepted → List ℕ → Passage → Unlike → Type 0

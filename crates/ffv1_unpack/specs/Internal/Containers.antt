@@ -1,17 +1,29 @@
 -- What a position in a file of a container may be, and the faults that are its own.
-use Rattle.std.specs.Prelude.{◌≡◌, Bool, true, false, ⊤}
+use Rattle.std.specs.Prelude.{◌≡◌, ℕ, Bool, true, false, List, Option, ⊤}
 use Rattle.ffv1_files.specs.declared.container.Container.{Container}
 use Rattle.ffv1_files.specs.declared.container.Container.TheVariants as container
-use Rattle.ffv1_files.specs.Places.{Place, container_of}
+use Rattle.ffv1_files.specs.declared.container.Scope.{Scope}
+use Rattle.ffv1_files.specs.declared.container.Scope.TheVariants.{Whole}
+use Rattle.ffv1_files.specs.Places.{InAvi, InMatroska, Place, container_of}
+use Rattle.ffv1_files.specs.Readers.{Standing}
 use Rattle.ffv1_video.specs.declared.profile.Profile.{Profile}
 use Rattle.ffv1_video.specs.declared.profile.Profile.TheVariants.{Strict, Wide}
 use Rattle.ffv1_video.specs.declared.fault.Fault.{Fault}
+use Rattle.ffv1_video.specs.declared.fault.Fault.TheVariants as fault
 use Rattle.ffv1_video.specs.Faults.{is_matroska_fault}
+use Rattle.ffv1_unpack.specs.Located.{Stands}
 
--- the faults of a container beside those of AVI
-abbrev pub is_container_fault : Container → Fault → Bool
-is_container_fault container.Avi f = false
-is_container_fault (container.Matroska size) f = is_matroska_fault f
+-- the faults of a position beside those that every file has, by what is left of the file there: in
+-- a Segment those of Matroska; in an AVI another file behind its last RIFF, which is looked for only
+-- if all of the file is read
+abbrev pub told_at : Standing → Option (List ℕ) → Place → Fault → Type 0
+told_at r left (InAvi place) f =
+    (f ≡ fault.Another)
+    × ((scope : Scope) (text : Option (List ℕ)) → Stands scope text left r → scope ≡ Whole)
+told_at r left (InMatroska segment track place) f = is_matroska_fault f ≡ true
+
+abbrev pub IsContainerFault : Standing → Option (List ℕ) → Fault → Type 0
+IsContainerFault r left f = told_at r left r.place f
 
 -- a position in a file that a profile reads
 abbrev pub IsWithin : Profile → Place → Type 0

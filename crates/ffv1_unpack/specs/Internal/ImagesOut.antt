@@ -9,6 +9,7 @@ use Rattle.ffv1_wire.specs.Runs.{Line}
 use Rattle.ffv1_record.specs.Accepted.{Accepted}
 use Rattle.ffv1_record.specs.Configuration.{Configuration}
 use Rattle.ffv1_files.specs.Places.{Place}
+use Rattle.ffv1_files.specs.declared.notes.Notes.{Notes}
 use Rattle.ffv1_y4m.specs.Images.{AtImage, image_text, text_of_lines}
 use Rattle.ffv1_y4m.specs.Sink.{PpmSink}
 use Rattle.ffv1_reads.specs.Known.{Known}
@@ -69,12 +70,13 @@ module _ (a : Accepted) (from to : Place) (input output : Passage) where
       (input.after ≡ input.before)
       × ((Silent output × Known input.old input.new (NextHasFault f from)) ⊎ ImageFaults f)
 
-  -- what it answers: its image was written, there is none, or why it was not
-  abbrev pub WritesImage : Result Bool Fault → Type 0
-  WritesImage (Ok true) =
+  -- what it answers: its image was written, there is none, and this is noted of the end, or why it
+  -- was not
+  abbrev pub WritesImage : Notes → Result Bool Fault → Type 0
+  WritesImage notes (Ok true) =
       (frame : Frame) × PlaysFrame a from to input frame × (output.after ≡ output.before)
       × Appends output.old output.new
       (image_text a.configuration.depth a.configuration.width a.configuration.height
       frame.planes)
-  WritesImage (Ok false) = ReadsEnd from input × Silent output
-  WritesImage (Err f) = ImageStopsBy f (cause_of f)
+  WritesImage notes (Ok false) = ReadsEnd from notes input × Silent output
+  WritesImage notes (Err f) = ImageStopsBy f (cause_of f)

@@ -7,6 +7,7 @@ use Rattle.ffv1_range.specs.Counts.{saturated}
 use Rattle.ffv1_wire.specs.Passage.{Passage}
 use Rattle.ffv1_record.specs.Accepted.{Accepted}
 use Rattle.ffv1_files.specs.Places.{Place}
+use Rattle.ffv1_files.specs.declared.notes.Notes.{Notes}
 use Rattle.ffv1_files.specs.Readers.{Standing}
 use Rattle.ffv1_video.specs.declared.fault.Fault.{Fault}
 use Rattle.ffv1_unpack.specs.declared.judging.JudgedCounts.{JudgedCounts}
@@ -52,12 +53,14 @@ module _ (place byte : Bool) (a : Accepted) (i : ℕ) (from : Standing) (to : Pl
       (λ g. WritesLocated (LocatedAfter from input) byte i [] g output) from.place to input output
       f why
 
-  -- what judging a frame answers, by the counts before and after
-  abbrev pub JudgeAnswers : JudgedCounts → JudgedCounts → Result Bool Fault → Type 0
-  JudgeAnswers old new (Ok true) =
+  -- what judging a frame answers, by what is noted of the end, if there is none, and by the counts
+  -- before and after
+  abbrev pub JudgeAnswers : Notes → JudgedCounts → JudgedCounts → Result Bool Fault → Type 0
+  JudgeAnswers notes old new (Ok true) =
       (j : Judged) × PlaysOne (IsJudged a) payload_of from.place to input j
       × (output.after ≡ output.before)
       × Appends output.old output.new (judged_line place a.configuration i j)
       × (new ≡ one_counted old (refusal_of j))
-  JudgeAnswers old new (Ok false) = ReadsEnd from.place input × Silent output × (new ≡ old)
-  JudgeAnswers old new (Err f) = JudgeStopsBy f (cause_of f)
+  JudgeAnswers notes old new (Ok false) =
+      ReadsEnd from.place notes input × Silent output × (new ≡ old)
+  JudgeAnswers notes old new (Err f) = JudgeStopsBy f (cause_of f)

@@ -3,6 +3,7 @@ use Rattle.std.specs.Prelude.{◌≡◌, ◌⊎◌, ℕ, ◌<◌, List, length, 
 use Rattle.ffv1_wire.specs.Passage.{Passage}
 use Rattle.ffv1_wire.specs.Failures.{one_more}
 use Rattle.ffv1_files.specs.Places.{Place}
+use Rattle.ffv1_files.specs.declared.notes.Notes.{Notes}
 use Rattle.ffv1_reads.specs.Known.{Known}
 use Rattle.ffv1_video.specs.declared.fault.Fault.{Fault}
 use Rattle.ffv1_video.specs.declared.fault.Fault.TheVariants as fault
@@ -34,7 +35,8 @@ PassingStopsBy first from input passed f Memory =
     (input.after ≡ input.before) × PassesThen first from input passed NextPayloadLacks
 PassingStopsBy first from input passed f Content = (input.after ≡ input.before)
     × (PassesThen first from input passed (NextHasFault f)
-    ⊎ ((f ≡ fault.NoFrames) × PassesThen first from input passed NextOver))
+    ⊎ ((f ≡ fault.NoFrames)
+    × (notes : Notes) × PassesThen first from input passed (NextOver notes)))
 
 -- what passing so many answers
 abbrev pub PassAnswers : ℕ → Place → Place → Passage → ℕ → Result (Unit {0}) Fault → Type 0

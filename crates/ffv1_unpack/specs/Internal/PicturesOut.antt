@@ -10,6 +10,7 @@ use Rattle.ffv1_record.specs.Accepted.{Accepted}
 use Rattle.ffv1_codec.specs.Picture.{Planes}
 use Rattle.ffv1_codec.specs.SliceList.{Said}
 use Rattle.ffv1_files.specs.Places.{Place}
+use Rattle.ffv1_files.specs.declared.notes.Notes.{Notes}
 use Rattle.ffv1_y4m.specs.Canonical.{next_text}
 use Rattle.ffv1_y4m.specs.Writes.{Y4mWriting}
 use Rattle.ffv1_y4m.specs.declared.head.VideoHead.{VideoHead}
@@ -108,14 +109,14 @@ module _ (a : Accepted) (h : VideoHead) (first : Option Said) (from to : Place)
       × (Known input.old input.new (NextHasFault f from) ⊎ PayloadFaults a from to input f
       ⊎ FrameChanges f)
 
-  -- what its writing answers, and the text after it: its picture was written, there is none, or
-  -- why it was not
-  abbrev pub WritesNext : Begun → Result Bool Fault → Type 0
-  WritesNext after (Ok true) =
+  -- what its writing answers, and the text after it: its picture was written, there is none, and
+  -- this is noted of the end, or why it was not
+  abbrev pub WritesNext : Notes → Begun → Result Bool Fault → Type 0
+  WritesNext notes after (Ok true) =
       (frame : Frame) × PlaysFrame a from to input frame × SaysAgain first frame.said
       × (output.after ≡ output.before)
       × Appends output.old output.new
       (text_behind a.configuration.depth h first frame.said frame.planes)
       × (after ≡ Some (frame.said, writer_behind a.configuration.depth h frame.said))
-  WritesNext after (Ok false) = ReadsEnd from input × Silent output
-  WritesNext after (Err f) = NextStopsBy f (cause_of f)
+  WritesNext notes after (Ok false) = ReadsEnd from notes input × Silent output
+  WritesNext notes after (Err f) = NextStopsBy f (cause_of f)

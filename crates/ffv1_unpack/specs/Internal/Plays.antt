@@ -9,6 +9,7 @@ use Rattle.ffv1_wire.specs.Writes.{AppendsBeginning}
 use Rattle.ffv1_record.specs.Accepted.{Accepted}
 use Rattle.ffv1_frame.specs.declared.fault.FrameFault.{FrameFault}
 use Rattle.ffv1_files.specs.Places.{Place}
+use Rattle.ffv1_files.specs.declared.notes.Notes.{Notes}
 use Rattle.ffv1_reads.specs.Known.{Known}
 use Rattle.ffv1_video.specs.declared.fault.Fault.{Fault}
 use Rattle.ffv1_video.specs.Faults.{Cause, cause_of, of_codec}
@@ -49,15 +50,15 @@ module _ {X : Type 0} (Is : X → Type 0) (payload : X → List ℕ) where
 module _ {X : Type 0} (Is : X → Type 0) (payload : X → List ℕ)
     (Has : List (List ℕ) → (Place → List ℕ → List ℕ → Type 0) → List ℕ → List ℕ → Type 0)
     (text : List X → List ℕ) (input output : Passage) where
-  -- they are all, of at most so many
-  pub record PlaysMost (most : Option ℕ) (xs : List X) : Type 0 where
-    pub plays : PlaysThen Is payload Has text input output xs (NextBehind most (length xs))
+  -- they are all, of at most so many, and this is noted of the end
+  pub record PlaysMost (notes : Notes) (most : Option ℕ) (xs : List X) : Type 0 where
+    pub plays : PlaysThen Is payload Has text input output xs (NextBehind notes most (length xs))
     pub few : AtMost most (length xs)
     pub kept : input.after ≡ input.before
 
   -- they are all
-  abbrev pub PlaysAll : List X → Type 0
-  PlaysAll xs = PlaysMost None xs
+  abbrev pub PlaysAll : Notes → List X → Type 0
+  PlaysAll notes xs = PlaysMost notes None xs
 
 -- ---- one frame
 
@@ -79,13 +80,13 @@ pub record PayloadFaults (a : Accepted) (from to : Place) (input : Passage) (f :
 -- by what text it has
 module _ (a : Accepted) (text : Frame → List ℕ) (from to : Place) (input output : Passage) where
   -- what playing it answers, if a refusal writes nothing: its text was written, there is none,
-  -- or why it was not
-  abbrev pub NextAnswers : Result Bool Fault → Type 0
-  NextAnswers (Ok true) =
+  -- and this is noted of the end, or why it was not
+  abbrev pub NextAnswers : Notes → Result Bool Fault → Type 0
+  NextAnswers notes (Ok true) =
       (frame : Frame) × PlaysFrame a from to input frame × (output.after ≡ output.before)
       × Appends output.old output.new (text frame)
-  NextAnswers (Ok false) = ReadsEnd from input × Silent output
-  NextAnswers (Err f) =
+  NextAnswers notes (Ok false) = ReadsEnd from notes input × Silent output
+  NextAnswers notes (Err f) =
       (Silent output × PayloadFaults a from to input f)
       ⊎ OneStopsBy (IsFrame a) frame_payload text (λ g. Silent output) from to input output f
       (cause_of f)

@@ -13,25 +13,24 @@ use Rattle.ffv1_codec.specs.Answer.{Answers}
 use Rattle.ffv1_codec.specs.SliceList.{Said}
 use Rattle.ffv1_files.specs.Answers.{Endings, ReadFails, WantsMore}
 use Rattle.ffv1_files.specs.Places.{Place}
-use Rattle.ffv1_files.specs.declared.container.Container.{Container}
+use Rattle.ffv1_files.specs.declared.notes.Notes.{Notes}
 use Rattle.ffv1_words.specs.declared.order.FrameRange.{FrameRange}
-use Rattle.ffv1_files.specs.Files.{frame_read}
-use Rattle.ffv1_files.specs.Endings.{endings_from}
 use Rattle.ffv1_files.specs.Readers.{Standing}
 use Rattle.ffv1_reads.specs.Reads as avi
 use Rattle.ffv1_reads.specs.Known.{Known}
+use Rattle.ffv1_reads.specs.declared.fault.FileFault.{FileFault}
 use Rattle.ffv1_video.specs.declared.fault.Fault.{Fault}
 use Rattle.ffv1_video.specs.declared.fault.Fault.TheVariants as fault
 use Rattle.ffv1_unpack.specs.declared.player.Stop.{Stop}
 use Rattle.ffv1_unpack.specs.declared.player.Stop.TheVariants as stop
 use Rattle.ffv1_unpack.specs.declared.frame_line.FrameLine.{FrameLine}
-use Rattle.ffv1_unpack.specs.Internal.Containers.{is_container_fault}
+use Rattle.ffv1_unpack.specs.Internal.Containers.{IsContainerFault}
 use Rattle.ffv1_video.specs.Faults.{Cause, cause_of, of_avi}
 use Rattle.ffv1_video.specs.Faults.Cause.{Reading, Writing, Memory, Content}
 use Rattle.ffv1_unpack.specs.Stream.{Frame, IsFrame, frame_payload}
 use Rattle.ffv1_unpack.specs.Play.{FaultsRead}
 use Rattle.ffv1_unpack.specs.Internal.Play.{ReadsEnd, ReadsPayload}
-use Rattle.ffv1_unpack.specs.Plays.{GoesFrom}
+use Rattle.ffv1_unpack.specs.Plays.{GoesFrom, NextHasFault, NextPayloadLacks, NextReadFails}
 use Rattle.ffv1_unpack.specs.Ranges.{number_in}
 use Rattle.ffv1_unpack.specs.Internal.Plays.{OneStopsBy, PayloadFaults}
 use Rattle.ffv1_unpack.specs.Internal.Plays.{PlaysFrame}
@@ -61,21 +60,34 @@ FileStopsBy ends reading p f Content =
 abbrev pub FileStops : {X : Type 0} → Endings X → avi.Reading X → Passage → Fault → Type 0
 FileStops ends reading p f = FileStopsBy ends reading p f (cause_of f)
 
--- the same of the next frame from a position on
-abbrev pub StopsFrom : Place → Passage → Fault → Type 0
-StopsFrom from p f = FileStops (endings_from from) (frame_read from) p f
+-- the same of the next frame from a position on, and of what stands behind the last one
+abbrev pub StopsFromBy : Place → Passage → Fault → Cause → Type 0
+StopsFromBy from p f Reading =
+    (p.after ≡ one_more p.before) × Known p.old p.new (NextReadFails from)
+StopsFromBy from p f Writing = ⊥
+StopsFromBy from p f Memory = (p.after ≡ p.before) × Known p.old p.new (NextPayloadLacks from)
+StopsFromBy from p f Content = (p.after ≡ p.before) × Known p.old p.new (NextHasFault f from)
 
--- a payload was read, and decoding answers so
+abbrev pub StopsFrom : Place → Passage → Fault → Type 0
+StopsFrom from p f = StopsFromBy from p f (cause_of f)
+
+-- what reading the next payload answers: it was read, there is none, and this is noted of the end,
+-- or why it was not
+abbrev pub ReadAnswers : Place → Place → List ℕ → Notes → Passage → Result Bool FileFault → Type 0
+ReadAnswers from to payload notes p (Ok true) = ReadsPayload from to payload p
+ReadAnswers from to payload notes p (Ok false) = ReadsEnd from notes p
+ReadAnswers from to payload notes p (Err f) = StopsFrom from p (of_avi f)
+
+-- the payload was decoded, or is refused, or was not read
 abbrev pub StepAnswers : {S : Type 0} → LineStep S → LineStep S → Accepted → Place → Place →
-    List ℕ →
-    Tally → Passage → S → S → Result (Option Said) Stop → Type 0
-StepAnswers takes refuses a from to payload tally p old new (Ok None) =
-    ReadsEnd from p × (new ≡ old)
-StepAnswers takes refuses a from to payload tally p old new (Ok (Some info)) =
+    List ℕ → Tally → Notes → Passage → S → S → Result (Option Said) Stop → Type 0
+StepAnswers takes refuses a from to payload tally notes p old new (Ok None) =
+    ReadsEnd from notes p × (new ≡ old)
+StepAnswers takes refuses a from to payload tally notes p old new (Ok (Some info)) =
     ReadsPayload from to payload p × Answers takes refuses a payload old new tally (Ok info)
-StepAnswers takes refuses a from to payload tally p old new (Err (stop.File f)) =
+StepAnswers takes refuses a from to payload tally notes p old new (Err (stop.File f)) =
     StopsFrom from p (of_avi f) × (new ≡ old)
-StepAnswers takes refuses a from to payload tally p old new (Err (stop.Payload f)) =
+StepAnswers takes refuses a from to payload tally notes p old new (Err (stop.Payload f)) =
     ReadsPayload from to payload p × Answers takes refuses a payload old new tally (Err f)
 
 -- the lines of frames
@@ -110,13 +122,14 @@ module _ (kind : FrameLine) (place byte : Bool) (a : Accepted) (i : ℕ) (from :
       (λ g. WritesLocated (LocatedAfter from input) byte i [] g output) from.place to input output
       f why
 
-  -- what writing a frame's line answers: that it is written, that there is none, or why it is not
-  abbrev pub FrameAnswers : Result Bool Fault → Type 0
-  FrameAnswers (Ok true) =
+  -- what writing a frame's line answers: that it is written, that there is none, and this is noted
+  -- of the end, or why it is not
+  abbrev pub FrameAnswers : Notes → Result Bool Fault → Type 0
+  FrameAnswers notes (Ok true) =
       (frame : Frame) × PlaysFrame a from.place to input frame × (output.after ≡ output.before)
       × Appends output.old output.new (told_line kind a.configuration i frame)
-  FrameAnswers (Ok false) = ReadsEnd from.place input × Silent output
-  FrameAnswers (Err f) = FrameStops f ⊎ FrameStopsBy f (cause_of f)
+  FrameAnswers notes (Ok false) = ReadsEnd from.place notes input × Silent output
+  FrameAnswers notes (Err f) = FrameStops f ⊎ FrameStopsBy f (cause_of f)
 
 -- a line was written; or a write failed, which was counted, after a beginning of it; or memory for
 -- it was refused
@@ -131,12 +144,12 @@ abbrev pub OnPayload : Type 0 → Stop → Type 0
 OnPayload P (stop.File f) = ⊤
 OnPayload P (stop.Payload f) = P
 
--- with those of the container that the frames are in
-abbrev pub IsToldFault : Container → Fault → Type 0
-IsToldFault container f =
-    (is_telling_fault f ≡ true) ⊎ (is_container_fault container f ≡ true)
+-- with those of the container that the frames are in, by where a reader stands, and what is left
+-- there
+abbrev pub IsToldFault : Standing → Option (List ℕ) → Fault → Type 0
+IsToldFault r left f = (is_telling_fault f ≡ true) ⊎ IsContainerFault r left f
 
 -- if reading a frame ends, it is by one of those
-abbrev pub IsOwnStop : Container → Stop → Type 0
-IsOwnStop container (stop.File f) = IsToldFault container (of_avi f)
-IsOwnStop container (stop.Payload f) = ⊤
+abbrev pub IsOwnStop : Standing → Option (List ℕ) → Stop → Type 0
+IsOwnStop r left (stop.File f) = IsToldFault r left (of_avi f)
+IsOwnStop r left (stop.Payload f) = ⊤

@@ -8,7 +8,7 @@ returns-in-Ok-clause-compares g c = (
   c.read_and_compare-frames.result.1,
   c.read_and_compare-frames.result.2,
   c.read_and_compare-frames.ensures.compares,
-  inl (c.in-Ok.ensures.tells, refl),
+  inl (rw (← c.unnoted.ensures) c.in-Ok.ensures.tells, c.noted.ensures.value),
 )
 
 pub returns-in-Err-clause-compares : goal.returns-in-Err-clause-compares
@@ -17,5 +17,10 @@ returns-in-Err-clause-compares g c = (
   c.read_and_compare-frames.result.1,
   c.read_and_compare-frames.result.2,
   c.read_and_compare-frames.ensures.compares,
-  inr (c.in-Err.refusal, c.in-Err.ensures.tells, c.in-Err.ensures.untold, refl),
+  inr (
+    c.in-Err.refusal,
+    rw (← c.unnoted.ensures) c.in-Err.ensures.tells,
+    c.in-Err.ensures.untold,
+    refl,
+  ),
 )

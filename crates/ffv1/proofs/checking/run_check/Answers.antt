@@ -6,11 +6,11 @@ pub returns-then-is_of_frames-clause-checks : goal.returns-then-is_of_frames-cla
 returns-then-is_of_frames-clause-checks g c =
     let of_frames = sym c.is_of_frames.ensures ∙ c.if-is_of_frames.true in
     record {
-      answer = c.write_check.result;
+      answer = c.write_check-answer.result;
       output = _;
       place = c.args.checking.place;
       says_place = rw of_frames refl;
-      checks = c.write_check.ensures.checks;
+      checks = c.write_check-answer.ensures.checks;
       by_frames = λ _. c.outcome_of.ensures.value;
       by_line = λ of_line. absurd (let no : true ≡ false = sym of_frames ∙ of_line in cc);
     }

@@ -15,7 +15,7 @@ untold_is_own r (inl is) = subst (IsFault (IsCheckFault profile.Wide)) (sym is) 
 untold_is_own r (inr is) = subst (IsFault (IsCheckFault profile.Wide)) (sym is) (inl refl)
 
 pub returns-in_err-tell-clause-own : goal.returns-in_err-tell-clause-own
-returns-in_err-tell-clause-own g c first_alone =
+returns-in_err-tell-clause-own g c first_alone unasked =
     let p = err_from_is_err_and c.from_residual.result c.from_residual.ensures.1 in
     rw (p.1, p.2) (untold_is_own _ c.in_err-tell.ensures.untold)
 
@@ -30,7 +30,7 @@ returns-in_err-tell-clause-checks g c of_line =
       checks = c.write_check-answer.ensures.checks;
       by_frames = λ of_frames. absurd (let no : true ≡ false = sym of_frames ∙ of_line in cc);
       by_line = λ _. inr (rw (p.1, p.2)
-          (c.in_err-tell.ensures.tells, c.in_err-tell.ensures.told of_line));
+          (_, rw c.verdict_of.ensures.value at c.in_err-tell.ensures.tells, c.in_err-tell.ensures.told of_line, refl));
     }
 
 pub returns-clause-checks : goal.returns-clause-checks
@@ -41,5 +41,5 @@ returns-clause-checks g c of_line = record {
   says_place = rw of_line refl;
   checks = c.write_check-answer.ensures.checks;
   by_frames = λ of_frames. absurd (let no : true ≡ false = sym of_frames ∙ of_line in cc);
-  by_line = λ _. inl (c.in_ok-tell.ensures.tells, c.outcome_of.ensures.value);
+  by_line = λ _. inl (rw (← c.verdict_of.ensures.value) c.in_ok-tell.ensures.tells, c.outcome_of.ensures.value);
 }

@@ -6,7 +6,7 @@ use Rattle.ffv1.proofs.infos.print_object.Goals as goal
 pub returns-in_err-begin-clause-facts : goal.returns-in_err-begin-clause-facts
 returns-in_err-begin-clause-facts g c =
     let p = err_from_is_err_and c.from_residual.result c.from_residual.ensures.1 in
-    inl (rw (p.1, p.2) (c.in_err-begin.ensures.begins, c.in_err-begin.ensures.untold))
+    inl (rw (p.1, p.2) (_, c.in_err-begin.ensures.begins, c.in_err-begin.ensures.untold, refl))
 
 pub returns-in_err-end-clause-facts : goal.returns-in_err-end-clause-facts
 returns-in_err-end-clause-facts g c =
@@ -15,7 +15,7 @@ returns-in_err-end-clause-facts g c =
       c.print_facts-done.result,
       c.in_ok-begin.ensures.begins,
       c.print_facts-done.ensures.facts,
-      inr (rw (p.1, p.2) (c.in_err-end.ensures.ends, c.in_err-end.ensures.untold)),
+      inr (rw (p.1, p.2) (_, c.in_err-end.ensures.ends, c.in_err-end.ensures.untold, refl)),
     )
 
 pub returns-clause-facts : goal.returns-clause-facts

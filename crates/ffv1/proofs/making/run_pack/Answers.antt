@@ -8,6 +8,26 @@ returns-in_err-reader-clause-packs g c =
     let p = err_from_is_err_and c.from_residual.result c.from_residual.ensures.1 in
     rw (p.1, p.2) (inr (_, c.in_err-reader.ensures.missed, refl))
 
+pub returns-in_err-tell_packed-in-Ok-clause-packs :
+    goal.returns-in_err-tell_packed-in-Ok-clause-packs
+returns-in_err-tell_packed-in-Ok-clause-packs g c =
+    let p = err_from_is_err_and c.from_residual-in_err-tell_packed-in-Ok.result
+    c.from_residual-in_err-tell_packed-in-Ok.ensures.1 in
+    rw (p.1, p.2, ← c.is_matroska.ensures) (inl (
+      _,
+      c.pack_into.new.input,
+      _,
+      c.pack_into.new.output,
+      c.in_ok-reader.ensures.opened,
+      c.in_ok-reader.ensures.made,
+      (
+        Ok c.in-Ok.counts,
+        c.in-Ok.ensures.packs,
+        c.in-Ok.ensures.asks,
+        inr (_, refl, c.in_err-tell_packed-in-Ok.ensures.untold),
+      ),
+    ))
+
 pub returns-in-Ok-clause-packs : goal.returns-in-Ok-clause-packs
 returns-in-Ok-clause-packs g c = rw (← c.is_matroska.ensures) (inl (
   _,
@@ -16,7 +36,7 @@ returns-in-Ok-clause-packs g c = rw (← c.is_matroska.ensures) (inl (
   c.pack_into.new.output,
   c.in_ok-reader.ensures.opened,
   c.in_ok-reader.ensures.made,
-  (Ok c.in-Ok.counts, c.in-Ok.ensures.packs, c.in-Ok.ensures.asks, c.tell_packed.ensures.untold),
+  (Ok c.in-Ok.counts, c.in-Ok.ensures.packs, c.in-Ok.ensures.asks, inl refl),
 ))
 
 pub returns-clause-packs : goal.returns-clause-packs

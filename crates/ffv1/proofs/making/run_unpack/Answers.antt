@@ -8,6 +8,25 @@ returns-in_err-reader-clause-unpacks g c =
     let p = err_from_is_err_and c.from_residual.result c.from_residual.ensures.1 in
     rw (p.1, p.2) (inr (_, c.in_err-reader.ensures.missed, refl))
 
+pub returns-in_err-tell_unpacked-in-Ok-clause-unpacks :
+    goal.returns-in_err-tell_unpacked-in-Ok-clause-unpacks
+returns-in_err-tell_unpacked-in-Ok-clause-unpacks g c =
+    let p = err_from_is_err_and c.from_residual-in_err-tell_unpacked-in-Ok.result
+    c.from_residual-in_err-tell_unpacked-in-Ok.ensures.1 in
+    rw (p.1, p.2) (inl (
+      _,
+      c.unpack_stream-written.new.input,
+      _,
+      c.unpack_stream-written.result.0,
+      c.in_ok-reader.ensures.opened,
+      c.in_ok-reader.ensures.made,
+      (
+        c.unpack_stream-written.result.1,
+        c.unpack_stream-written.ensures.unpacks,
+        rw c.in-Ok.is (inr (_, refl, c.in_err-tell_unpacked-in-Ok.ensures.untold)),
+      ),
+    ))
+
 pub returns-in-Ok-clause-unpacks : goal.returns-in-Ok-clause-unpacks
 returns-in-Ok-clause-unpacks g c = inl (
   _,
@@ -19,7 +38,7 @@ returns-in-Ok-clause-unpacks g c = inl (
   (
     c.unpack_stream-written.result.1,
     c.unpack_stream-written.ensures.unpacks,
-    rw c.in-Ok.is c.tell_unpacked.ensures.untold,
+    rw c.in-Ok.is (inl c.noted.ensures.value),
   ),
 )
 

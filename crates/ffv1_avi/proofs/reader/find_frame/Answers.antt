@@ -8,7 +8,8 @@ use Rattle.ffv1_avi.proofs.EndReadings.{none_ends, none_given, none_read, none_r
 use Rattle.ffv1_avi.proofs.EndReadings.{none_refused_end, read_extent, refused_extent, some_read}
 use Rattle.ffv1_avi.proofs.Moves.{frame_step, moved_less}
 use Rattle.ffv1_reads.proofs.Reading.{goes_none, goes_read, goes_same}
-use Rattle.ffv1_avi.proofs.RiffReadings.{reads_still, stops_then, up_to_then}
+use Rattle.ffv1_avi.proofs.RiffReadings.{reads_still, stops_then, tells_same, tells_then}
+use Rattle.ffv1_avi.proofs.RiffReadings.{up_to_then}
 use Rattle.ffv1_avi.proofs.EndReadings.{none_err}
 use Rattle.ffv1_avi.proofs.reader.find_frame.Goals as goal
 
@@ -115,3 +116,22 @@ pub returns-in-Some-clause-sized : goal.returns-in-Some-clause-sized
 returns-in-Some-clause-sized g c =
     let size = rw c.in-Some.is at c.in_ok-size.ensures.sized in
     rw (← c.loop-size.invariant.2) size
+
+pub returns-in_err-size-clause-behind : goal.returns-in_err-size-clause-behind
+returns-in_err-size-clause-behind g c =
+    let p = err_from_is_err_and c.from_residual.result c.from_residual.ensures.1 in rw (p.1) tt
+
+pub returns-in_err-next-clause-behind : goal.returns-in_err-next-clause-behind
+returns-in_err-next-clause-behind g c =
+    let p = err_from_is_err_and c.from_residual-in_err-next.result
+    c.from_residual-in_err-next.ensures.1 in
+    rw (p.1) tt
+
+pub returns-in_default-2-clause-behind : goal.returns-in_default-2-clause-behind
+returns-in_default-2-clause-behind g c =
+    let place = c.loop-size.place in
+    let inv = c.loop-size.invariant in
+    let chunks = up_to_then inv.3 (rw c.in_default.is at c.in_ok-size.ensures.from) in
+    λ none. tells_same _ _ _ _ _ (extent_of place) (extent_of c.args.place) inv.1
+    (tells_then _ _ (extent_of place) chunks
+    (rw c.in_default-2.is at c.in_ok-next.ensures.behind refl))

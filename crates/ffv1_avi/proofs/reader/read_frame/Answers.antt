@@ -198,3 +198,23 @@ returns-clause-names g c =
     let read = some_read (extent_of c.args.place) (frame_found c.args.place) _ _ frame
     (rw c.in-Some.is at c.in_ok-size.ensures.answer).1 in
     (frame_less_at c.args.place c.in-Some.after c.in-Some.size (read.bytes ++ []) [] (read.is [])).2
+
+pub returns-in_err-size-clause-behind : goal.returns-in_err-size-clause-behind
+returns-in_err-size-clause-behind g c =
+    let p = err_from_is_err_and c.from_residual.result c.from_residual.ensures.1 in rw (p.1) tt
+
+pub returns-in_default-clause-behind : goal.returns-in_default-clause-behind
+returns-in_default-clause-behind g c = λ none.
+    rw c.in_default.is at c.in_ok-size.ensures.behind refl
+
+pub returns-in_err-fill-clause-behind : goal.returns-in_err-fill-clause-behind
+returns-in_err-fill-clause-behind g c =
+    let p = err_from_is_err_and c.from_residual-in_err-fill.result
+    c.from_residual-in_err-fill.ensures.1 in
+    rw (p.1) tt
+
+pub returns-in_err-pass-clause-behind : goal.returns-in_err-pass-clause-behind
+returns-in_err-pass-clause-behind g c =
+    let p = err_from_is_err_and c.from_residual-in_err-pass.result
+    c.from_residual-in_err-pass.ensures.1 in
+    rw (p.1) tt

@@ -7,8 +7,8 @@ use Rattle.ffv1_avi.specs.Files.{moved, movi_or_riff, movi_sought, riff_begun}
 use Rattle.ffv1_avi.specs.Places.{extent_of}
 use Rattle.ffv1_reads.specs.Reads.{◌>>=◌}
 use Rattle.ffv1_avi.proofs.EndReadings.{none_given, none_last, none_refused}
-use Rattle.ffv1_avi.proofs.Moves.{extent_every, moved_every, moved_first}
-use Rattle.ffv1_avi.proofs.RiffReadings.{moves_then}
+use Rattle.ffv1_avi.proofs.Moves.{extent_every, extent_first, moved_every, moved_first}
+use Rattle.ffv1_avi.proofs.RiffReadings.{moves_behind, moves_then}
 use Rattle.ffv1_reads.proofs.Reading.{consumes_none, goes_none, goes_read, goes_same}
 use Rattle.ffv1_avi.proofs.EndReadings.{none_err}
 use Rattle.ffv1_avi.proofs.riff.move_on.Goals as goal
@@ -64,3 +64,18 @@ pub returns-clause-from : goal.returns-clause-from
 returns-clause-from g c =
     let some : 0 < c.args.place.input = omega (arith, c.if-place-eq0.false) in
     rw c.in-Some.is at c.in_ok-movi.ensures.from some
+
+pub returns-then-place-eq0-clause-behind : goal.returns-then-place-eq0-clause-behind
+returns-then-place-eq0-clause-behind g c = λ none.
+    rw (extent_first c.args.place c.if-place-eq0.true) refl
+
+pub returns-in_err-movi-clause-behind : goal.returns-in_err-movi-clause-behind
+returns-in_err-movi-clause-behind g c =
+    let p = err_from_is_err_and c.from_residual.result c.from_residual.ensures.1 in rw (p.1) tt
+
+pub returns-in_default-clause-behind : goal.returns-in_default-clause-behind
+returns-in_default-clause-behind g c =
+    let some : 0 < c.args.place.input = omega (arith, c.if-place-eq0.false) in
+    moves_behind _ _ _ _ c.args.place c.count_riff.result some
+    (rw c.in_default.is at c.in_ok-movi.ensures.from some) c.count_riff.ensures.answer
+    c.count_riff.ensures.told

@@ -1,6 +1,6 @@
 -- Opens the slice of a column.
-use Rattle.std.proofs.Common.{rules, ◌≡◌, ℕ, ◌+◌, ◌-◌, ◌<◌, ◌≤◌, refl, ap, subst, ◌∙◌, Some, length}
-use Rattle.std.proofs.Common.{slice_index, replicate, ◌++◌, arith}
+use Rattle.std.proofs.Common.{rules, ◌≡◌, ℕ, ◌+◌, ◌-◌, ◌<◌, ◌≤◌, refl, ap, subst, sym, ◌∙◌, Some}
+use Rattle.std.proofs.Common.{length, slice_index, replicate, ◌++◌, arith}
 use Rattle.std.proofs.lemmas.Result.{err_from_is_err_and}
 use Rattle.ffv1_decode.specs.Internal.Stands.{told_by, tally_after}
 use Rattle.ffv1_frame.specs.Windows.{window}
@@ -9,6 +9,7 @@ use Rattle.ffv1_range.specs.History.{HasStates}
 use Rattle.ffv1_slice.specs.Cutting.{span_of}
 use Rattle.ffv1_slice.specs.Head.{key_steps, head_steps}
 use Rattle.ffv1_frame.specs.Decoding.{AgreesWith}
+use Rattle.ffv1_decode.proofs.BitsTied.{none_is_not}
 use Rattle.ffv1_decode.proofs.Openings.{span_known, begins_before, ends_inside, opening_below}
 use Rattle.ffv1_decode.proofs.Openings.{fresh_has, head_told, column_opened, column_differs}
 use Rattle.ffv1_decode.proofs.Openings.{column_overread, column_stopped, column_bad, indexes_few}
@@ -137,6 +138,8 @@ returns-then-agrees-clause-open g c =
       inside = inside g (goal.at.returns-then-agrees-clause-open g c).After-unwrap-begin;
       index = indexes_few a.configuration.extra_plane (length a.configuration.sets)
           c.in_ok-head.head.indexes (omega (arith, head.first)) head.first head.second head.third;
+      left = λ n is. none_is_not n (sym is);
+      run = omega arith;
     }
 
 pub returns-clause-exact : goal.returns-clause-exact

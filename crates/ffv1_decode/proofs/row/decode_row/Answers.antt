@@ -1,10 +1,11 @@
 -- Decodes a row of slices.
-use Rattle.std.proofs.Common.{◌≡◌, refl, ℕ, ◌∙◌, ◌++◌, ap, List, length, take}
-use Rattle.std.proofs.Common.{drop, arith}
+use Rattle.std.proofs.Common.{◌≡◌, refl, ℕ, ◌∙◌, ◌++◌, ap, sym, false, List, length, take}
+use Rattle.std.proofs.Common.{drop, arith, replicate}
 use Rattle.std.proofs.lemmas.List.{with_items_is}
 use Rattle.std.proofs.lemmas.Result.{err_from_is_err_and, MatchResult-weaker}
 use Rattle.std.proofs.lemmas.Nat.{pow_pos}
 use Rattle.std.proofs.lemmas.Grind.{common_steps}
+use Rattle.ffv1_record.specs.Accepted.{is_rice}
 use Rattle.ffv1_decode.specs.Internal.Opened.{coded_by}
 use Rattle.ffv1_decode.specs.Internal.RowParts.{IsRow}
 use Rattle.ffv1_decode.specs.Internal.Tied.{RowSlices, TiedColumns, row_slices}
@@ -23,14 +24,14 @@ use Rattle.ffv1_decode.proofs.row.decode_row.Goals as goal
 
 -- the columns that were opened, and the states, are given back to the buffers
 back : (g : Over) (c : After-open_row g) (P : RowSlices → Type 0) →
-    P (row_slices c.open_row.new.columns c.reset.new.states) →
+    P (row_slices c.open_row.new.columns c.renew_states.new.states) →
     P (row_slices (take c.args.buffers.now.slices.columns.len (c.open_row.new.columns
     ++ drop (length c.open_row.new.columns) c.args.buffers.now.slices.columns.items))
-    (take c.args.buffers.now.slices.states.len (c.reset.new.states
-    ++ drop (length c.reset.new.states) c.args.buffers.now.slices.states.items)))
-back g c P = given_back c.args.buffers.now.slices c.open_row.new.columns c.reset.new.states P
+    (take c.args.buffers.now.slices.states.len (c.renew_states.new.states
+    ++ drop (length c.renew_states.new.states) c.args.buffers.now.slices.states.items)))
+back g c P = given_back c.args.buffers.now.slices c.open_row.new.columns c.renew_states.new.states P
     (c.open_row.auto.columns ∙ c.deref_mut-2.ensures.len)
-    (c.reset.auto.states ∙ c.deref_mut.ensures.len)
+    (c.renew_states.auto.states ∙ c.deref_mut.ensures.len)
 
 pub returns-in_err-open_row-clause-exact : goal.returns-in_err-open_row-clause-exact
 returns-in_err-open_row-clause-exact g c = λ initial s between above grows.
@@ -57,10 +58,15 @@ returns-clause-exact g c = λ initial s between above grows.
     let here = (goal.at.returns-clause-exact g c).After-open_row in
     let opened = c.in_ok-open_row.ensures.exact s between.known between.fresh between.says in
     let long = c.open_row.auto.columns ∙ ap length c.deref_mut-2.ensures.value ∙ c.requires.many in
+    let same_long : length c.renew_states.new.states ≡ length c.deref_mut.result.now =
+    c.renew_states.auto.states in
+    let range : is_rice a.configuration.coder ≡ false →
+    c.renew_states.new.states ≡ replicate (length c.renew_states.new.states) 128 =
+    λ is. c.renew_states.ensures.range is ∙ ap (λ n. replicate n 128) (sym same_long) in
     let tied = opened_tied a coded payload c.args.row c.open_row.new.columns c.open_row.new.first s
-    opened long c.reset.new.states (length c.deref_mut.result.now) c.reset.ensures
-    (ap length c.deref_mut.ensures.value ∙ c.requires.room)
-    (pow_pos (bits_of a.configuration)) in
+    opened long c.renew_states.new.states range c.renew_states.ensures.rice
+    (same_long ∙ ap length c.deref_mut.ensures.value ∙ c.requires.room)
+    c.in_ok-open_row.ensures.open (pow_pos (bits_of a.configuration)) in
     let tied = back g here (λ z. TiedColumns a coded c.args.row 0 payload z opened.state) tied in
     let grown = opened_grows takes refuses a coded initial c.args.row payload s c.open_row.new.first
     c.open_row.new.columns opened c.args.sink.now grows in
@@ -88,6 +94,9 @@ returns-clause-exact g c = λ initial s between above grows.
 pub returns-in_err-open_row-clause-same : goal.returns-in_err-open_row-clause-same
 returns-in_err-open_row-clause-same g c = grind (arith, common_steps)
 
+pub renew_states-requires-clause-room : goal.renew_states-requires-clause-room
+renew_states-requires-clause-room g c = ap length c.deref_mut.ensures.value ∙ c.requires.room
+
 pub decode_lines-requires-clause-row : goal.decode_lines-requires-clause-row
 decode_lines-requires-clause-row g c =
     back g (goal.at.decode_lines-requires-clause-row g c).After-open_row
@@ -96,8 +105,8 @@ decode_lines-requires-clause-row g c =
       row = c.requires.row;
       many = c.open_row.auto.columns ∙ ap length c.deref_mut-2.ensures.value ∙ c.requires.many;
       opened = c.in_ok-open_row.ensures.open;
-      room = c.reset.auto.states ∙ ap length c.deref_mut.ensures.value ∙ c.requires.room;
-      held = grind (arith, common_steps);
+      room = c.renew_states.auto.states ∙ ap length c.deref_mut.ensures.value ∙ c.requires.room;
+      held = c.renew_states.ensures.kept;
     })
 
 pub returns-clause-same : goal.returns-clause-same
@@ -115,7 +124,7 @@ returns-clause-same g c =
         columns = same.columns ∙ back g here (λ z. length z.columns ≡ length slices.columns.items)
             (c.open_row.auto.columns ∙ ap length c.deref_mut-2.ensures.value);
         states = same.states ∙ back g here (λ z. length z.states ≡ length slices.states.items)
-            (c.reset.auto.states ∙ ap length c.deref_mut.ensures.value);
+            (c.renew_states.auto.states ∙ ap length c.deref_mut.ensures.value);
         columns_capacity = same.columns_capacity;
         states_capacity = same.states_capacity;
       };

@@ -1,13 +1,13 @@
 -- Reads a segment into its place of a line, and looks at how far its slice was read, at what the
 -- slice to the left says, and at its end.
-use Rattle.std.proofs.Common.{◌≡◌, ◌≢◌, ◌+◌, ◌*◌, ◌<◌, ◌≤◌, [], ◌∷◌, refl, subst, sym, ◌∙◌, length}
-use Rattle.std.proofs.Common.{slice_index, slice_index_or, arith, ℕ, List, inl, inr}
+use Rattle.std.proofs.Common.{◌≡◌, ◌≢◌, ◌+◌, ◌*◌, ◌<◌, ◌≤◌, [], ◌∷◌, refl, ap, subst, sym, ◌∙◌}
+use Rattle.std.proofs.Common.{slice_index, slice_index_or, arith, ℕ, List, inl, inr, length}
 use Rattle.std.proofs.lemmas.List.{get_or_default}
 use Rattle.std.proofs.lemmas.Result.{err_from_is_err_and}
 use Rattle.ffv1_slice.specs.Grid.{division_of, across, shared_of}
 use Rattle.ffv1_frame.specs.declared.fault.FrameFault.{FrameFault}
 use Rattle.ffv1_frame.specs.Order.Event.{Read}
-use Rattle.ffv1_frame.specs.Decoding.{State, Agrees, left_of, width_in, left_sample}
+use Rattle.ffv1_frame.specs.Decoding.{State, Agrees, fault_in, left_of, width_in, left_sample}
 use Rattle.ffv1_frame.specs.Decoding.{above_sample}
 use Rattle.ffv1_record.specs.Configuration.{Configuration}
 use Rattle.ffv1_decode.specs.Internal.Places.{AreParts}
@@ -117,6 +117,12 @@ lacks_ending-requires-clause-inside g c =
     let here = (goal.at.lacks_ending-requires-clause-inside g c).After-index-columns-segment in
     rw (column_is g here) ((c.in_ok-read_on.ensures.row.opened k (few g here)).inside)
 
+pub lacks_ending-requires-clause-left : goal.lacks_ending-requires-clause-left
+lacks_ending-requires-clause-left g c =
+    let k = c.args.segment.now.column in
+    let here = (goal.at.lacks_ending-requires-clause-left g c).After-index-columns-segment in
+    rw (column_is g here) ((c.in_ok-read_on.ensures.row.opened k (few g here)).left)
+
 pub returns-then-is_overread-clause-exact : goal.returns-then-is_overread-clause-exact
 returns-then-is_overread-clause-exact g c = λ coded next s less tied line kept.
     let a = c.args.frame.now.checked.now in
@@ -208,7 +214,9 @@ returns-then-lacks_ending-clause-exact g c = λ coded next s less tied line kept
     let lacks = rw (column_is g here) at (c.if-lacks_ending.ensures.yes refl) in
     subst (λ (f : FrameFault). Stopped a coded columns
     (Read segment.row k segment.plane segment.y ∷ []) f s) (sym
-    c.fault_in-then-lacks_ending.ensures)
+    (c.fault_in-then-lacks_ending.ensures
+    ∙ ap (λ z. fault_in a.configuration z segment.row k segment.plane segment.y 0)
+    c.ending_fault.ensures))
     (unended_looked a coded segment.row next c.args.frame.now.payload.now segment.plane offset
     segment.y k
     columns c.read_on.new.states two one cur s made c.requires.segment.column

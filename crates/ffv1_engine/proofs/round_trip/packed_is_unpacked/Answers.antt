@@ -22,6 +22,8 @@ use Rattle.ffv1_engine.proofs.PackedIsUnpacked.{given, holds, packed_so, read_in
 use Rattle.ffv1_engine.proofs.PackedIsUnpacked.{same_video, show_refused, unpack_refused, written}
 use Rattle.ffv1_engine.proofs.PackedPictures.{name_given}
 use Rattle.ffv1_engine.proofs.PackedText.{RecordLaws}
+use Rattle.ffv1_engine.proofs.PackedIsUnpacked.{noted_so, none_behind}
+use Rattle.ffv1_engine.proofs.MatroskaUnpacked.{file_first}
 use Rattle.ffv1_engine.proofs.round_trip.packed_is_unpacked.Goals as goal
 
 file_laws : (profile : Profile) → goal.After-written_bytes_are_a_record → FileLaws profile
@@ -114,11 +116,18 @@ returns-clause-holds c = λ packing profile choice text w read.
     (record_laws c) choice text w read)
 
 pub returns-clause-written : goal.returns-clause-written
-returns-clause-written c = λ packing profile choice text w input output count read.
+returns-clause-written c = λ packing profile choice text w input output count notes read.
     written profile (file_laws profile c) (frame_laws c) (record_laws c) (plain_choice choice) (video_in w) (accepted_as profile w) refl read.deep (given packing profile (file_laws profile c) (frame_laws c) choice text w read)
     (packed_file choice (text_video w) (accepted_as profile w))
     (avi_reads packing profile (file_laws profile c) (frame_laws c) (record_laws c) choice text w
-    read) input output count
+    read) input output count notes
+
+pub returns-clause-noted : goal.returns-clause-noted
+returns-clause-noted c = λ packing profile choice text w input output count notes read.
+    noted_so profile (file_laws profile c) (frame_laws c) (record_laws c) (plain_choice choice) (video_in w) (accepted_as profile w) refl read.deep (given packing profile (file_laws profile c) (frame_laws c) choice text w read)
+    (packed_file choice (text_video w) (accepted_as profile w))
+    (avi_reads packing profile (file_laws profile c) (frame_laws c) (record_laws c) choice text w
+    read) input output count notes
 
 pub returns-clause-refused : goal.returns-clause-refused
 returns-clause-refused c = λ packing profile choice text w input output f read known stops.
@@ -176,6 +185,19 @@ returns-clause-matroska_written c = λ packing choice text w.
     (choice_for packing choice w.packs.video.head) w.packs.video (accepted_wide w) refl
     (read_wide packing choice text w).deep (of_matroska packing (file_laws Wide c) (frame_laws c) choice text w) (matroska_file w)
     (file_reads packing (frame_laws c) (record_laws c) (matroska_laws c) choice text w)
+
+pub returns-clause-matroska_noted : goal.returns-clause-matroska_noted
+returns-clause-matroska_noted c = λ packing choice text w input output count notes known done. (
+  noted_so Wide (file_laws Wide c) (frame_laws c) (record_laws c)
+      (choice_for packing choice w.packs.video.head) w.packs.video (accepted_wide w) refl
+      (read_wide packing choice text w).deep (of_matroska packing (file_laws Wide c) (frame_laws c) choice text w) (matroska_file w)
+      (file_reads packing (frame_laws c) (record_laws c) (matroska_laws c) choice text w) input output count notes known done,
+  none_behind Wide (file_laws Wide c) (frame_laws c) (record_laws c)
+      (choice_for packing choice w.packs.video.head) w.packs.video (accepted_wide w) refl
+      (read_wide packing choice text w).deep (of_matroska packing (file_laws Wide c) (frame_laws c) choice text w) (matroska_file w)
+      (file_reads packing (frame_laws c) (record_laws c) (matroska_laws c) choice text w)
+      (file_first packing (frame_laws c) (record_laws c) (matroska_laws c) choice text w) input output count notes known done,
+)
 
 pub returns-clause-matroska_refused : goal.returns-clause-matroska_refused
 returns-clause-matroska_refused c = λ packing choice text w input output f known stops.

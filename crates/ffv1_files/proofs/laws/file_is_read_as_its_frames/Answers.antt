@@ -6,5 +6,5 @@ pub returns-clause-first : goal.returns-clause-first
 returns-clause-first c = first_read c.file_is_read_as_its_frames.ensures.read
 
 pub returns-clause-whole : goal.returns-clause-whole
-returns-clause-whole c = whole_read c.file_is_read_as_its_frames.ensures.every
+returns-clause-whole c = whole_read c.file_is_read_as_its_frames.ensures.every_then
     c.file_is_read_as_its_frames-2.ensures.read

@@ -1,5 +1,5 @@
 -- Looks at the first byte of a file, and opens it as what it is.
-use Rattle.std.proofs.Common.{◌≡◌, subst, true, ◌∙◌}
+use Rattle.std.proofs.Common.{◌≡◌, subst, ◌∙◌}
 use Rattle.ffv1_wire.specs.Passage.{between}
 use Rattle.ffv1_wire.specs.Reads.{GivesByte}
 use Rattle.ffv1_reads.specs.Ends.{ReadOrOver, RefusedOrFaults}

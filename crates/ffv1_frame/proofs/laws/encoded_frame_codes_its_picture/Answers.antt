@@ -12,7 +12,9 @@ use Rattle.ffv1_record.specs.Accepted.{Accepted}
 use Rattle.ffv1_slice.specs.Footer.{foot_length}
 use Rattle.ffv1_slice.specs.Cutting.{AreCodedBytes, coded_of, offset_in}
 use Rattle.ffv1_frame.specs.Picture.{Planes, cell_in}
-use Rattle.ffv1_frame.specs.SliceList.{Said, CodesSlice, chosen_slice, chosen_head, chosen_body}
+use Rattle.ffv1_frame.specs.SliceList.{Said, chosen_slice, chosen_head, chosen_body}
+use Rattle.ffv1_frame.specs.CodedSlice.{CodesSlice}
+use Rattle.ffv1_frame.proofs.Coders.{by_range}
 use Rattle.ffv1_frame.specs.SliceList.{lines_in}
 use Rattle.ffv1_frame.specs.Frame.{HasLongSlice, slice_bytes, slices_bytes, frame_of}
 use Rattle.ffv1_frame.proofs.Aspects.{said_chosen}
@@ -51,7 +53,7 @@ not_long a planes info n none inside = elim (cases_lt 16777215
     ]
 
 pub returns : goal.returns
-returns c = λ a planes info is picture said none.
+returns c = λ a planes info is range picture said none.
     let conf = a.configuration in
     let count : ℕ = conf.columns * conf.rows in
     let f : ℕ → List ℕ = slice_bytes a planes info in
@@ -78,15 +80,15 @@ returns c = λ a planes info is picture said none.
             is_head = c.chosen_slices_suit_their_picture.ensures.head a info is said;
             says = said_chosen a.profile conf info said.aspect;
             body = chosen_body conf head (cell_in conf planes n) (lines_in conf n);
-            is_body = c.chosen_slices_suit_their_picture.ensures.body a planes info n is picture;
+            is_body = by_range range (c.chosen_slices_suit_their_picture.ensures.body a planes info n is picture);
             codes = c.sentinel_ending_codes_its_list.ensures.codes
                 (decisions_after a.table [] steps)
                 (c.each_decision_has_a_state.ensures.named a.table [] steps is.closed);
-            ending = record {
+            ending = by_range range (record {
               ended = λ wide. c.ended_bytes_are_near_the_sentinel_ending.ensures.sentinel
                   (decisions_after a.table [] steps)
                   (c.each_decision_has_a_state.ensures.named a.table [] steps is.closed);
-            };
+            });
           } in
           subst (λ bs. CodesSlice bs a planes info n) here slice;
     }

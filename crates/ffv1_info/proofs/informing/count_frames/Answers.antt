@@ -11,8 +11,8 @@ use Rattle.ffv1_video.specs.Faults.{cause_of, of_avi}
 use Rattle.ffv1_unpack.proofs.FileSteps.{file_stops}
 use Rattle.ffv1_unpack.proofs.FramesInTurn.{counted_more}
 use Rattle.ffv1_unpack.proofs.FramesPassed.{pass_more, pass_none}
-use Rattle.ffv1_unpack.proofs.OwnFaults.{frame_tells}
-use Rattle.ffv1_info.proofs.FramesRead.{ends_by, others_read}
+use Rattle.ffv1_unpack.proofs.OwnFaults.{frame_tells, told_on}
+use Rattle.ffv1_info.proofs.FramesRead.{ends_by, others_read, stands_next}
 use Rattle.ffv1_info.proofs.informing.count_frames.Goals as goal
 
 pub frames-init : goal.frames-init
@@ -27,6 +27,7 @@ frames-init g c =
         pass_none c.args.reader.now.place (g.R.ByteIn.remaining c.args.input.now)
             (g.R.ByteIn.failures c.args.input.now),
       ),
+      (λ scope text stands. stands),
     )
 
 pub frames-preserved : goal.frames-preserved
@@ -55,6 +56,10 @@ frames-preserved g c =
             (g.R.ByteIn.failures c.next_frame.new.input) so.0 payload so.2
             (record { kept = read.0; next = read.1 }),
       ),
+      (λ scope text stands. stands_next c.frames.reader c.next_frame.new.self input
+          c.in_ok-next_frame.field-0 c.if-branch.true
+          (c.in_ok-next_frame.ensures.located i.0) (λ ends. c.in_ok-next_frame.ensures.ends ends)
+          (c.in_ok-next_frame.ensures.noted i.0) scope text (i.4 scope text stands)),
     )
 
 pub returns-in_err-next_frame-clause-err : goal.returns-in_err-next_frame-clause-err
@@ -83,7 +88,10 @@ pub returns-in_err-next_frame-clause-own : goal.returns-in_err-next_frame-clause
 returns-in_err-next_frame-clause-own g c =
     let p = err_from_is_err_and c.from_residual.result c.from_residual.ensures.1 in
     let i = c.frames.invariant in
-    rw (p.1, p.2) (rw i.2 at (frame_tells c.frames.reader.place
+    rw (p.1, p.2) (told_on c.args.reader.now c.frames.reader
+    (passage g.R.ByteIn.remaining g.R.ByteIn.failures c.args.input.now c.frames.input)
+    (of_avi c.in_err-next_frame.field-0.0) i.2 i.4
+    (frame_tells c.frames.reader (g.R.ByteIn.remaining c.frames.input)
     c.in_err-next_frame.field-0.0 (c.in_err-next_frame.ensures.own i.0)))
 
 pub returns-clause-ok : goal.returns-clause-ok

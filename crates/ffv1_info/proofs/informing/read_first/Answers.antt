@@ -1,6 +1,6 @@
 -- Reads the first frame and decodes it, and answers what it says of its picture; None if there is
 -- none.
-use Rattle.std.proofs.Common.{◌≡◌, Bool, refl, true, Some, None, Ok, [], inl, inr, ap, sym, subst, ◌∙◌}
+use Rattle.std.proofs.Common.{◌≡◌, Bool, refl, true, false, Some, None, Ok, [], inl, inr, ap, sym, subst, ◌∙◌}
 use Rattle.ffv1_wire.specs.Passage.{passage}
 use Rattle.ffv1_record.specs.Accepted.{Accepted}
 use Rattle.ffv1_slice.specs.Grid.{division_of}
@@ -19,7 +19,7 @@ use Rattle.ffv1_unpack.proofs.FileSteps.{file_stops}
 use Rattle.ffv1_unpack.proofs.FrameDecoded.{is_decided, is_faulty}
 use Rattle.ffv1_unpack.proofs.FramesPassed.{pass_none}
 use Rattle.ffv1_unpack.proofs.OwnFaults.{frame_tells, payload_tells}
-use Rattle.ffv1_info.proofs.FramesRead.{ends_by}
+use Rattle.ffv1_info.proofs.FramesRead.{ends_by, stands_next}
 use Rattle.ffv1_info.proofs.informing.read_first.Goals as goal
 
 pub returns-in-Ok-false-clause-ok : goal.returns-in-Ok-false-clause-ok
@@ -133,5 +133,16 @@ returns-in-Err-clause-err g c =
 
 pub returns-in-Err-clause-own : goal.returns-in-Err-clause-own
 returns-in-Err-clause-own g c =
-    rw c.from-in-Err.ensures (frame_tells c.args.reader.now.place c.in-Err.fault
+    rw c.from-in-Err.ensures (frame_tells c.args.reader.now
+    (g.R.ByteIn.remaining c.args.input.now) c.in-Err.fault
     (c.in-Err.ensures.own c.requires.sound))
+
+pub returns-in-Ok-clause-stays : goal.returns-in-Ok-clause-stays
+returns-in-Ok-clause-stays g c = λ some. stands_next c.args.reader.now c.next_frame.new.self
+    (passage g.R.ByteIn.remaining g.R.ByteIn.failures c.args.input.now c.next_frame.new.input)
+    c.in-Ok-true.field-0 c.in-Ok-true.field-0-test
+    (c.in-Ok-true.ensures.located c.requires.sound) (λ ends. c.in-Ok-true.ensures.ends ends)
+    (c.in-Ok-true.ensures.noted c.requires.sound)
+
+pub returns-in-Ok-false-clause-stays : goal.returns-in-Ok-false-clause-stays
+returns-in-Ok-false-clause-stays g c = λ some. absurd (let no : false ≡ true = some in cc)

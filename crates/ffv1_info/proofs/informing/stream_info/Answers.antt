@@ -6,7 +6,8 @@ use Rattle.ffv1_record.specs.Reading.{IsRefused, ReachesSets}
 use Rattle.ffv1_record.specs.declared.fault.RecordFault.TheVariants as record_fault
 use Rattle.ffv1_reads.specs.Head.{Head}
 use Rattle.ffv1_video.specs.Faults.{of_avi, of_record}
-use Rattle.ffv1_video.specs.Profiles.{greatest_depth, record_profile}
+use Rattle.ffv1_video.specs.Profiles.{greatest_depth, record_profile, scope_in}
+use Rattle.ffv1_unpack.specs.Located.{Stands}
 use Rattle.ffv1_unpack.specs.Opens.{HasSoundRecord}
 use Rattle.ffv1_unpack.specs.Stream.{IsStream}
 use Rattle.ffv1_unpack.proofs.OwnFaults.{file_opens, line_shows, opened_shows, record_opens}
@@ -21,9 +22,9 @@ pub returns-in_err-reader-clause-err : goal.returns-in_err-reader-clause-err
 returns-in_err-reader-clause-err g c =
     let p = err_from_is_err_and c.from_residual.result c.from_residual.ensures.1 in
     rw (p.1, p.2) (lacks_head c.args.profile c.args.form c.args.count
-    (g.R.ByteIn.remaining c.args.input.now) (g.R.ByteIn.remaining c.open.new.input)
+    (g.R.ByteIn.remaining c.args.input.now) (g.R.ByteIn.remaining c.open_located.new.input)
     (g.W.ByteOut.contents c.args.output.now) (g.R.ByteIn.failures c.args.input.now)
-    (g.R.ByteIn.failures c.open.new.input) (g.W.ByteOut.failures c.args.output.now)
+    (g.R.ByteIn.failures c.open_located.new.input) (g.W.ByteOut.failures c.args.output.now)
     c.in_err-reader.field-0.0 (rw c.scope.ensures at c.in_err-reader.ensures.answer))
 
 pub returns-in_err-reader-clause-own : goal.returns-in_err-reader-clause-own
@@ -43,8 +44,8 @@ returns-in_err-write_head-clause-err g c =
     let om = g.W.ByteOut.failures c.write_head.new.output in
     let f = c.in_err-write_head.field-0.0 in
     rw (p.1, p.2) (head_stops c.args.profile c.args.form c.args.count
-    (g.R.ByteIn.remaining c.args.input.now) (g.R.ByteIn.remaining c.open.new.input)
-    (g.R.ByteIn.failures c.args.input.now) (g.R.ByteIn.failures c.open.new.input)
+    (g.R.ByteIn.remaining c.args.input.now) (g.R.ByteIn.remaining c.open_located.new.input)
+    (g.R.ByteIn.failures c.args.input.now) (g.R.ByteIn.failures c.open_located.new.input)
     c.in_ok-reader.reader (rw c.scope.ensures at c.in_ok-reader.ensures.answer.1)
     c.in_ok-reader.ensures.answer.0 o0 o1 ob om f
     (head_told c.args.form (between o0 o1 ob om) (Err f) c.head.ensures.value
@@ -71,15 +72,16 @@ returns-in_err-checked-clause-err g c =
     (head_told c.args.form (between o0 o1 ob om) (Ok c.in_ok-write_head.field-0)
     c.head.ensures.value c.in_ok-write_head.ensures) in
     rw (p.1, p.2) (record_stops c.args.profile c.args.form c.args.count
-    (g.R.ByteIn.remaining c.args.input.now) (g.R.ByteIn.remaining c.open.new.input)
-    (g.R.ByteIn.failures c.args.input.now) (g.R.ByteIn.failures c.open.new.input)
+    (g.R.ByteIn.remaining c.args.input.now) (g.R.ByteIn.remaining c.open_located.new.input)
+    (g.R.ByteIn.failures c.args.input.now) (g.R.ByteIn.failures c.open_located.new.input)
     r (rw c.scope.ensures at c.in_ok-reader.ensures.answer.1)
     c.in_ok-reader.ensures.answer.0 o0 o1 ob om wrote (of_record f)
     (lacks_record c.args.profile r.head f
     (subst (λ (z : Head). (f ≡ record_fault.OutOfMemory) ⊎ IsRefused (record_profile
     c.args.profile) (greatest_depth c.args.profile) z.config_record z.width z.height f)
     c.head-2.ensures.value c.in_err-checked.ensures.err)
-    (λ memory. subst (λ (z : Head). ReachesSets (greatest_depth c.args.profile) z.config_record)
+    (λ memory. subst (λ (z : Head). ReachesSets (record_profile c.args.profile)
+    (greatest_depth c.args.profile) z.config_record)
     c.head-2.ensures.value (c.in_err-checked.ensures.memory memory))
     (λ memory. subst (λ (z : Head). HasSoundRecord c.args.profile z)
     c.head-2.ensures.value (c.in_err-checked.ensures.sound memory))))
@@ -110,8 +112,8 @@ returns-in_err-write_record-clause-err g c =
     let is = subst (λ (z : Head). IsStream c.args.profile (record { head = z; accepted = a }))
     c.head-2.ensures.value c.in_ok-checked.ensures.ok in
     rw (p.1, p.2) (stream_stops c.args.profile c.args.form c.args.count
-    (g.R.ByteIn.remaining c.args.input.now) (g.R.ByteIn.remaining c.open.new.input)
-    (g.R.ByteIn.failures c.args.input.now) (g.R.ByteIn.failures c.open.new.input)
+    (g.R.ByteIn.remaining c.args.input.now) (g.R.ByteIn.remaining c.open_located.new.input)
+    (g.R.ByteIn.failures c.args.input.now) (g.R.ByteIn.failures c.open_located.new.input)
     r (rw c.scope.ensures at c.in_ok-reader.ensures.answer.1)
     c.in_ok-reader.ensures.answer.0 o0 o1 ob om wrote a is o2 oa f
     c.in_err-write_record.ensures)
@@ -146,8 +148,8 @@ returns-in_err-tell_frames-clause-err g c =
     let is = subst (λ (z : Head). IsStream c.args.profile (record { head = z; accepted = a }))
     c.head-2.ensures.value c.in_ok-checked.ensures.ok in
     rw (p.1, p.2) (frames_lack c.args.profile c.args.form c.args.count
-    (g.R.ByteIn.remaining c.args.input.now) (g.R.ByteIn.remaining c.open.new.input)
-    (g.R.ByteIn.failures c.args.input.now) (g.R.ByteIn.failures c.open.new.input)
+    (g.R.ByteIn.remaining c.args.input.now) (g.R.ByteIn.remaining c.open_located.new.input)
+    (g.R.ByteIn.failures c.args.input.now) (g.R.ByteIn.failures c.open_located.new.input)
     r (rw c.scope.ensures at c.in_ok-reader.ensures.answer.1)
     c.in_ok-reader.ensures.answer.0 o0 o1 ob om wrote a is o2 oa also
     (g.R.ByteIn.remaining c.tell_frames.new.input) o3
@@ -159,7 +161,14 @@ returns-in_err-tell_frames-clause-own g c =
     c.from_residual-in_err-tell_frames.ensures.1 in
     let r = c.in_ok-reader.reader in
     let f = c.in_err-tell_frames.field-0.0 in
-    rw (p.1, p.2) (told_shows c.args.profile r.place f (within_of c.args.profile r.place
+    let stands : Stands (scope_in c.args.profile) (g.R.ByteIn.remaining c.args.input.now)
+    (g.R.ByteIn.remaining c.open_located.new.input) r = record {
+      reached = rw c.scope.ensures at c.in_ok-reader.ensures.located;
+      ends = c.in_ok-reader.ensures.ends;
+      noted = rw c.scope.ensures at c.in_ok-reader.ensures.noted;
+    } in
+    rw (p.1, p.2) (told_shows c.args.profile r (g.R.ByteIn.remaining c.args.input.now)
+    (g.R.ByteIn.remaining c.open_located.new.input) f stands (within_of c.args.profile r.place
     (rw c.scope.ensures at c.in_ok-reader.ensures.avi)) c.in_err-tell_frames.ensures.own)
 
 pub returns-clause-ok : goal.returns-clause-ok
@@ -182,8 +191,8 @@ returns-clause-ok g c =
     let is = subst (λ (z : Head). IsStream c.args.profile (record { head = z; accepted = a }))
     c.head-2.ensures.value c.in_ok-checked.ensures.ok in
     stream_done c.args.profile c.args.form c.args.count
-    (g.R.ByteIn.remaining c.args.input.now) (g.R.ByteIn.remaining c.open.new.input)
-    (g.R.ByteIn.failures c.args.input.now) (g.R.ByteIn.failures c.open.new.input)
+    (g.R.ByteIn.remaining c.args.input.now) (g.R.ByteIn.remaining c.open_located.new.input)
+    (g.R.ByteIn.failures c.args.input.now) (g.R.ByteIn.failures c.open_located.new.input)
     r (rw c.scope.ensures at c.in_ok-reader.ensures.answer.1)
     c.in_ok-reader.ensures.answer.0 o0 o1 ob om wrote a is o2 oa also
     (g.R.ByteIn.remaining c.tell_frames.new.input) o3

@@ -1,7 +1,8 @@
 -- Writes the facts of the frames of a file that was opened.
 use Rattle.std.proofs.Common.{◌≡◌, Err, Ok, [], inl, ap, sym, subst, ◌∙◌}
 use Rattle.std.proofs.lemmas.Result.{err_from_is_err_and}
-use Rattle.ffv1_wire.specs.Passage.{between}
+use Rattle.ffv1_wire.specs.Passage.{between, passage}
+use Rattle.ffv1_unpack.proofs.OwnFaults.{told_on}
 use Rattle.ffv1_unpack.specs.Internal.Opens.{stream_of}
 use Rattle.ffv1_unpack.specs.Plays.{HasThen}
 use Rattle.ffv1_range.specs.Counts.{saturated}
@@ -191,3 +192,13 @@ returns-in_err-write_counted-clause-own g c =
     let p = err_from_is_err_and c.from_residual-in_err-write_counted.result
     c.from_residual-in_err-write_counted.ensures.1 in
     rw (p.1, p.2) (inl (group_tells _ _ c.in_err-write_counted.field-0.0 c.in_err-write_counted.ensures))
+
+pub returns-in_err-frames-clause-own : goal.returns-in_err-frames-clause-own
+returns-in_err-frames-clause-own g c =
+    let p = err_from_is_err_and c.from_residual-in_err-frames.result
+    c.from_residual-in_err-frames.ensures.1 in
+    rw (p.1, p.2) (told_on c.args.reader c.read_picture.new.reader
+    (passage g.R.ByteIn.remaining g.R.ByteIn.failures c.args.input.now c.read_picture.new.input)
+    c.in_err-frames.field-0.0 c.in_ok-said.ensures.container
+    (c.in_ok-said.ensures.stays (sym c.has_some-some.ensures ∙ c.in_err-frames.ensures.err.0))
+    c.in_err-frames.ensures.own)

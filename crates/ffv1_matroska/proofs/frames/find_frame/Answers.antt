@@ -10,6 +10,8 @@ use Rattle.ffv1_matroska.proofs.Steps.{fewer}
 use Rattle.ffv1_reads.proofs.EndReadings.{some_read}
 use Rattle.ffv1_reads.proofs.OffsetLaws.{reads_more, reads_none, stops_after}
 use Rattle.ffv1_matroska.specs.Offsets.{element_taken}
+use Rattle.ffv1_matroska.specs.Cues.{cued_taken}
+use Rattle.ffv1_matroska.proofs.CuedElements.{cued_read}
 use Rattle.ffv1_matroska.proofs.ElementReadings.{element_read, element_refused}
 use Rattle.ffv1_reads.proofs.EndReadings.{none_err}
 use Rattle.ffv1_matroska.proofs.frames.find_frame.Goals as goal
@@ -24,6 +26,9 @@ loop-next-init g c =
           (g.R.ByteIn.remaining c.args.input.now) (g.R.ByteIn.failures c.args.input.now),
       0,
       reads_none (element_taken c.args.track) place _,
+      refl,
+      0,
+      reads_none (cued_taken c.args.track) (place, c.args.cued.now) _,
     )
 
 pub returns-in_err-next-clause-answer : goal.returns-in_err-next-clause-answer
@@ -47,6 +52,7 @@ loop-next-preserved g c =
     (found_or_on (frame_found_up_to inv.0 c.args.track)) _ _ s inv.3
     (rw c.in-Some.is at c.in_ok-next.ensures.answer) in
     let less = rw c.in-Some.is at c.in_ok-next.ensures.less in
+    let cued = rw (c.in-Some.is, inv.6) at c.in_ok-next.ensures.cued in
     let f = fewer inv.0 (amount s.place) (amount c.loop-next.here) inv.1 less in
     let read = element_read c.args.track c.loop-next.here s _ _ c.in_default-frame.is
     (some_read (step_read c.args.track c.loop-next.here) _ _ s
@@ -57,6 +63,10 @@ loop-next-preserved g c =
       rw f.2 at (rw c.in_default-frame.is at next),
       _,
       reads_more _ inv.5 read refl,
+      refl,
+      _,
+      reads_more _ inv.8 (cued_read c.args.track c.loop-next.here _ _ s _ _ c.in_default-frame.is cued)
+          refl,
     )
 
 pub returns-clause-answer : goal.returns-clause-answer
@@ -88,3 +98,18 @@ returns-in-Some-frame-clause-from g c =
     let read = some_read (step_read c.args.track c.loop-next.here) _ _ s
     (rw c.in-Some.is at c.in_ok-next.ensures.answer).1 in
     (_, inv.4, inv.5, rw c.in-Some-frame.is at read)
+
+pub returns-in_err-next-clause-cued : goal.returns-in_err-next-clause-cued
+returns-in_err-next-clause-cued g c =
+    let p = err_from_is_err_and c.from_residual.result c.from_residual.ensures.1 in rw (p.1) tt
+
+pub returns-in-Some-frame-clause-cued : goal.returns-in-Some-frame-clause-cued
+returns-in-Some-frame-clause-cued g c =
+    let inv = c.loop-next.invariant in
+    let cued = rw (c.in-Some.is, inv.6) at c.in_ok-next.ensures.cued in
+    (_, inv.7, c.loop-next.cued, inv.8, rw c.in-Some-frame.is at cued)
+
+pub returns-clause-cued : goal.returns-clause-cued
+returns-clause-cued g c =
+    let inv = c.loop-next.invariant in
+    (_, inv.7, inv.8, (rw c.in_default.is at c.in_ok-next.ensures.answer).1)

@@ -21,15 +21,15 @@ loop-path-preserved g c =
     looks_more looks _ o c.loop-path.invariant few c.look_named-done.ensures.look status.ok
     status.refused printed
 
-pub returns-in_err-tell_named-clause-err : goal.returns-in_err-tell_named-clause-err
-returns-in_err-tell_named-clause-err g c =
+pub returns-in_err-tell_outcome-clause-err : goal.returns-in_err-tell_outcome-clause-err
+returns-in_err-tell_outcome-clause-err g c =
     let looks = LooksNamed g.L.Looks.names g.L.Looks.looks in
-    let refused = c.in_err-tell_named.ensures in
+    let refused = c.in_err-tell_outcome.ensures in
     let few : c.loop-path.path-index < length c.args.paths.now = omega arith in
     let p = err_from_is_err_and c.from_residual.result c.from_residual.ensures.1 in
     let stops = stops_at looks _ c.look_named-done.result c.loop-path.invariant few
-    c.look_named-done.ensures.look refused.0 refused.1 in
-    rw p.1 (c.loop-path.invariant.outcomes, refused.0, stops)
+    c.look_named-done.ensures.look in
+    rw p.1 (c.loop-path.invariant.outcomes, c.look_named-done.result, refused, stops)
 
 pub returns-then-is_unprinted-clause-ok : goal.returns-then-is_unprinted-clause-ok
 returns-then-is_unprinted-clause-ok g c =

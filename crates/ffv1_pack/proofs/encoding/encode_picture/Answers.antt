@@ -6,6 +6,7 @@ use Rattle.ffv1_wire.specs.Passage.{passage}
 use Rattle.ffv1_y4m.specs.State.{shown}
 use Rattle.ffv1_pack.specs.Internal.VideoReads.{NextRead, reading_of}
 use Rattle.ffv1_pack.proofs.PicturesEncoded.{encoded_one, frame_stops, made_of, next_stops}
+use Rattle.ffv1_pack.proofs.VideoChecks.{range_coded}
 use Rattle.ffv1_pack.proofs.VideoFits.{is_made}
 use Rattle.ffv1_pack.proofs.encoding.encode_picture.Goals as goal
 
@@ -16,6 +17,11 @@ unwrap-picture-requires g c =
     c.info_for-info.ensures.head (ap (λ a. a.configuration) c.config.ensures ∙
     c.requires.suits.2.configuration) (ap (λ v. planes_of v.items) c.replace-lent.ensures.value)
     (c.in_ok-next.ensures.fits more) (c.in_ok-next.ensures.depth more) c.new-2.ensures.none
+
+pub encode-requires-clause-range : goal.encode-requires-clause-range
+encode-requires-clause-range g c =
+    range_coded c.requires.suits.0 c.requires.suits.1 (reading_of c.args.reader.now).ppm
+    (reading_of c.args.reader.now).head c.args.encoder.now.accepted c.requires.suits.2
 
 pub returns-clause-ok : goal.returns-clause-ok
 returns-clause-ok g c =

@@ -1,6 +1,6 @@
 -- Reads a video and encodes it.
 use Rattle.std.proofs.lemmas.Result.{err_from_is_err_and}
-use Rattle.std.proofs.Common.{refl, ◌≡◌, ◌⊎◌, ◌<◌, length, arith, inr, subst, true}
+use Rattle.std.proofs.Common.{refl, ◌≡◌, ◌⊎◌, ◌<◌, length, arith, ap, inl, inr, subst, true}
 use Rattle.std.proofs.lemmas.Grind.{common_steps}
 use Rattle.ffv1_pack.proofs.ConfigurationJudged.{has_accepted, no_memory_head}
 use Rattle.ffv1_pack.proofs.FrameBytes.{empty_of}
@@ -23,6 +23,12 @@ returns-in_err-head-clause-err g c =
     let p = err_from_is_err_and c.from_residual-in_err-head.result
     c.from_residual-in_err-head.ensures.1 in
     rw (p.1, p.2) (wants_memory c.args.profile _ _ _ _ c.in_ok-reader.ensures.ok c.in_err-head.ensures.err)
+
+pub returns-in_err-head-clause-own : goal.returns-in_err-head-clause-own
+returns-in_err-head-clause-own g c =
+    let p = err_from_is_err_and c.from_residual-in_err-head.result
+    c.from_residual-in_err-head.ensures.1 in
+    rw (p.1, p.2) (inl (ap is_pack_fault c.in_err-head.ensures.err))
 
 pub returns-in_err-encoder-clause-err : goal.returns-in_err-encoder-clause-err
 returns-in_err-encoder-clause-err g c =

@@ -1,4 +1,6 @@
 -- What holds of the planes, sets and table of a configuration that was checked.
+use Rattle.ffv1_record.specs.declared.config.Profile.TheVariants as profile
+use Rattle.ffv1_record.proofs.Checks.{rice_shallow, never_strict, passed_coder}
 use Rattle.ffv1_record.proofs.Parts.{rct_parts, shallow_or_full, luma_parts, set_at, most_few}
 use Rattle.ffv1_record.proofs.laws.accepted_configuration_has_sound_parts.Goals as goal
 
@@ -22,3 +24,9 @@ returns-clause-most c = λ x t is. most_few x.sets is.sets
 
 pub returns-clause-coder : goal.returns-clause-coder
 returns-clause-coder c = λ x t is. (is.table, is.closed, is.writable)
+
+pub returns-clause-rice : goal.returns-clause-rice
+returns-clause-rice c = λ x t is. rice_shallow profile.Wide x (passed_coder profile.Wide x is.passes)
+
+pub returns-clause-strict : goal.returns-clause-strict
+returns-clause-strict c = λ x passes. never_strict x (passed_coder profile.Strict x passes)

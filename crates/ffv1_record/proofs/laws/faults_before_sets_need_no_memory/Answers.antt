@@ -9,5 +9,5 @@ pub returns-clause-refused : goal.returns-clause-refused
 returns-clause-refused c = refused_before
 
 pub returns-clause-apart : goal.returns-clause-apart
-returns-clause-apart c = λ most bytes f are reaches refused. apart_before most bytes
+returns-clause-apart c = λ p most bytes f are reaches refused. apart_before p most bytes
     (taken_bytes bytes (length bytes - 4) are) f reaches refused

@@ -3,8 +3,8 @@
 use Rattle.ffv1_record.proofs.RecordIsRead.{read_is, refused_by_memory, good_start, none_stands}
 use Rattle.ffv1_record.proofs.RecordIsRead.{taken_bytes}
 use Rattle.std.proofs.Common.{◌≡◌, ◌≤◌, ◌∙◌, ◌-◌, subst, length, arith, inr}
-use Rattle.ffv1_record.specs.Accepted.{IsFirstUpTo, checks, deepest}
-use Rattle.ffv1_record.proofs.Checks.{depth_up_to}
+use Rattle.ffv1_record.specs.Accepted.{IsFirstUpTo, checks, deepest, least_coder}
+use Rattle.ffv1_record.proofs.Checks.{depth_up_to, kind_allowed, passed_coder}
 use Rattle.std.proofs.lemmas.Result.{err_from_is_err_and}
 use Rattle.ffv1_range.specs.Codes.{AreBytes}
 use Rattle.ffv1_record.specs.Record.{body_of}
@@ -23,7 +23,7 @@ returns-in-Ok-clause-found g c =
     (c.parity_makes_the_remainder_zero.ensures.zero c.args.bytes.now
     (λ k. omega (arith, c.type_inv.bytes k))).0
     (omega (arith, c.parity.ensures, c.if-parity-ne0.false)) in
-    rw c.in-Ok.ensures.ok (record_found (deepest c.args.profile c.args.most) c.args.bytes.now
+    rw c.in-Ok.ensures.ok (record_found c.args.profile (deepest c.args.profile c.args.most) c.args.bytes.now
     c.args.width c.args.height _ _ long whole c.in_ok-reader.ensures.ok _
     (seen (λ r. at_depth (configuration_of r.0) r.1) _ _ _ _
     (rw c.deepest-greatest.ensures at c.in_ok-read.ensures.gives)))
@@ -35,7 +35,7 @@ returns-in-Ok-clause-width g c =
     (c.parity_makes_the_remainder_zero.ensures.zero c.args.bytes.now
     (λ k. omega (arith, c.type_inv.bytes k))).0
     (omega (arith, c.parity.ensures, c.if-parity-ne0.false)) in
-    rw c.in-Ok.ensures.ok (found_width (deepest c.args.profile c.args.most) c.args.bytes.now
+    rw c.in-Ok.ensures.ok (found_width c.args.profile (deepest c.args.profile c.args.most) c.args.bytes.now
     c.args.width c.args.height _ _ long whole c.in_ok-reader.ensures.ok _
     (seen (λ r. at_depth (configuration_of r.0) r.1) _ _ _ _
     (rw c.deepest-greatest.ensures at c.in_ok-read.ensures.gives)))
@@ -47,7 +47,7 @@ returns-in-Ok-clause-height g c =
     (c.parity_makes_the_remainder_zero.ensures.zero c.args.bytes.now
     (λ k. omega (arith, c.type_inv.bytes k))).0
     (omega (arith, c.parity.ensures, c.if-parity-ne0.false)) in
-    rw c.in-Ok.ensures.ok (found_height (deepest c.args.profile c.args.most) c.args.bytes.now
+    rw c.in-Ok.ensures.ok (found_height c.args.profile (deepest c.args.profile c.args.most) c.args.bytes.now
     c.args.width c.args.height _ _ long whole c.in_ok-reader.ensures.ok _
     (seen (λ r. at_depth (configuration_of r.0) r.1) _ _ _ _
     (rw c.deepest-greatest.ensures at c.in_ok-read.ensures.gives)))
@@ -61,8 +61,8 @@ returns-in_err-read-clause-exact g c =
     (omega (arith, c.parity.ensures, c.if-parity-ne0.false)) in
     let p = err_from_is_err_and c.from_residual-in_err-read.result
     c.from_residual-in_err-read.ensures.1 in
-    rw (p.1, p.2) (not_read (deepest c.args.profile c.args.most) c.args.bytes.now c.args.width
-    c.args.height _ _ long whole c.in_ok-reader.ensures.ok c.args.profile _
+    rw (p.1, p.2) (not_read c.args.profile (deepest c.args.profile c.args.most) c.args.bytes.now
+    c.args.width c.args.height _ _ long whole c.in_ok-reader.ensures.ok _
     (seen_err (λ r. at_depth (configuration_of r.0) r.1) _ _ _ _
     (rw c.deepest-greatest.ensures at c.in_err-read.ensures.gives)))
 
@@ -73,8 +73,8 @@ returns-in-Err-clause-exact g c =
     (c.parity_makes_the_remainder_zero.ensures.zero c.args.bytes.now
     (λ k. omega (arith, c.type_inv.bytes k))).0
     (omega (arith, c.parity.ensures, c.if-parity-ne0.false)) in
-    inr (not_checked (deepest c.args.profile c.args.most) c.args.bytes.now c.args.width
-    c.args.height _ _ long whole c.in_ok-reader.ensures.ok c.args.profile _ _
+    inr (not_checked c.args.profile (deepest c.args.profile c.args.most) c.args.bytes.now
+    c.args.width c.args.height _ _ long whole c.in_ok-reader.ensures.ok _ _
     (seen (λ r. at_depth (configuration_of r.0) r.1) _ _ _ _
     (rw c.deepest-greatest.ensures at c.in_ok-read.ensures.gives)) c.in-Err.ensures.refused)
 
@@ -82,7 +82,9 @@ pub returns-in_err-reader-clause-only : goal.returns-in_err-reader-clause-only
 returns-in_err-reader-clause-only g c = λ x t wide high low is passes stored.
     let are : AreBytes (body_of c.args.bytes.now) = taken_bytes c.args.bytes.now
     (length c.args.bytes.now - 4) (λ k. omega (arith, c.type_inv.bytes k)) in
-    absurd (good_start c.args.bytes.now are x t is stored _ low c.in_err-reader.ensures.refused.1)
+    absurd (good_start c.args.bytes.now are x t is stored _ low (least_coder c.args.profile)
+    (kind_allowed c.args.profile x (passed_coder c.args.profile x passes))
+    c.in_err-reader.ensures.refused.1)
 
 pub returns-in_err-read-clause-only : goal.returns-in_err-read-clause-only
 returns-in_err-read-clause-only g c = λ x t wide high low is passes stored.
@@ -90,7 +92,8 @@ returns-in_err-read-clause-only g c = λ x t wide high low is passes stored.
     (length c.args.bytes.now - 4) (λ k. omega (arith, c.type_inv.bytes k)) in
     let p = err_from_is_err_and c.from_residual-in_err-read.result
     c.from_residual-in_err-read.ensures.1 in
-    rw (p.1, p.2) (refused_by_memory c.args.bytes.now are x t is stored _ low c.args.width
+    rw (p.1, p.2) (refused_by_memory c.args.bytes.now are x t is stored _ low (least_coder c.args.profile)
+    (kind_allowed c.args.profile x (passed_coder c.args.profile x passes)) c.args.width
     c.args.height wide high _ _ c.in_ok-reader.ensures.ok _
     (seen_err (λ r. at_depth (configuration_of r.0) r.1) _ _ _ _
     (rw c.deepest-greatest.ensures at c.in_err-read.ensures.gives)))
@@ -99,7 +102,8 @@ pub returns-in-Ok-clause-only : goal.returns-in-Ok-clause-only
 returns-in-Ok-clause-only g c = λ x t wide high low is passes stored.
     let are : AreBytes (body_of c.args.bytes.now) = taken_bytes c.args.bytes.now
     (length c.args.bytes.now - 4) (λ k. omega (arith, c.type_inv.bytes k)) in
-    c.in-Ok.ensures.ok ∙ read_is c.args.bytes.now are x t is stored _ low c.args.width c.args.height
+    c.in-Ok.ensures.ok ∙ read_is c.args.bytes.now are x t is stored _ low (least_coder c.args.profile)
+    (kind_allowed c.args.profile x (passed_coder c.args.profile x passes)) c.args.width c.args.height
     wide high _ _ c.in_ok-reader.ensures.ok _
     (seen (λ r. at_depth (configuration_of r.0) r.1) _ _ _ _
     (rw c.deepest-greatest.ensures at c.in_ok-read.ensures.gives))
@@ -108,7 +112,8 @@ pub returns-in-Err-clause-only : goal.returns-in-Err-clause-only
 returns-in-Err-clause-only g c = λ x t wide high low is passes stored.
     let are : AreBytes (body_of c.args.bytes.now) = taken_bytes c.args.bytes.now
     (length c.args.bytes.now - 4) (λ k. omega (arith, c.type_inv.bytes k)) in
-    let same = read_is c.args.bytes.now are x t is stored _ low c.args.width c.args.height wide high
+    let same = read_is c.args.bytes.now are x t is stored _ low (least_coder c.args.profile)
+    (kind_allowed c.args.profile x (passed_coder c.args.profile x passes)) c.args.width c.args.height wide high
     _ _ c.in_ok-reader.ensures.ok _ (seen (λ r. at_depth (configuration_of r.0) r.1) _ _ _ _
     (rw c.deepest-greatest.ensures at c.in_ok-read.ensures.gives)) in
     let most = deepest c.args.profile c.args.most in

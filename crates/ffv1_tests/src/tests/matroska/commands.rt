@@ -1,7 +1,7 @@
 //! Matroska files by the calls that read a file of either container.
 
 use super::written_example::EXAMPLE;
-use ffv1_engine::{Fault, Profile, check};
+use ffv1_engine::{Fault, Notes, Profile, check};
 use ffv1_files::{Container, FileReader, Scope};
 use ffv1_reads::FileFault;
 use ffv1_wire::{FromRead, ToWrite};
@@ -41,7 +41,7 @@ fn frames_of_matroska_are_checked(rt: HostRuntime) -> Result<(), Fail> {
     let mut output = ToWrite::new(Vec::new(rt.alloc()));
     let mut input = FromRead::new(EXAMPLE.as_slice());
     let answer = check(rt.alloc(), Profile::Wide, &mut input, &mut output, false);
-    assert!(rt; answer == Ok(()));
+    assert!(rt; answer == Ok(Notes::NONE));
     assert!(rt; output.into_inner().as_slice() == TOLD);
     Ok(())
 }

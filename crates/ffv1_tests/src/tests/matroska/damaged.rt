@@ -1,7 +1,7 @@
 //! Files that are damaged, read to their end.
 
 use super::closed::{BLOCK, INNER, NUMBER, POSITION, UNKNOWN};
-use ffv1_engine::{Fault, Profile, check_all};
+use ffv1_engine::{Fault, Notes, Profile, check_all};
 use ffv1_matroska::{Item, MatroskaReader};
 use ffv1_reads::FileFault;
 use ffv1_wire::{FromRead, ToWrite};
@@ -240,7 +240,7 @@ fn comes_to(rt: &impl Abort, alloc: Global, file: &[u8], first: Fault, text: &[u
         &mut output,
         true,
     );
-    assert!(rt; answer == Ok(Some(first)));
+    assert!(rt; answer == Ok((Some(first), Notes::NONE)));
     assert!(rt; output.into_inner().as_slice() == text);
 }
 

@@ -45,6 +45,7 @@ static FILES: [(&[&str], Order<'static>); 11] = [
             progress: false,
             range: FrameRange::ALL,
             all: false,
+            notes_as_faults: false,
         },
     ),
     (
@@ -56,6 +57,7 @@ static FILES: [(&[&str], Order<'static>); 11] = [
             progress: false,
             range: FrameRange::ALL,
             all: false,
+            notes_as_faults: false,
         },
     ),
     (
@@ -67,6 +69,7 @@ static FILES: [(&[&str], Order<'static>); 11] = [
             progress: false,
             range: FrameRange::ALL,
             all: false,
+            notes_as_faults: false,
         },
     ),
     (
@@ -78,6 +81,7 @@ static FILES: [(&[&str], Order<'static>); 11] = [
             progress: false,
             range: FrameRange::ALL,
             all: false,
+            notes_as_faults: false,
         },
     ),
     (
@@ -89,6 +93,7 @@ static FILES: [(&[&str], Order<'static>); 11] = [
             progress: false,
             range: FrameRange::ALL,
             all: false,
+            notes_as_faults: false,
         },
     ),
     (
@@ -100,6 +105,7 @@ static FILES: [(&[&str], Order<'static>); 11] = [
             progress: false,
             range: FrameRange::ALL,
             all: false,
+            notes_as_faults: false,
         },
     ),
     (
@@ -111,6 +117,7 @@ static FILES: [(&[&str], Order<'static>); 11] = [
             progress: false,
             range: FrameRange::ALL,
             all: false,
+            notes_as_faults: false,
         },
     ),
     (
@@ -122,6 +129,7 @@ static FILES: [(&[&str], Order<'static>); 11] = [
             progress: false,
             range: FrameRange::ALL,
             all: false,
+            notes_as_faults: false,
         },
     ),
     (

@@ -4,7 +4,7 @@ use super::{DEFAULTS, names_each};
 use ffv1_engine::{ContainerChoice, FrameRange, Order};
 
 /// Flags, and words that are files after two hyphens.
-static FLAGS: [(&[&str], Order<'static>); 19] = [
+static FLAGS: [(&[&str], Order<'static>); 22] = [
     (
         &["ffv1", "pack", "a", "--no-clobber", "b"],
         Order::Pack {
@@ -25,6 +25,7 @@ static FLAGS: [(&[&str], Order<'static>); 19] = [
             progress: true,
             range: FrameRange::ALL,
             all: false,
+            notes_as_faults: false,
         },
     ),
     (
@@ -36,6 +37,7 @@ static FLAGS: [(&[&str], Order<'static>); 19] = [
             progress: false,
             range: FrameRange::ALL,
             all: true,
+            notes_as_faults: false,
         },
     ),
     (
@@ -58,6 +60,7 @@ static FLAGS: [(&[&str], Order<'static>); 19] = [
             progress: true,
             range: FrameRange::ALL,
             all: false,
+            notes_as_faults: false,
         },
     ),
     (
@@ -71,6 +74,7 @@ static FLAGS: [(&[&str], Order<'static>); 19] = [
             progress: false,
             against: None,
             range: FrameRange::ALL,
+            notes_as_faults: false,
         },
     ),
     (
@@ -84,6 +88,7 @@ static FLAGS: [(&[&str], Order<'static>); 19] = [
             progress: true,
             against: None,
             range: FrameRange::ALL,
+            notes_as_faults: false,
         },
     ),
     (
@@ -107,6 +112,7 @@ static FLAGS: [(&[&str], Order<'static>); 19] = [
             progress: true,
             against: None,
             range: FrameRange::ALL,
+            notes_as_faults: false,
         },
     ),
     (
@@ -120,6 +126,7 @@ static FLAGS: [(&[&str], Order<'static>); 19] = [
             progress: false,
             against: Some("b"),
             range: FrameRange::ALL,
+            notes_as_faults: false,
         },
     ),
     (
@@ -133,6 +140,7 @@ static FLAGS: [(&[&str], Order<'static>); 19] = [
             progress: false,
             against: None,
             range: FrameRange::ALL,
+            notes_as_faults: false,
         },
     ),
     (
@@ -162,6 +170,7 @@ static FLAGS: [(&[&str], Order<'static>); 19] = [
             progress: false,
             against: Some("-"),
             range: FrameRange::ALL,
+            notes_as_faults: false,
         },
     ),
     (
@@ -176,6 +185,7 @@ static FLAGS: [(&[&str], Order<'static>); 19] = [
                 count: None,
             },
             all: false,
+            notes_as_faults: false,
         },
     ),
     (
@@ -192,6 +202,7 @@ static FLAGS: [(&[&str], Order<'static>); 19] = [
                 first: 0,
                 count: Some(4294967295),
             },
+            notes_as_faults: false,
         },
     ),
     (
@@ -202,6 +213,7 @@ static FLAGS: [(&[&str], Order<'static>); 19] = [
                 first: 7,
                 count: Some(1),
             },
+            notes_as_faults: false,
         },
     ),
     (
@@ -222,6 +234,7 @@ static FLAGS: [(&[&str], Order<'static>); 19] = [
             progress: false,
             against: None,
             range: FrameRange::ALL,
+            notes_as_faults: false,
         },
     ),
     (
@@ -233,6 +246,41 @@ static FLAGS: [(&[&str], Order<'static>); 19] = [
             progress: false,
             range: FrameRange::ALL,
             all: false,
+            notes_as_faults: false,
+        },
+    ),
+    (
+        &["ffv1", "unpack", "a", "--notes-as-faults", "b"],
+        Order::Unpack {
+            input: "a",
+            output: "b",
+            no_clobber: false,
+            progress: false,
+            range: FrameRange::ALL,
+            all: false,
+            notes_as_faults: true,
+        },
+    ),
+    (
+        &["ffv1", "check", "--notes-as-faults", "a"],
+        Order::Check {
+            inputs: &["a"],
+            all: false,
+            place: false,
+            quiet: false,
+            json: false,
+            progress: false,
+            against: None,
+            range: FrameRange::ALL,
+            notes_as_faults: true,
+        },
+    ),
+    (
+        &["ffv1", "framemd5", "a", "--notes-as-faults"],
+        Order::FrameMd5 {
+            inputs: &["a"],
+            range: FrameRange::ALL,
+            notes_as_faults: true,
         },
     ),
 ];

@@ -1,8 +1,8 @@
 -- Decodes all frames of a file that the profile reads, and writes a line of each as soon as it is
 -- decoded, and at the end how many there were.
-use Rattle.std.proofs.lemmas.Result.{IfErr-weaker, on_ok_weaker}
+use Rattle.std.proofs.lemmas.Result.{IfErr-weaker, IfOk-weaker}
 use Rattle.ffv1_wire.specs.Passage.{passage}
-use Rattle.ffv1_unpack.specs.Check.{CheckRangeStops, CheckStops}
+use Rattle.ffv1_unpack.specs.Check.{CheckDone, CheckRangeDone, CheckRangeStops, CheckStops}
 use Rattle.ffv1_unpack.specs.Check.{check_text}
 use Rattle.ffv1_unpack.specs.Ranges.{all_frames}
 use Rattle.ffv1_unpack.proofs.FileRead.{holds_payloads}
@@ -15,7 +15,9 @@ returns-clause-ok g c =
     c.check_range.new.input in
     let output = passage g.W.ByteOut.contents g.W.ByteOut.failures c.args.output.now
     c.check_range.new.output in
-    on_ok_weaker c.check_range.result
+    IfOk-weaker c.check_range.result
+    (CheckRangeDone c.args.profile c.args.place all_frames input output)
+    (CheckDone c.args.profile c.args.place input output)
     (plays_whole (holds_payloads c.frames_come_in_turn.ensures
     c.what_is_read_is_a_file.ensures.first c.what_is_read_is_a_file.ensures.whole)
     c.args.profile (λ s frames. check_text s.accepted.configuration frames) input output)

@@ -14,6 +14,8 @@ use Rattle.ffv1_unpack.proofs.OwnFaults.{opening_checks, told_checks}
 use Rattle.ffv1_unpack.specs.CheckAll.{judged_count}
 use Rattle.ffv1_unpack.specs.Judged.{IsJudged, judged_lines, payload_of}
 use Rattle.ffv1_unpack.proofs.ItemsJudged.{line_own}
+use Rattle.std.proofs.Common.{length, refl}
+use Rattle.ffv1_video.specs.Profiles.{scope_in}
 use Rattle.ffv1_unpack.proofs.checking.check_all.Goals as goal
 use Rattle.ffv1_unpack.proofs.checking.check_all.Goals.{else-counts-eq0-2-via-else-counts-eq0-2}
 use Rattle.ffv1_unpack.proofs.checking.check_all.Goals.{else-counts-eq0-2-via-then-counts-eq0-2+else-counts-eq0-3}
@@ -73,15 +75,27 @@ returns-in_err-counts-in-Avi-clause-err g c =
           (g.R.ByteIn.failures c.judge_frames.new.input)
           n (g.W.ByteOut.failures c.judge_frames.new.output) n c.in-Ok.player.reader
           c.in-Ok.player.decoder.accepted c.in-Ok.ensures.ok
-          c.in-Ok.ensures.located c.in_err-counts-in-Avi.field-0.0 (rw c.tells_byte-byte.ensures at
+          (record {
+            reached = c.in-Ok.ensures.located;
+            ends = c.in-Ok.ensures.ends;
+            noted = c.in-Ok.ensures.noted;
+          })
+          c.in_err-counts-in-Avi.field-0.0 (rw c.tells_byte-byte.ensures at
           c.in_err-counts-in-Avi.ensures.err),
     ))
 
 pub returns-in_err-counts-in-Avi-clause-own : goal.returns-in_err-counts-in-Avi-clause-own
 returns-in_err-counts-in-Avi-clause-own g c =
     let p = err_from_is_err_and c.from_residual.result c.from_residual.ensures.1 in
-    rw (p.1, p.2) (told_checks c.args.profile c.in-Ok.player.reader.place
-    c.in_err-counts-in-Avi.field-0.0 c.in-Ok.ensures.ok.within c.in_err-counts-in-Avi.ensures.own)
+    rw (p.1, p.2) (told_checks c.args.profile c.in-Ok.player.reader
+    (g.R.ByteIn.remaining c.args.input.now)
+    (g.R.ByteIn.remaining c.open_player_located.new.input)
+    c.in_err-counts-in-Avi.field-0.0 (record {
+      reached = c.in-Ok.ensures.located;
+      ends = c.in-Ok.ensures.ends;
+      noted = c.in-Ok.ensures.noted;
+    })
+    c.in-Ok.ensures.ok.within c.in_err-counts-in-Avi.ensures.own)
 
 pub returns-then-counts-eq0-clause-err : goal.returns-then-counts-eq0-clause-err
 returns-then-counts-eq0-clause-err g c =
@@ -104,7 +118,7 @@ returns-then-counts-eq0-clause-err g c =
           (g.R.ByteIn.failures c.judge_frames.new.input)
           n (g.W.ByteOut.failures c.judge_frames.new.output) n c.in-Ok.player.reader
           c.in-Ok.player.decoder.accepted c.in-Ok.ensures.ok
-          told.0 c.in_ok-counts-in-Avi.counts told.1 told.2 none,
+          c.judge_frames.new.player.notes told.0 c.in_ok-counts-in-Avi.counts told.1 told.2 none,
     )
 
 pub returns-in_err-write_counts-in-Avi-clause-err :
@@ -132,7 +146,7 @@ returns-in_err-write_counts-in-Avi-clause-err g c =
           (g.W.ByteOut.failures c.write_counts.new.output)
           c.in-Ok.player.reader
           c.in-Ok.player.decoder.accepted c.in-Ok.ensures.ok
-          told.0 c.in_ok-counts-in-Avi.counts told.1 told.2 c.in_err-write_counts-in-Avi.field-0.0
+          c.judge_frames.new.player.notes told.0 c.in_ok-counts-in-Avi.counts told.1 told.2 c.in_err-write_counts-in-Avi.field-0.0
           c.in_err-write_counts-in-Avi.ensures,
     ))
 
@@ -158,11 +172,17 @@ returns-in-Avi-clause-ok g c =
           (g.W.ByteOut.failures c.write_counts.new.output)
           c.in-Ok.player.reader
           c.in-Ok.player.decoder.accepted c.in-Ok.ensures.ok
-          told.0 c.in_ok-counts-in-Avi.counts told.1 told.2
+          c.judge_frames.new.player.notes told.0 c.in_ok-counts-in-Avi.counts told.1 told.2
           (holds_payloads c.frames_come_in_turn.ensures c.what_is_read_is_a_file.ensures.first
           c.what_is_read_is_a_file.ensures.whole)
           c.if-counts-eq0.false
-          c.in_ok-write_counts-in-Avi.ensures.0 c.in_ok-write_counts-in-Avi.ensures.1,
+          c.in_ok-write_counts-in-Avi.ensures.0 c.in_ok-write_counts-in-Avi.ensures.1
+          (c.in_ok-counts-in-Avi.ensures.noted (length told.0) told.1.frames refl
+          (scope_in c.args.profile) (g.R.ByteIn.remaining c.args.input.now) (record {
+            reached = c.in-Ok.ensures.located;
+            ends = c.in-Ok.ensures.ends;
+            noted = c.in-Ok.ensures.noted;
+          })),
     )
 
 pub returns-in_err-counts-in-Matroska-clause-err : goal.returns-in_err-counts-in-Matroska-clause-err

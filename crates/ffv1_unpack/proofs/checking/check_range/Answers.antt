@@ -1,8 +1,10 @@
 -- Decodes the frames of a range of a file that the profile reads, and writes a line of each.
-use Rattle.std.proofs.Common.{rules, ◌≡◌, inl, inr}
+use Rattle.std.proofs.Common.{rules, ◌≡◌, inl, inr, length}
 use Rattle.std.proofs.lemmas.Result.{err_from_is_err_and}
 use Rattle.ffv1_unpack.proofs.FileChecked.{count_stops, done, none_told, telling_stops}
 use Rattle.ffv1_unpack.proofs.OwnFaults.{told_checks}
+use Rattle.ffv1_unpack.proofs.FramesNoted.{noted_file}
+use Rattle.ffv1_unpack.specs.Plays.{has_more}
 use Rattle.ffv1_unpack.proofs.checking.check_range.Goals as goal
 
 pub returns-in_err-player-clause-err : goal.returns-in_err-player-clause-err
@@ -31,8 +33,11 @@ pub returns-in_err-count-clause-own : goal.returns-in_err-count-clause-own
 returns-in_err-count-clause-own g c =
     let p = err_from_is_err_and c.from_residual-in_err-count.result
     c.from_residual-in_err-count.ensures.1 in
-    rw (p.1, p.2) (told_checks c.args.profile c.in_ok-player.player.reader.place
-    c.in_err-count.field-0.0 c.in_ok-player.ensures.ok.within c.in_err-count.ensures.own)
+    rw (p.1, p.2) (told_checks c.args.profile c.in_ok-player.player.reader
+    (g.R.ByteIn.remaining c.args.input.now)
+    (g.R.ByteIn.remaining c.open_range.new.input)
+    c.in_err-count.field-0.0 c.in_ok-player.ensures.located
+    c.in_ok-player.ensures.ok.within c.in_err-count.ensures.own)
 
 pub returns-then-count-eq0-clause-err : goal.returns-then-count-eq0-clause-err
 returns-then-count-eq0-clause-err g c =
@@ -47,7 +52,7 @@ returns-then-count-eq0-clause-err g c =
     (g.W.ByteOut.failures c.args.output.now) (g.W.ByteOut.failures c.tell_frames.new.output)
     (g.W.ByteOut.failures c.args.output.now)
     c.in_ok-player.player.reader c.in_ok-player.player.decoder.accepted c.in_ok-player.ensures.ok
-    told.0 c.in_ok-count.count told.1 told.2 none
+    c.tell_frames.new.player.notes told.0 c.in_ok-count.count told.1 told.2 none
 
 pub returns-in_err-write_count-clause-err : goal.returns-in_err-write_count-clause-err
 returns-in_err-write_count-clause-err g c =
@@ -64,7 +69,7 @@ returns-in_err-write_count-clause-err g c =
     (g.W.ByteOut.failures c.args.output.now) (g.W.ByteOut.failures c.tell_frames.new.output)
     (g.W.ByteOut.failures c.write_count.new.output)
     c.in_ok-player.player.reader c.in_ok-player.player.decoder.accepted c.in_ok-player.ensures.ok
-    told.0 c.in_ok-count.count told.1 told.2 c.in_err-write_count.field-0.0
+    c.tell_frames.new.player.notes told.0 c.in_ok-count.count told.1 told.2 c.in_err-write_count.field-0.0
     c.in_err-write_count.ensures)
 
 pub returns-clause-ok : goal.returns-clause-ok
@@ -79,5 +84,14 @@ returns-clause-ok g c =
     (g.W.ByteOut.failures c.args.output.now) (g.W.ByteOut.failures c.tell_frames.new.output)
     (g.W.ByteOut.failures c.write_count.new.output)
     c.in_ok-player.player.reader c.in_ok-player.player.decoder.accepted c.in_ok-player.ensures.ok
-    told.0 c.in_ok-count.count told.1 told.2 c.if-count-eq0.false
+    c.tell_frames.new.player.notes told.0 c.in_ok-count.count told.1 told.2 c.if-count-eq0.false
     c.in_ok-write_count.ensures.0 c.in_ok-write_count.ensures.1
+    c.notes_after.result (λ room. c.notes_after.ensures.read (length told.0) told.1 room)
+    (c.notes_after.ensures.unread (length told.0) told.1)
+    (noted_file c.args.profile c.in_ok-player.player.reader (g.R.ByteIn.remaining c.args.input.now)
+    (g.R.ByteIn.remaining c.open_range.new.input) (g.R.ByteIn.remaining c.tell_frames.new.input)
+    (g.R.ByteIn.failures c.args.input.now) (g.R.ByteIn.failures c.open_range.new.input)
+    (g.R.ByteIn.failures c.tell_frames.new.input) c.tell_frames.new.player.notes c.notes_after.result
+    (has_more c.args.range.count (length told.0)) c.in_ok-player.ensures.located
+    (c.in_ok-count.ensures.noted (length told.0) told.1)
+    (λ room. c.notes_after.ensures.read (length told.0) told.1 room))

@@ -33,10 +33,14 @@ returns-in-Err-pass_frames-clause-err g c =
     inr (
       c.pass_frames.new.passed,
       record {
-        offset = c.offset.result;
+        offset = c.pass_frames.new.player.offset;
         stops = moves_whole (scope_in c.args.profile) c.in-Ok.player.reader i0 i1 i2 ib im ia
-            opens.kept c.in-Ok.ensures.located f c.offset.result
-            (rw c.offset.ensures c.in-Err-pass_frames.ensures.located);
+            opens.kept (record {
+              reached = c.in-Ok.ensures.located;
+              ends = c.in-Ok.ensures.ends;
+              noted = c.in-Ok.ensures.noted;
+            }) f
+            c.pass_frames.new.player.offset c.in-Err-pass_frames.ensures.located;
         writes = c.tell_byte-in-Err-pass_frames.ensures;
       },
       pass_file c.args.profile c.args.first i0 i1 i2 ib im ia c.in-Ok.player.reader
@@ -46,7 +50,14 @@ returns-in-Err-pass_frames-clause-err g c =
 
 pub returns-in-Err-pass_frames-clause-own : goal.returns-in-Err-pass_frames-clause-own
 returns-in-Err-pass_frames-clause-own g c =
-    passing_checks c.args.profile c.in-Ok.player.reader.place c.in-Err-pass_frames.fault
+    passing_checks c.args.profile c.in-Ok.player.reader
+    (g.R.ByteIn.remaining c.args.input.now)
+    (g.R.ByteIn.remaining c.open_player_located.new.input) c.in-Err-pass_frames.fault
+    (record {
+      reached = c.in-Ok.ensures.located;
+      ends = c.in-Ok.ensures.ends;
+      noted = c.in-Ok.ensures.noted;
+    })
     c.in-Ok.ensures.ok.within c.in-Err-pass_frames.ensures.own
 
 pub returns-in-Ok-pass_frames-clause-ok : goal.returns-in-Ok-pass_frames-clause-ok
@@ -66,4 +77,9 @@ returns-in-Ok-pass_frames-clause-ok g c =
 pub returns-in-Ok-pass_frames-clause-located : goal.returns-in-Ok-pass_frames-clause-located
 returns-in-Ok-pass_frames-clause-located g c =
     c.in-Ok-pass_frames.ensures.reached (scope_in c.args.profile)
-    (g.R.ByteIn.remaining c.args.input.now) c.in-Ok.ensures.located
+    (g.R.ByteIn.remaining c.args.input.now)
+    (record {
+      reached = c.in-Ok.ensures.located;
+      ends = c.in-Ok.ensures.ends;
+      noted = c.in-Ok.ensures.noted;
+    })

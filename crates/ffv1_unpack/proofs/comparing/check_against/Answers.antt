@@ -7,6 +7,7 @@ use Rattle.ffv1_unpack.proofs.FileRead.{reads_file}
 use Rattle.ffv1_unpack.proofs.FramesCompared.{comparing_done, comparing_none, comparing_short}
 use Rattle.ffv1_unpack.proofs.FramesCompared.{comparing_stops, not_opened, unlike_checks}
 use Rattle.ffv1_unpack.proofs.OwnFaults.{opening_checks}
+use Rattle.ffv1_video.specs.Profiles.{scope_in}
 use Rattle.ffv1_unpack.proofs.comparing.check_against.Goals as goal
 
 pub returns-in_err-player-clause-err : goal.returns-in_err-player-clause-err
@@ -41,8 +42,11 @@ pub returns-in_err-number-clause-own : goal.returns-in_err-number-clause-own
 returns-in_err-number-clause-own g c =
     let p = err_from_is_err_and c.from_residual-in_err-number.result
     c.from_residual-in_err-number.ensures.1 in
-    rw (p.1, p.2) (unlike_checks c.args.profile c.in_ok-player.player.reader.place
-    c.in_err-number.field-0.0 c.in_ok-player.ensures.ok.within c.in_err-number.ensures.own)
+    rw (p.1, p.2) (unlike_checks c.args.profile c.in_ok-player.player.reader
+    (g.R.ByteIn.remaining c.args.input.now)
+    (g.R.ByteIn.remaining c.open_player.new.input)
+    c.in_err-number.field-0.0 c.in_ok-player.ensures.located
+    c.in_ok-player.ensures.ok.within c.in_err-number.ensures.own)
 
 pub returns-then-number-eq0-clause-err : goal.returns-then-number-eq0-clause-err
 returns-then-number-eq0-clause-err g c =
@@ -53,8 +57,8 @@ returns-then-number-eq0-clause-err g c =
     (g.R.ByteIn.remaining c.compare_frames.new.input) (g.R.ByteIn.failures c.args.input.now)
     (g.R.ByteIn.failures c.open_player.new.input)
     (g.R.ByteIn.failures c.compare_frames.new.input) c.in_ok-player.player.reader
-    c.in_ok-player.player.decoder.accepted c.in_ok-player.ensures.ok all.0
-    c.in_ok-number.number all.1 all.3 none
+    c.in_ok-player.player.decoder.accepted c.in_ok-player.ensures.ok
+    c.compare_frames.new.player.notes all.0 c.in_ok-number.number all.1 all.3 none
 
 pub returns-then-number-md5s-clause-err : goal.returns-then-number-md5s-clause-err
 returns-then-number-md5s-clause-err g c =
@@ -64,8 +68,8 @@ returns-then-number-md5s-clause-err g c =
     (g.R.ByteIn.remaining c.compare_frames.new.input) (g.R.ByteIn.failures c.args.input.now)
     (g.R.ByteIn.failures c.open_player.new.input)
     (g.R.ByteIn.failures c.compare_frames.new.input) c.in_ok-player.player.reader
-    c.in_ok-player.player.decoder.accepted c.in_ok-player.ensures.ok all.0
-    c.in_ok-number.number all.1 all.3 c.if-number-eq0.false c.if-number-md5s.true
+    c.in_ok-player.player.decoder.accepted c.in_ok-player.ensures.ok
+    c.compare_frames.new.player.notes all.0 c.in_ok-number.number all.1 all.3 c.if-number-eq0.false c.if-number-md5s.true
 
 pub returns-clause-ok : goal.returns-clause-ok
 returns-clause-ok g c =
@@ -80,9 +84,12 @@ returns-clause-ok g c =
     let most = c.if-number-md5s.false in
     let whole : c.in_ok-number.number ≡ length c.args.md5s.now = omega (arith, least, most) in
     let reads = reads_file c.frames_come_in_turn.ensures c.what_is_read_is_a_file.ensures.first
-    c.what_is_read_is_a_file.ensures.whole c.args.profile i0 i1 i2 (stream_of r a) r.place all.0
+    c.what_is_read_is_a_file.ensures.whole c.args.profile c.compare_frames.new.player.notes
+    i0 i1 i2 (stream_of r a) r.place all.0
     opens.known all.3.plays.goes.has in
     comparing_done c.args.profile c.args.md5s.now i0 i1 i2
     (g.R.ByteIn.failures c.args.input.now) (g.R.ByteIn.failures c.open_player.new.input)
-    (g.R.ByteIn.failures c.compare_frames.new.input) r a opens all.0 c.in_ok-number.number all.1
+    (g.R.ByteIn.failures c.compare_frames.new.input) r a opens
+    c.compare_frames.new.player.notes all.0 c.in_ok-number.number all.1
     all.3 c.if-number-eq0.false whole reads
+    (c.in_ok-number.ensures.noted (scope_in c.args.profile) i0 c.in_ok-player.ensures.located)

@@ -8,6 +8,7 @@ use Rattle.ffv1_video.proofs.KeptLines.{zeros_kept}
 use Rattle.ffv1_unpack.specs.Internal.Compared.{CompareAnswers}
 use Rattle.ffv1_unpack.proofs.FramesCompared.{compared_lacks, compared_more, compared_none}
 use Rattle.ffv1_unpack.proofs.FramesCompared.{compared_over, compared_stops}
+use Rattle.ffv1_unpack.proofs.FramesCompared.{unlike_on}
 use Rattle.ffv1_unpack.proofs.comparing.compare_frames.Goals as goal
 
 pub returns-in_err-kept-clause-err : goal.returns-in_err-kept-clause-err
@@ -28,6 +29,7 @@ loop-kept-init g c =
       compared_none a c.args.md5s.now c.args.player.now.reader.place
           (g.R.ByteIn.remaining c.args.input.now) (g.R.ByteIn.failures c.args.input.now),
       refl,
+      (λ scope text stands. stands),
     )
 
 pub returns-in_err-compare_next-clause-err : goal.returns-in_err-compare_next-clause-err
@@ -40,7 +42,7 @@ returns-in_err-compare_next-clause-err g c =
     let u = c.in_err-compare_next.field-0.0 in
     let input = passage g.R.ByteIn.remaining g.R.ByteIn.failures c.loop-kept.input
     c.compare_next.new.input in
-    let answer = subst (λ z. CompareAnswers z c.args.md5s.now c.loop-kept.number to last input
+    let answer = subst (λ z. CompareAnswers z c.args.md5s.now c.loop-kept.number to last input c.compare_next.new.player.notes
     (Err u)) i.1 c.in_err-compare_next.ensures.answer in
     rw (p.1, p.2)
     (compared_stops c.args.player.now.decoder.accepted c.args.md5s.now
@@ -48,13 +50,16 @@ returns-in_err-compare_next-clause-err g c =
     (g.R.ByteIn.remaining c.args.input.now) (g.R.ByteIn.remaining c.loop-kept.input)
     (g.R.ByteIn.remaining c.compare_next.new.input) (g.R.ByteIn.failures c.args.input.now)
     (g.R.ByteIn.failures c.loop-kept.input) (g.R.ByteIn.failures c.compare_next.new.input) i.3
-    u answer)
+    c.compare_next.new.player.notes u answer)
 
 pub returns-in_err-compare_next-clause-own : goal.returns-in_err-compare_next-clause-own
 returns-in_err-compare_next-clause-own g c =
     let p = err_from_is_err_and c.from_residual-in_err-compare_next.result
     c.from_residual-in_err-compare_next.ensures.1 in
-    rw (p.1, p.2) (rw c.loop-kept.invariant.4 at c.in_err-compare_next.ensures.own)
+    rw (p.1, p.2) (unlike_on c.args.player.now.reader c.loop-kept.player.reader
+    (passage g.R.ByteIn.remaining g.R.ByteIn.failures c.args.input.now c.loop-kept.input)
+    c.in_err-compare_next.field-0.0 c.loop-kept.invariant.4 c.loop-kept.invariant.5
+    c.in_err-compare_next.ensures.own)
 
 pub loop-kept-preserved : goal.loop-kept-preserved
 loop-kept-preserved g c =
@@ -65,9 +70,9 @@ loop-kept-preserved g c =
     let input = passage g.R.ByteIn.remaining g.R.ByteIn.failures c.loop-kept.input
     c.compare_next.new.input in
     let answer =
-    subst (λ b. CompareAnswers a c.args.md5s.now c.loop-kept.number to last input (Ok b))
+    subst (λ b. CompareAnswers a c.args.md5s.now c.loop-kept.number to last input c.compare_next.new.player.notes (Ok b))
     c.if-branch.true
-    (subst (λ z. CompareAnswers z c.args.md5s.now c.loop-kept.number to last input
+    (subst (λ z. CompareAnswers z c.args.md5s.now c.loop-kept.number to last input c.compare_next.new.player.notes
     (Ok c.in_ok-compare_next.field-0)) i.1 c.in_ok-compare_next.ensures.answer) in (
       c.in_ok-compare_next.ensures.sound,
       c.in_ok-compare_next.ensures.same ∙ i.1,
@@ -79,7 +84,14 @@ loop-kept-preserved g c =
           (g.R.ByteIn.failures c.args.input.now) (g.R.ByteIn.failures c.loop-kept.input)
           (g.R.ByteIn.failures c.compare_next.new.input) i.3 answer,
       c.in_ok-compare_next.ensures.container ∙ i.4,
+      (λ scope text stands. c.in_ok-compare_next.ensures.reached c.if-branch.true scope text
+          (i.5 scope text stands)),
     )
+
+pub returns-clause-noted : goal.returns-clause-noted
+returns-clause-noted g c = λ scope text stands.
+    c.in_ok-compare_next.ensures.noted c.if-branch.false scope text
+    (c.loop-kept.invariant.5 scope text stands)
 
 pub returns-clause-ok : goal.returns-clause-ok
 returns-clause-ok g c =
@@ -90,9 +102,9 @@ returns-clause-ok g c =
     let input = passage g.R.ByteIn.remaining g.R.ByteIn.failures c.loop-kept.input
     c.compare_next.new.input in
     let answer =
-    subst (λ b. CompareAnswers a c.args.md5s.now c.loop-kept.number to last input (Ok b))
+    subst (λ b. CompareAnswers a c.args.md5s.now c.loop-kept.number to last input c.compare_next.new.player.notes (Ok b))
     c.if-branch.false
-    (subst (λ z. CompareAnswers z c.args.md5s.now c.loop-kept.number to last input
+    (subst (λ z. CompareAnswers z c.args.md5s.now c.loop-kept.number to last input c.compare_next.new.player.notes
     (Ok c.in_ok-compare_next.field-0)) i.1 c.in_ok-compare_next.ensures.answer) in (
       i.3.frames,
       i.3.is,
@@ -102,5 +114,6 @@ returns-clause-ok g c =
           (g.R.ByteIn.remaining c.loop-kept.input)
           (g.R.ByteIn.remaining c.compare_next.new.input)
           (g.R.ByteIn.failures c.args.input.now) (g.R.ByteIn.failures c.loop-kept.input)
-          (g.R.ByteIn.failures c.compare_next.new.input) i.3 answer,
+          (g.R.ByteIn.failures c.compare_next.new.input) i.3
+          c.compare_next.new.player.notes answer,
     )

@@ -2,6 +2,7 @@ use Rattle.std.proofs.Common.{◌≡◌, None}
 use Rattle.ffv1_wire.specs.Passage.{passage}
 use Rattle.ffv1_files.specs.Places.{amount, container_of}
 use Rattle.ffv1_video.specs.KeptLines.{IsKeptFor}
+use Rattle.ffv1_unpack.specs.Internal.Located.{StaysReached}
 use Rattle.ffv1_unpack.proofs.FramesCompared.{ComparedSo}
 use Rattle.ffv1_unpack.proofs.comparing.compare_frames.Given as goal
 
@@ -13,6 +14,8 @@ invariant-loop-kept g l =
     (passage g.R.ByteIn.remaining g.R.ByteIn.failures l.initial.input l.input) l.number
     l.player.reader.place
     × (container_of l.player.reader.place ≡ container_of l.fn.player.reader.place)
+    × StaysReached l.fn.player.reader l.player.reader
+    (passage g.R.ByteIn.remaining g.R.ByteIn.failures l.initial.input l.input)
 
 abbrev pub decreases-loop-kept : goal.decreases-loop-kept
 decreases-loop-kept g l = amount l.player.reader.place

@@ -19,6 +19,8 @@ use Rattle.ffv1_unpack.proofs.FramesInTurn.{counted_more}
 use Rattle.ffv1_unpack.proofs.Md5sSoFar.{text_more}
 use Rattle.ffv1_unpack.proofs.PicturesWritten.{heads_of}
 use Rattle.ffv1_video.proofs.KeptLines.{zeros_kept}
+use Rattle.std.proofs.Common.{true, false}
+use Rattle.ffv1_unpack.proofs.OwnFaults.{told_on}
 use Rattle.ffv1_unpack.proofs.hashing.write_frames.Goals as goal
 
 pub returns-in_err-kept-clause-err : goal.returns-in_err-kept-clause-err
@@ -51,6 +53,7 @@ frames-init g c =
         none_at_most c.args.range.count,
       ),
       refl,
+      (λ scope text stands. stands),
     )
 
 pub returns-in_err-write_next-clause-err : goal.returns-in_err-write_next-clause-err
@@ -71,7 +74,7 @@ returns-in_err-write_next-clause-err g c =
     c.write_next.new.input in
     let output = passage g.W.ByteOut.contents g.W.ByteOut.failures c.frames.output
     c.write_next.new.output in
-    let answer = subst (λ z. NextAnswers z (frame_md5 z h (c.frames.count == 0) c.saturating_add.result) to last input output
+    let answer = subst (λ z. NextAnswers z (frame_md5 z h (c.frames.count == 0) c.saturating_add.result) to last input output c.write_next.new.player.notes
     (Err f)) i.1 c.in_err-write_next.ensures.answer in
     rw (p.1, p.2)
     (play_stops a (md5_from c.args.range.first s) c.args.player.now.reader.place to last c.frames.count
@@ -90,7 +93,10 @@ pub returns-in_err-write_next-clause-own : goal.returns-in_err-write_next-clause
 returns-in_err-write_next-clause-own g c =
     let p = err_from_is_err_and c.from_residual-in_err-write_next.result
     c.from_residual-in_err-write_next.ensures.1 in
-    rw (p.1, p.2) (rw c.frames.invariant.5 at c.in_err-write_next.ensures.own)
+    rw (p.1, p.2) (told_on c.args.player.now.reader c.frames.player.reader
+    (passage g.R.ByteIn.remaining g.R.ByteIn.failures c.args.input.now c.frames.input)
+    c.in_err-write_next.field-0.0 c.frames.invariant.5 c.frames.invariant.6
+    c.in_err-write_next.ensures.own)
 
 pub frames-preserved : goal.frames-preserved
 unfolding played_more
@@ -110,9 +116,9 @@ frames-preserved g c =
     let output = passage g.W.ByteOut.contents g.W.ByteOut.failures c.frames.output
     c.write_next.new.output in
     let answer =
-    subst (λ b. NextAnswers a (frame_md5 a h (c.frames.count == 0) c.saturating_add.result) to last input output (Ok b))
+    subst (λ b. NextAnswers a (frame_md5 a h (c.frames.count == 0) c.saturating_add.result) to last input output c.write_next.new.player.notes (Ok b))
     c.if-not-branch.false
-    (subst (λ z. NextAnswers z (frame_md5 z h (c.frames.count == 0) c.saturating_add.result) to last input output
+    (subst (λ z. NextAnswers z (frame_md5 z h (c.frames.count == 0) c.saturating_add.result) to last input output c.write_next.new.player.notes
     (Ok c.in_ok-write_next.field-0)) i.1 c.in_ok-write_next.ensures.answer) in
     let f = answer.0 in
     let next : c.saturating_add-count.result ≡ saturated (length (so.frames ++ (f ∷ []))) =
@@ -139,6 +145,8 @@ frames-preserved g c =
         one_at_most c.args.range.count so.frames f room,
       ),
       c.in_ok-write_next.ensures.container ∙ i.5,
+      (λ scope text stands. c.in_ok-write_next.ensures.reached c.if-not-branch.false scope text
+          (i.6 scope text stands)),
     )
 
 pub returns-then-not-branch-clause-ok : goal.returns-then-not-branch-clause-ok
@@ -155,9 +163,9 @@ returns-then-not-branch-clause-ok g c =
     let output = passage g.W.ByteOut.contents g.W.ByteOut.failures c.frames.output
     c.write_next.new.output in
     let answer =
-    subst (λ b. NextAnswers a (frame_md5 a h (c.frames.count == 0) c.saturating_add.result) to last input output (Ok b))
+    subst (λ b. NextAnswers a (frame_md5 a h (c.frames.count == 0) c.saturating_add.result) to last input output c.write_next.new.player.notes (Ok b))
     c.if-not-branch.true
-    (subst (λ z. NextAnswers z (frame_md5 z h (c.frames.count == 0) c.saturating_add.result) to last input output
+    (subst (λ z. NextAnswers z (frame_md5 z h (c.frames.count == 0) c.saturating_add.result) to last input output c.write_next.new.player.notes
     (Ok c.in_ok-write_next.field-0)) i.1 c.in_ok-write_next.ensures.answer) in (
       so.frames,
       so.is,
@@ -171,8 +179,18 @@ returns-then-not-branch-clause-ok g c =
           (g.R.ByteIn.failures c.write_next.new.input)
           (g.W.ByteOut.failures c.args.output.now) (g.W.ByteOut.failures c.frames.output)
           (g.W.ByteOut.failures c.write_next.new.output)
-          so c.args.range.count room i.4.1 answer.0 answer.1,
+          so c.write_next.new.player.notes c.args.range.count room i.4.1 answer.0 answer.1,
     )
+
+pub returns-then-not-branch-clause-noted : goal.returns-then-not-branch-clause-noted
+returns-then-not-branch-clause-noted g c = λ k is room scope text stands.
+    c.in_ok-write_next.ensures.noted c.if-not-branch.true scope text
+    (c.frames.invariant.6 scope text stands)
+
+pub returns-clause-noted : goal.returns-clause-noted
+returns-clause-noted g c = λ k is room scope text stands.
+    absurd (let no : true ≡ false = sym room ∙ sym (c.has_more.ensures k is)
+    ∙ c.frames-test.false in cc)
 
 pub returns-clause-ok : goal.returns-clause-ok
 returns-clause-ok g c =
@@ -189,5 +207,5 @@ returns-clause-ok g c =
           (g.W.ByteOut.contents c.args.output.now) (g.W.ByteOut.contents c.frames.output)
           (g.R.ByteIn.failures c.args.input.now) (g.R.ByteIn.failures c.frames.input)
           (g.W.ByteOut.failures c.args.output.now) (g.W.ByteOut.failures c.frames.output)
-          so.frames so.so c.args.range.count full i.4.1,
+          so.frames so.so c.frames.player.notes c.args.range.count full i.4.1,
     )

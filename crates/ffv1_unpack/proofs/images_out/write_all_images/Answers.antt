@@ -10,6 +10,8 @@ use Rattle.ffv1_unpack.proofs.FramesInTurn.{counted_more}
 use Rattle.ffv1_unpack.proofs.FramesPlayed.{none_at_most, one_at_most}
 use Rattle.ffv1_unpack.proofs.FramesUnpacked.{unpacks_full}
 use Rattle.ffv1_unpack.proofs.ImagesSoFar.{images_more, images_none, images_over, images_stop}
+use Rattle.std.proofs.Common.{true, false}
+use Rattle.ffv1_unpack.proofs.OwnFaults.{written_on}
 use Rattle.ffv1_unpack.proofs.images_out.write_all_images.Goals as goal
 
 pub frames-init : goal.frames-init
@@ -32,6 +34,7 @@ frames-init g c =
         none_at_most c.args.most,
       ),
       refl,
+      (λ scope text stands. stands),
     )
 
 pub returns-in_err-write_next-clause-err : goal.returns-in_err-write_next-clause-err
@@ -57,7 +60,10 @@ returns-in_err-write_next-clause-err g c =
 pub returns-in_err-write_next-clause-own : goal.returns-in_err-write_next-clause-own
 returns-in_err-write_next-clause-own g c =
     let p = err_from_is_err_and c.from_residual.result c.from_residual.ensures.1 in
-    rw (p.1, p.2) (rw c.frames.invariant.4 at c.in_err-write_next.ensures.own)
+    rw (p.1, p.2) (written_on c.args.player.now.reader c.frames.player.reader
+    (passage g.R.ByteIn.remaining g.R.ByteIn.failures c.args.input.now c.frames.input)
+    c.in_err-write_next.field-0.0 c.frames.invariant.4 c.frames.invariant.5
+    c.in_err-write_next.ensures.own)
 
 pub frames-preserved : goal.frames-preserved
 frames-preserved g c =
@@ -70,9 +76,9 @@ frames-preserved g c =
     let writing = passage g.W.ByteOut.contents g.W.ByteOut.failures c.frames.sink.out
     c.write_next.new.sink.out in
     let answer = subst (λ b. WritesImage a c.frames.player.reader.place
-    c.write_next.new.player.reader.place reading writing (Ok b)) c.if-not-branch.false
+    c.write_next.new.player.reader.place reading writing c.write_next.new.player.notes (Ok b)) c.if-not-branch.false
     (subst (λ z. WritesImage z c.frames.player.reader.place c.write_next.new.player.reader.place
-    reading writing (Ok c.in_ok-write_next.field-0)) same
+    reading writing c.write_next.new.player.notes (Ok c.in_ok-write_next.field-0)) same
     c.in_ok-write_next.ensures.answer) in
     let f = answer.0 in
     let next : c.saturating_add-count.result ≡ saturated (length (so.frames ++ (f ∷ []))) =
@@ -101,6 +107,8 @@ frames-preserved g c =
         one_at_most c.args.most so.frames f room,
       ),
       c.in_ok-write_next.ensures.container ∙ c.frames.invariant.4,
+      (λ scope text stands. c.in_ok-write_next.ensures.reached c.if-not-branch.false scope text
+          (c.frames.invariant.5 scope text stands)),
     )
 
 pub returns-then-not-branch-clause-ok : goal.returns-then-not-branch-clause-ok
@@ -114,9 +122,9 @@ returns-then-not-branch-clause-ok g c =
     let writing = passage g.W.ByteOut.contents g.W.ByteOut.failures c.frames.sink.out
     c.write_next.new.sink.out in
     let answer = subst (λ b. WritesImage a c.frames.player.reader.place
-    c.write_next.new.player.reader.place reading writing (Ok b)) c.if-not-branch.true
+    c.write_next.new.player.reader.place reading writing c.write_next.new.player.notes (Ok b)) c.if-not-branch.true
     (subst (λ z. WritesImage z c.frames.player.reader.place c.write_next.new.player.reader.place
-    reading writing (Ok c.in_ok-write_next.field-0)) same
+    reading writing c.write_next.new.player.notes (Ok c.in_ok-write_next.field-0)) same
     c.in_ok-write_next.ensures.answer) in (
       so.frames,
       so.is,
@@ -131,8 +139,18 @@ returns-then-not-branch-clause-ok g c =
           (g.R.ByteIn.failures c.write_next.new.input)
           (g.W.ByteOut.failures c.args.sink.now.out) (g.W.ByteOut.failures c.frames.sink.out)
           (g.W.ByteOut.failures c.write_next.new.sink.out)
-          so.frames so.un c.args.most room c.frames.invariant.3.1 answer.0 answer.1,
+          so.frames so.un c.write_next.new.player.notes c.args.most room c.frames.invariant.3.1 answer.0 answer.1,
     )
+
+pub returns-then-not-branch-clause-noted : goal.returns-then-not-branch-clause-noted
+returns-then-not-branch-clause-noted g c = λ k is room scope text stands.
+    c.in_ok-write_next.ensures.noted c.if-not-branch.true scope text
+    (c.frames.invariant.5 scope text stands)
+
+pub returns-clause-noted : goal.returns-clause-noted
+returns-clause-noted g c = λ k is room scope text stands.
+    absurd (let no : true ≡ false = sym room ∙ sym (c.has_more.ensures k is)
+    ∙ c.frames-test.false in cc)
 
 pub returns-clause-ok : goal.returns-clause-ok
 returns-clause-ok g c =
@@ -146,5 +164,5 @@ returns-clause-ok g c =
           (g.W.ByteOut.contents c.args.sink.now.out) (g.W.ByteOut.contents c.frames.sink.out)
           (g.R.ByteIn.failures c.args.input.now) (g.R.ByteIn.failures c.frames.input)
           (g.W.ByteOut.failures c.args.sink.now.out) (g.W.ByteOut.failures c.frames.sink.out)
-          so.frames so.un c.args.most full c.frames.invariant.3.1,
+          so.frames so.un c.frames.player.notes c.args.most full c.frames.invariant.3.1,
     )

@@ -2,6 +2,7 @@ use Rattle.std.proofs.Common.{◌≡◌, None, length}
 use Rattle.ffv1_wire.specs.Passage.{passage}
 use Rattle.ffv1_files.specs.Places.{amount, container_of}
 use Rattle.ffv1_unpack.specs.Internal.ImagesOut.{IsSinkFor}
+use Rattle.ffv1_unpack.specs.Internal.Located.{StaysReached}
 use Rattle.ffv1_unpack.specs.Internal.Opens.{stream_of}
 use Rattle.ffv1_unpack.specs.Plays.{AtMost}
 use Rattle.ffv1_unpack.proofs.ImagesSoFar.{ImagesSo}
@@ -16,6 +17,8 @@ invariant-frames g l =
     (passage g.W.ByteOut.contents g.W.ByteOut.failures l.initial.sink.out l.sink.out) l.count
     l.player.reader.place) × AtMost l.most (length so.frames))
     × (container_of l.player.reader.place ≡ container_of l.fn.player.reader.place)
+    × StaysReached l.fn.player.reader l.player.reader
+    (passage g.R.ByteIn.remaining g.R.ByteIn.failures l.initial.input l.input)
 
 abbrev pub decreases-frames : goal.decreases-frames
 decreases-frames g l = amount l.player.reader.place

@@ -144,14 +144,15 @@ returns-in-Err-File-clause-answer g c =
     c.tell_byte.new.output in
     let from = c.args.player.now.reader in
     let to = c.play.new.player.reader in
+    let offset = c.play.new.player.offset in
     let f = of_avi c.in-Err-File.fault in
     let is : c.from-fault.result ≡ f = c.from-fault.ensures in
     let answer = rw c.in-Err-File.field-0-is at c.in-Err-File.ensures.answer in
     let stops = rw c.in-Err-File.field-0-is at c.in-Err-File.ensures.located in
-    let writes : WritesLine [] (located_text c.args.judging.places.byte i f to.offset) writing =
-    rw (is, c.offset-offset.ensures) at c.tell_byte.ensures in
+    let writes : WritesLine [] (located_text c.args.judging.places.byte i f offset) writing =
+    rw is at c.tell_byte.ensures in
     subst (λ z. JudgeStopsBy c.args.judging.places.place c.args.judging.places.byte a i from to.place reading
     writing z (cause_of z)) (sym is)
     (file_refused (IsJudged a) payload_of (judged_line c.args.judging.places.place a.configuration i)
-    c.args.judging.places.byte i from to.place to.offset reading writing f (cause_of f) refl answer.0
+    c.args.judging.places.byte i from to.place offset reading writing f (cause_of f) refl answer.0
     stops writes)

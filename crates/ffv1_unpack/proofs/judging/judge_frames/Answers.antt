@@ -9,6 +9,8 @@ use Rattle.ffv1_unpack.specs.Judged.{IsJudged, judged_from, payload_of}
 use Rattle.ffv1_unpack.specs.Ranges.{number_in}
 use Rattle.ffv1_unpack.proofs.FramesJudged.{so_more, so_none, so_over, so_stops}
 use Rattle.ffv1_unpack.proofs.FramesPlayed.{none_at_most, one_at_most, plays_full}
+use Rattle.std.proofs.Common.{true, false}
+use Rattle.ffv1_unpack.proofs.OwnFaults.{told_on}
 use Rattle.ffv1_unpack.proofs.judging.judge_frames.Goals as goal
 
 pub frames-init : goal.frames-init
@@ -54,7 +56,10 @@ returns-in_err-judge_frame-clause-err g c =
 pub returns-in_err-judge_frame-clause-own : goal.returns-in_err-judge_frame-clause-own
 returns-in_err-judge_frame-clause-own g c =
     let p = err_from_is_err_and c.from_residual.result c.from_residual.ensures.1 in
-    rw (p.1, p.2) (rw c.frames.invariant.3 at c.in_err-judge_frame.ensures.own)
+    rw (p.1, p.2) (told_on c.args.player.now.reader c.frames.player.reader
+    (passage g.R.ByteIn.remaining g.R.ByteIn.failures c.args.input.now c.frames.input)
+    c.in_err-judge_frame.field-0.0 c.frames.invariant.3 c.frames.invariant.4
+    c.in_err-judge_frame.ensures.own)
 
 pub frames-preserved : goal.frames-preserved
 unfolding so_more
@@ -70,10 +75,10 @@ frames-preserved g c =
     c.judge_frame.new.output in
     let answer = subst (λ b. JudgeAnswers c.args.places.place c.args.places.byte
     c.args.player.now.decoder.accepted c.saturating_add-number.result c.frames.player.reader
-    c.judge_frame.new.player.reader.place reading writing c.frames.counts
+    c.judge_frame.new.player.reader.place reading writing c.judge_frame.new.player.notes c.frames.counts
     c.judge_frame.new.counts (Ok b)) c.if-not-branch.false
     (subst (λ z. JudgeAnswers c.args.places.place c.args.places.byte z c.saturating_add-number.result
-    c.frames.player.reader c.judge_frame.new.player.reader.place reading writing
+    c.frames.player.reader c.judge_frame.new.player.reader.place reading writing c.judge_frame.new.player.notes
     c.frames.counts c.judge_frame.new.counts (Ok c.in_ok-judge_frame.field-0)) same
     c.in_ok-judge_frame.ensures.answer) in (
       c.in_ok-judge_frame.ensures.sound,
@@ -110,10 +115,10 @@ returns-then-not-branch-clause-ok g c =
     c.judge_frame.new.output in
     let answer = subst (λ b. JudgeAnswers c.args.places.place c.args.places.byte
     c.args.player.now.decoder.accepted c.saturating_add-number.result c.frames.player.reader
-    c.judge_frame.new.player.reader.place reading writing c.frames.counts
+    c.judge_frame.new.player.reader.place reading writing c.judge_frame.new.player.notes c.frames.counts
     c.judge_frame.new.counts (Ok b)) c.if-not-branch.true
     (subst (λ z. JudgeAnswers c.args.places.place c.args.places.byte z c.saturating_add-number.result
-    c.frames.player.reader c.judge_frame.new.player.reader.place reading writing
+    c.frames.player.reader c.judge_frame.new.player.reader.place reading writing c.judge_frame.new.player.notes
     c.frames.counts c.judge_frame.new.counts (Ok c.in_ok-judge_frame.field-0)) same
     c.in_ok-judge_frame.ensures.answer) in (
       so.js,
@@ -129,8 +134,18 @@ returns-then-not-branch-clause-ok g c =
           (g.R.ByteIn.failures c.judge_frame.new.input)
           (g.W.ByteOut.failures c.args.output.now) (g.W.ByteOut.failures c.frames.output)
           (g.W.ByteOut.failures c.judge_frame.new.output)
-          so c.args.range.count room c.frames.invariant.2.1 answer.0 answer.1,
+          so c.judge_frame.new.player.notes c.args.range.count room c.frames.invariant.2.1 answer.0 answer.1,
     )
+
+pub returns-then-not-branch-clause-noted : goal.returns-then-not-branch-clause-noted
+returns-then-not-branch-clause-noted g c = λ k is room scope text stands.
+    c.in_ok-judge_frame.ensures.noted c.if-not-branch.true scope text
+    (c.frames.invariant.4 scope text stands)
+
+pub returns-clause-noted : goal.returns-clause-noted
+returns-clause-noted g c = λ k is room scope text stands.
+    absurd (let no : true ≡ false = sym room ∙ sym (c.has_more.ensures k is)
+    ∙ c.frames-test.false in cc)
 
 pub returns-clause-ok : goal.returns-clause-ok
 returns-clause-ok g c =
@@ -147,5 +162,5 @@ returns-clause-ok g c =
           (g.W.ByteOut.contents c.args.output.now) (g.W.ByteOut.contents c.frames.output)
           (g.R.ByteIn.failures c.args.input.now) (g.R.ByteIn.failures c.frames.input)
           (g.W.ByteOut.failures c.args.output.now) (g.W.ByteOut.failures c.frames.output)
-          so.js so.so c.args.range.count full c.frames.invariant.2.1,
+          so.js so.so c.frames.player.notes c.args.range.count full c.frames.invariant.2.1,
     )

@@ -17,6 +17,8 @@ use Rattle.ffv1_unpack.proofs.PicturesWritten.{UnpackedSo, begun_more, heads_of}
 use Rattle.ffv1_unpack.proofs.PicturesWritten.{unpacked_more, unpacked_none, unpacked_over}
 use Rattle.ffv1_unpack.proofs.PicturesWritten.{unpacking_stops, wants_memory}
 use Rattle.ffv1_video.proofs.KeptLines.{zeros_kept}
+use Rattle.std.proofs.Common.{true, false}
+use Rattle.ffv1_unpack.proofs.OwnFaults.{written_on}
 use Rattle.ffv1_unpack.proofs.pictures_out.write_pictures.Goals as goal
 
 pub returns-in_err-kept-clause-err : goal.returns-in_err-kept-clause-err
@@ -52,6 +54,7 @@ frames-init g c =
         none_at_most c.args.most,
       ),
       refl,
+      (λ scope text stands. stands),
     )
 
 pub returns-in_err-write_next-clause-err : goal.returns-in_err-write_next-clause-err
@@ -70,9 +73,9 @@ returns-in_err-write_next-clause-err g c =
     let output = passage g.W.ByteOut.contents g.W.ByteOut.failures c.frames.output
     c.write_next.new.output in
     let answer =
-    subst (λ z. WritesNext a h (said_in z) to last input output c.write_next.new.text.begun (Err f))
+    subst (λ z. WritesNext a h (said_in z) to last input output c.write_next.new.player.notes c.write_next.new.text.begun (Err f))
     so.begun_is
-    (subst (λ z. WritesNext z h (said_in c.frames.text.begun) to last input output
+    (subst (λ z. WritesNext z h (said_in c.frames.text.begun) to last input output c.write_next.new.player.notes
     c.write_next.new.text.begun (Err f)) i.1 c.in_err-write_next.ensures.answer) in
     rw (p.1, p.2)
     (unpacking_stops (stream_of c.args.player.now.reader a) h i.3 c.requires.colour
@@ -91,7 +94,10 @@ pub returns-in_err-write_next-clause-own : goal.returns-in_err-write_next-clause
 returns-in_err-write_next-clause-own g c =
     let p = err_from_is_err_and c.from_residual-in_err-write_next.result
     c.from_residual-in_err-write_next.ensures.1 in
-    rw (p.1, p.2) (rw c.frames.invariant.5 at c.in_err-write_next.ensures.own)
+    rw (p.1, p.2) (written_on c.args.player.now.reader c.frames.player.reader
+    (passage g.R.ByteIn.remaining g.R.ByteIn.failures c.args.input.now c.frames.input)
+    c.in_err-write_next.field-0.0 c.frames.invariant.5 c.frames.invariant.6
+    c.in_err-write_next.ensures.own)
 
 pub frames-preserved : goal.frames-preserved
 frames-preserved g c =
@@ -109,10 +115,10 @@ frames-preserved g c =
     c.write_next.new.output in
     let answer =
     subst (λ b. WritesNext a h (said_in (begun_behind a.configuration.depth h so.frames)) to last
-    input output c.write_next.new.text.begun (Ok b)) c.if-not-branch.false
-    (subst (λ z. WritesNext a h (said_in z) to last input output c.write_next.new.text.begun
+    input output c.write_next.new.player.notes c.write_next.new.text.begun (Ok b)) c.if-not-branch.false
+    (subst (λ z. WritesNext a h (said_in z) to last input output c.write_next.new.player.notes c.write_next.new.text.begun
     (Ok c.in_ok-write_next.field-0)) so.begun_is
-    (subst (λ z. WritesNext z h (said_in c.frames.text.begun) to last input output
+    (subst (λ z. WritesNext z h (said_in c.frames.text.begun) to last input output c.write_next.new.player.notes
     c.write_next.new.text.begun (Ok c.in_ok-write_next.field-0)) i.1
     c.in_ok-write_next.ensures.answer)) in
     let f = answer.0 in
@@ -149,6 +155,8 @@ frames-preserved g c =
           c.write_next.new.text.begun c.saturating_add-count.result last) × AtMost c.args.most
           (length so.frames)) head (unpacked, one_at_most c.args.most so.frames f room),
       c.in_ok-write_next.ensures.container ∙ i.5,
+      (λ scope text stands. c.in_ok-write_next.ensures.reached c.if-not-branch.false scope text
+          (i.6 scope text stands)),
     )
 
 pub returns-then-not-branch-clause-ok : goal.returns-then-not-branch-clause-ok
@@ -165,9 +173,9 @@ returns-then-not-branch-clause-ok g c =
     let output = passage g.W.ByteOut.contents g.W.ByteOut.failures c.frames.output
     c.write_next.new.output in
     let answer =
-    subst (λ b. WritesNext a h (said_in c.frames.text.begun) to last input output
+    subst (λ b. WritesNext a h (said_in c.frames.text.begun) to last input output c.write_next.new.player.notes
     c.write_next.new.text.begun (Ok b)) c.if-not-branch.true
-    (subst (λ z. WritesNext z h (said_in c.frames.text.begun) to last input output
+    (subst (λ z. WritesNext z h (said_in c.frames.text.begun) to last input output c.write_next.new.player.notes
     c.write_next.new.text.begun (Ok c.in_ok-write_next.field-0)) i.1
     c.in_ok-write_next.ensures.answer) in (
       so.frames,
@@ -182,8 +190,18 @@ returns-then-not-branch-clause-ok g c =
           (g.R.ByteIn.failures c.write_next.new.input)
           (g.W.ByteOut.failures c.args.output.now) (g.W.ByteOut.failures c.frames.output)
           (g.W.ByteOut.failures c.write_next.new.output)
-          so.frames so.un c.args.most room i.4.1 answer.0 answer.1,
+          so.frames so.un c.write_next.new.player.notes c.args.most room i.4.1 answer.0 answer.1,
     )
+
+pub returns-then-not-branch-clause-noted : goal.returns-then-not-branch-clause-noted
+returns-then-not-branch-clause-noted g c = λ k is room scope text stands.
+    c.in_ok-write_next.ensures.noted c.if-not-branch.true scope text
+    (c.frames.invariant.6 scope text stands)
+
+pub returns-clause-noted : goal.returns-clause-noted
+returns-clause-noted g c = λ k is room scope text stands.
+    absurd (let no : true ≡ false = sym room ∙ sym (c.has_more.ensures k is)
+    ∙ c.frames-test.false in cc)
 
 pub returns-clause-ok : goal.returns-clause-ok
 returns-clause-ok g c =
@@ -198,5 +216,5 @@ returns-clause-ok g c =
           (g.W.ByteOut.contents c.args.output.now) (g.W.ByteOut.contents c.frames.output)
           (g.R.ByteIn.failures c.args.input.now) (g.R.ByteIn.failures c.frames.input)
           (g.W.ByteOut.failures c.args.output.now) (g.W.ByteOut.failures c.frames.output)
-          so.frames so.un c.args.most full i.4.1,
+          so.frames so.un c.frames.player.notes c.args.most full i.4.1,
     )

@@ -2,6 +2,7 @@ use Rattle.std.proofs.Common.{◌≡◌, None, length}
 use Rattle.ffv1_wire.specs.Passage.{passage}
 use Rattle.ffv1_codec.specs.SliceList.{Said}
 use Rattle.ffv1_files.specs.Places.{amount, container_of}
+use Rattle.ffv1_unpack.specs.Internal.Located.{StaysReached}
 use Rattle.ffv1_unpack.specs.Internal.Opens.{stream_of}
 use Rattle.ffv1_video.specs.KeptLines.{IsKeptFor}
 use Rattle.ffv1_unpack.specs.Internal.PicturesOut.{head_saying}
@@ -22,6 +23,8 @@ invariant-frames g l =
     (passage g.W.ByteOut.contents g.W.ByteOut.failures l.initial.output l.output) l.text.begun
     l.count l.player.reader.place) × AtMost l.most (length so.frames))
     × (container_of l.player.reader.place ≡ container_of l.fn.player.reader.place)
+    × StaysReached l.fn.player.reader l.player.reader
+    (passage g.R.ByteIn.remaining g.R.ByteIn.failures l.initial.input l.input)
 
 abbrev pub decreases-frames : goal.decreases-frames
 decreases-frames g l = amount l.player.reader.place

@@ -24,7 +24,8 @@ returns-in_err-checked-clause-err g c =
     c.in_ok-reader.ensures.answer.0 (rw c.scope.ensures at c.in_ok-reader.ensures.answer.1)
     (subst (λ (z : Head). (f ≡ record_fault.OutOfMemory) ⊎ IsRefused (record_profile
     c.args.profile) (greatest_depth c.args.profile) z.config_record z.width z.height f) c.head.ensures.value c.in_err-checked.ensures.err)
-    (λ memory. subst (λ (z : Head). ReachesSets (greatest_depth c.args.profile) z.config_record)
+    (λ memory. subst (λ (z : Head). ReachesSets (record_profile c.args.profile)
+    (greatest_depth c.args.profile) z.config_record)
     c.head.ensures.value (c.in_err-checked.ensures.memory memory))
     (λ memory. subst (λ (z : Head). HasSoundRecord c.args.profile z)
     c.head.ensures.value (c.in_err-checked.ensures.sound memory)))
@@ -73,6 +74,6 @@ returns-in_err-reader-clause-stopped g c =
     rw (p.1, p.2) (λ own. (
       c.in_err-reader.field-0.0,
       refl,
-      rw c.scope.ensures at
-          c.in_err-reader.ensures.stopped,
+      inl (rw c.scope.ensures at
+          c.in_err-reader.ensures.stopped),
     ))

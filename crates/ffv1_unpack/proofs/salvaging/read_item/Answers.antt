@@ -5,6 +5,10 @@ use Rattle.ffv1_files.specs.Answers.{ReadsAs}
 use Rattle.ffv1_files.specs.Files.{frame_read}
 use Rattle.ffv1_files.specs.Readers.{next_of}
 use Rattle.ffv1_unpack.proofs.SalvageSteps.{avi_end, avi_frame}
+use Rattle.std.proofs.Common.{Ok, refl}
+use Rattle.ffv1_files.specs.Noted.{NotesNext}
+use Rattle.ffv1_files.specs.Offsets.{LocatedNext}
+use Rattle.ffv1_unpack.proofs.OwnFaults.{frame_tells}
 use Rattle.ffv1_unpack.proofs.salvaging.read_item.Goals as goal
 
 pub returns-in-Ok-true-clause-ok : goal.returns-in-Ok-true-clause-ok
@@ -28,3 +32,26 @@ returns-in-Ok-false-clause-ok g c =
     c.next_frame.new.frame.items c.next_frame.new.self.place)) c.in-Ok-false.field-0-test
     (c.in-Ok-false.ensures.answer c.requires.sound) in
     avi_end c.args.course.now i from (sym c.container.ensures ∙ c.in-Avi.is) read
+
+pub returns-in-Ok-true-clause-reached : goal.returns-in-Ok-true-clause-reached
+returns-in-Ok-true-clause-reached g c =
+    let i = passage g.R.ByteIn.remaining g.R.ByteIn.failures c.args.input.now
+    c.next_frame.new.input in
+    λ other avi scope text stands. record {
+      reached = subst (λ (b : Bool). LocatedNext scope text i (Ok b) c.next_frame.new.self)
+          c.in-Ok-true.field-0-test
+          (c.in-Ok-true.ensures.located c.requires.sound scope text stands.reached);
+      ends = c.in-Ok-true.ensures.ends stands.ends c.in-Ok-true.field-0-test;
+      noted = subst (λ (b : Bool). NotesNext scope text i (Ok b) c.next_frame.new.self)
+          c.in-Ok-true.field-0-test
+          (c.in-Ok-true.ensures.noted c.requires.sound scope text stands.reached stands.noted);
+    }
+
+pub returns-in-Ok-false-clause-reached : goal.returns-in-Ok-false-clause-reached
+returns-in-Ok-false-clause-reached g c = λ other avi. absurd (other refl)
+
+pub returns-in-Err-clause-own : goal.returns-in-Err-clause-own
+returns-in-Err-clause-own g c =
+    rw c.from.ensures (frame_tells c.args.player.now.reader
+    (g.R.ByteIn.remaining c.args.input.now) c.in-Err.fault
+    (c.in-Err.ensures.own c.requires.sound))

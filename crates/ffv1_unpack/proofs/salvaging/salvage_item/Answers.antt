@@ -145,3 +145,14 @@ returns-in_ok-write_told-in-Told-clause-answer g c =
           c.in-Told.fault c.in-Told.offset
           (c.tell.ensures ∙ ap (told_counted old.counts) c.from.ensures),
     )
+
+pub returns-in_ok-salvage_frame-in-Frame-clause-reached :
+    goal.returns-in_ok-salvage_frame-in-Frame-clause-reached
+returns-in_ok-salvage_frame-in-Frame-clause-reached g c = λ more avi.
+    rw c.salvage_frame.ensures.reader (c.in-Ok.ensures.reached
+    (λ e. let no = sym c.in-Frame.is ∙ e in cc) avi)
+
+pub returns-in_ok-write_told-in-Told-clause-reached :
+    goal.returns-in_ok-write_told-in-Told-clause-reached
+returns-in_ok-write_told-in-Told-clause-reached g c = λ more avi.
+    c.in-Ok.ensures.reached (λ e. let no = sym c.in-Told.is ∙ e in cc) avi

@@ -7,6 +7,7 @@ use Rattle.ffv1_unpack.specs.Internal.Opens.{stream_of}
 use Rattle.ffv1_unpack.proofs.FramesInTurn.{counted_more}
 use Rattle.ffv1_unpack.proofs.SalvageSteps.{none_yet, ready_more, salvage_stops, salvaged_many}
 use Rattle.ffv1_unpack.proofs.SalvageSteps.{salvaged_more, salvaged_over}
+use Rattle.ffv1_unpack.proofs.OwnFaults.{told_after}
 use Rattle.ffv1_unpack.proofs.salvaging.salvage_items.Goals as goal
 
 pub loop-item-init : goal.loop-item-init
@@ -23,6 +24,7 @@ loop-item-init g c =
           (g.P.PictureOut.contents c.args.output.now) (g.R.ByteIn.failures c.args.input.now)
           (g.L.ByteOut.failures c.args.lines.now) (g.P.PictureOut.failures c.args.output.now) _ _
           refl refl refl c.requires.ready,
+      (λ avi scope text stands. stands),
     )
 
 pub returns-in_err-salvage_item-clause-err : goal.returns-in_err-salvage_item-clause-err
@@ -56,6 +58,14 @@ returns-in_err-salvage_item-clause-err g c =
     g.P.PictureOut.ready c.salvage_item.new.output c.in_err-salvage_item.field-0.0
     c.salvage_item.new.salvage.counts c.salvage_item.new.salvage.header
     c.salvage_item.new.salvage.last.items answer)
+
+pub returns-in_err-salvage_item-clause-own : goal.returns-in_err-salvage_item-clause-own
+returns-in_err-salvage_item-clause-own g c =
+    let p = err_from_is_err_and c.from_residual.result c.from_residual.ensures.1 in
+    let i = c.loop-item.invariant in
+    rw (p.1, p.2) (told_after c.args.player.now.reader c.loop-item.player.reader
+    (passage g.R.ByteIn.remaining g.R.ByteIn.failures c.args.input.now c.loop-item.input)
+    c.in_err-salvage_item.field-0.0 i.2 i.5 c.in_err-salvage_item.ensures.own)
 
 pub loop-item-preserved : goal.loop-item-preserved
 loop-item-preserved g c =
@@ -107,6 +117,8 @@ loop-item-preserved g c =
             (g.P.PictureOut.failures c.salvage_item.new.output) to.xs to.so
             g.P.PictureOut.ready c.salvage_item.new.output answer.0 answer.2;
       },
+      (λ avi scope text stands. c.in_ok-salvage_item.ensures.reached c.if-not-branch.false
+          (i.2 ∙ avi) scope text (i.5 avi scope text stands)),
     )
 
 pub returns-then-not-branch-clause-ok : goal.returns-then-not-branch-clause-ok

@@ -2,6 +2,8 @@ use Rattle.std.proofs.Common.{◌≡◌, None}
 use Rattle.ffv1_wire.specs.Passage.{passage}
 use Rattle.ffv1_files.specs.Items.{course_of}
 use Rattle.ffv1_files.specs.Places.{container_of}
+use Rattle.ffv1_files.specs.declared.container.Container.TheVariants as container
+use Rattle.ffv1_unpack.specs.Internal.Located.{StaysReached}
 use Rattle.ffv1_unpack.specs.Internal.Opens.{stream_of}
 use Rattle.ffv1_unpack.specs.Unpacked.{is_ppm_stream}
 use Rattle.ffv1_unpack.proofs.SalvageSteps.{SalvagedTo}
@@ -20,3 +22,6 @@ invariant-loop-item g l =
     (passage g.L.ByteOut.contents g.L.ByteOut.failures l.initial.lines l.lines)
     (passage g.P.PictureOut.contents g.P.PictureOut.failures l.initial.output l.output) l._item
     l.salvage.counts l.salvage.header l.salvage.last.items l.player.reader.place l.salvage.course
+    × (container_of l.fn.player.reader.place ≡ container.Avi →
+    StaysReached l.fn.player.reader l.player.reader
+    (passage g.R.ByteIn.remaining g.R.ByteIn.failures l.initial.input l.input))

@@ -1,8 +1,7 @@
 -- Writes what a file's head and its record say, and how much a decoder of its frames holds.
-use Rattle.std.proofs.Common.{◌≡◌, Err, Ok, Result, inl, inr, subst, sym}
+use Rattle.std.proofs.Common.{◌≡◌, Err, Ok, Result, inl, inr, refl, subst, sym}
 use Rattle.ffv1_wire.specs.Passage.{Passage}
 use Rattle.ffv1_record.specs.Accepted.{Accepted}
-use Rattle.ffv1_files.specs.Places.{container_of}
 use Rattle.ffv1_files.specs.declared.container.Container.{Container}
 use Rattle.ffv1_video.specs.declared.fault.Fault.{Fault}
 use Rattle.ffv1_video.specs.declared.fault.Fault.TheVariants as fault
@@ -11,6 +10,7 @@ use Rattle.ffv1_wire.specs.Passage.{passage}
 use Rattle.ffv1_reads.specs.Head.{Head, head_of}
 use Rattle.ffv1_video.specs.Faults.{cause_of}
 use Rattle.ffv1_unpack.specs.Internal.Opens.{stream_of}
+use Rattle.ffv1_files.specs.Noted.{no_notes}
 use Rattle.ffv1_unpack.specs.Show.{IsShowFault, ShowDone, ShowStops}
 use Rattle.ffv1_unpack.specs.StreamLines.{show_text}
 use Rattle.ffv1_unpack.specs.Internal.Told.{IsToldFault, WritesFrame}
@@ -18,6 +18,7 @@ use Rattle.ffv1_unpack.proofs.FileRead.{reads_file}
 use Rattle.ffv1_unpack.proofs.FileShown.{before_costs, costs_stop, lacks_stream, no_decoder, shows}
 use Rattle.ffv1_unpack.proofs.FileShown.{shows_costs, text_stops, told_some}
 use Rattle.ffv1_unpack.proofs.OwnFaults.{line_shows, opened_shows, told_shows}
+use Rattle.ffv1_video.specs.Profiles.{scope_in}
 use Rattle.ffv1_unpack.proofs.showing.show.Goals as goal
 
 -- the lines that were written are those of the reader's head and container
@@ -58,33 +59,35 @@ returns-in_err-write_stream-clause-err g c =
     rw (p.1, p.2) (before_costs c.args.profile input output c.args.cost f
     (text_stops _ _ _ _ _ _ _ _ _ r a c.in_ok-reader.ensures.ok f writes))
 
-pub returns-in_err-tell_costs-clause-err : goal.returns-in_err-tell_costs-clause-err
-returns-in_err-tell_costs-clause-err g c =
-    let p = err_from_is_err_and c.from_residual-in_err-tell_costs.result
-    c.from_residual-in_err-tell_costs.ensures.1 in
+pub returns-in_err-notes-clause-err : goal.returns-in_err-notes-clause-err
+returns-in_err-notes-clause-err g c =
+    let p = err_from_is_err_and c.from_residual-in_err-notes.result
+    c.from_residual-in_err-notes.ensures.1 in
     let input = passage g.R.ByteIn.remaining g.R.ByteIn.failures c.args.input.now
     c.tell_costs.new.input in
     let between = passage g.W.ByteOut.contents g.W.ByteOut.failures c.args.output.now
     c.write_stream.new.output in
     let output = passage g.W.ByteOut.contents g.W.ByteOut.failures c.args.output.now
     c.tell_costs.new.output in
-    let f = c.in_err-tell_costs.field-0.0 in
+    let f = c.in_err-notes.field-0.0 in
     let r = c.in_ok-reader.reader in
     let a = c.in_ok-reader.checked in
     let writes = lines_told a between (Ok c.in_ok-write_stream.field-0) c.head.ensures.value
     c.container.ensures c.in_ok-write_stream.ensures in
-    let some : f ≡ fault.NoFrames → ⊥ = λ e. told_some (container_of r.place)
-    (subst (IsToldFault (container_of r.place)) e c.in_err-tell_costs.ensures.own) in
+    let some : f ≡ fault.NoFrames → ⊥ = λ e. told_some r
+    (g.R.ByteIn.remaining c.open_stream.new.input)
+    (subst (IsToldFault r (g.R.ByteIn.remaining c.open_stream.new.input)) e
+    c.in_err-notes.ensures.own) in
     rw (p.1, p.2) (subst (λ b. ShowStops c.args.profile input output b f) (sym c.if-cost.true)
-    (inr (elim c.in_err-tell_costs.ensures.err [
+    (inr (elim c.in_err-notes.ensures.err [
       | inl none ↦ no_decoder _ _ _ _ _ _ _ _ _ _ _ _ _ r a c.in_ok-reader.ensures.ok writes.0
           writes.1 f none
       | inr stops ↦ costs_stop _ _ _ _ _ _ _ _ _ _ _ _ _ r a c.in_ok-reader.ensures.ok writes.0
           writes.1 f some stops
     ])))
 
-pub returns-in_ok-tell_costs-clause-ok : goal.returns-in_ok-tell_costs-clause-ok
-returns-in_ok-tell_costs-clause-ok g c =
+pub returns-then-cost-clause-ok : goal.returns-then-cost-clause-ok
+returns-then-cost-clause-ok g c =
     let input = passage g.R.ByteIn.remaining g.R.ByteIn.failures c.args.input.now
     c.tell_costs.new.input in
     let between = passage g.W.ByteOut.contents g.W.ByteOut.failures c.args.output.now
@@ -94,14 +97,17 @@ returns-in_ok-tell_costs-clause-ok g c =
     let r = c.in_ok-reader.reader in
     let a = c.in_ok-reader.checked in
     let opens = c.in_ok-reader.ensures.ok in
-    let told = c.in_ok-tell_costs.ensures.ok in
+    let told = c.in_ok-notes.ensures.ok in
     let writes = lines_told a between (Ok c.in_ok-write_stream.field-0) c.head.ensures.value
     c.container.ensures c.in_ok-write_stream.ensures in
     let reads = reads_file c.frames_come_in_turn.ensures c.what_is_read_is_a_file.ensures.first
-    c.what_is_read_is_a_file.ensures.whole c.args.profile _ _ _ (stream_of r a) r.place told.0
+    c.what_is_read_is_a_file.ensures.whole c.args.profile c.in_ok-notes.notes _ _ _
+    (stream_of r a) r.place told.0
     opens.known told.1.plays.goes.has in
-    subst (λ b. ShowDone c.args.profile input output b) (sym c.if-cost.true)
-    (shows_costs _ _ _ _ _ _ _ _ _ _ _ _ _ r a opens writes.0 writes.1 told.0 told.1 reads)
+    subst (λ b. ShowDone c.args.profile input output b c.in_ok-notes.notes) (sym c.if-cost.true)
+    (shows_costs _ _ _ _ _ _ _ _ _ _ _ _ _ r a opens writes.0 writes.1 c.in_ok-notes.notes
+    told.0 told.1 reads (c.in_ok-notes.ensures.noted (scope_in c.args.profile)
+    (g.R.ByteIn.remaining c.args.input.now) c.in_ok-reader.ensures.located))
 
 pub returns-in_err-write_stream-clause-own : goal.returns-in_err-write_stream-clause-own
 returns-in_err-write_stream-clause-own g c =
@@ -117,17 +123,18 @@ returns-in_err-write_stream-clause-own g c =
     rw (p.1, p.2) (inl (line_shows c.args.cost text output c.in_err-write_stream.field-0.0
     c.in_err-write_stream.ensures))
 
-pub returns-in_err-tell_costs-clause-own : goal.returns-in_err-tell_costs-clause-own
-returns-in_err-tell_costs-clause-own g c =
-    let p = err_from_is_err_and c.from_residual-in_err-tell_costs.result
-    c.from_residual-in_err-tell_costs.ensures.1 in
-    let f = c.in_err-tell_costs.field-0.0 in
+pub returns-in_err-notes-clause-own : goal.returns-in_err-notes-clause-own
+returns-in_err-notes-clause-own g c =
+    let p = err_from_is_err_and c.from_residual-in_err-notes.result
+    c.from_residual-in_err-notes.ensures.1 in
+    let f = c.in_err-notes.field-0.0 in
     rw (p.1, p.2) (subst (λ b. IsShowFault c.args.profile b f) (sym c.if-cost.true)
-    (told_shows c.args.profile c.in_ok-reader.reader.place f c.in_ok-reader.ensures.ok.within
-    c.in_err-tell_costs.ensures.own))
+    (told_shows c.args.profile c.in_ok-reader.reader (g.R.ByteIn.remaining c.args.input.now)
+    (g.R.ByteIn.remaining c.open_stream.new.input) f c.in_ok-reader.ensures.located
+    c.in_ok-reader.ensures.ok.within c.in_err-notes.ensures.own))
 
-pub returns-else-cost-clause-ok : goal.returns-else-cost-clause-ok
-returns-else-cost-clause-ok g c =
+pub returns-clause-ok : goal.returns-clause-ok
+returns-clause-ok g c =
     let input = passage g.R.ByteIn.remaining g.R.ByteIn.failures c.args.input.now
     c.open_stream.new.input in
     let output = passage g.W.ByteOut.contents g.W.ByteOut.failures c.args.output.now
@@ -136,8 +143,8 @@ returns-else-cost-clause-ok g c =
     let a = c.in_ok-reader.checked in
     let writes = lines_told a output (Ok c.in_ok-write_stream.field-0) c.head.ensures.value
     c.container.ensures c.in_ok-write_stream.ensures in
-    subst (λ b. ShowDone c.args.profile input output b) (sym c.if-cost.false)
-    (shows c.args.profile _ _ _ _ _ _ _ _ r a c.in_ok-reader.ensures.ok writes.0 writes.1)
+    subst (λ b. ShowDone c.args.profile input output b no_notes) (sym c.if-cost.false)
+    (shows c.args.profile _ _ _ _ _ _ _ _ r a c.in_ok-reader.ensures.ok writes.0 writes.1, refl)
 
 pub returns-in_err-reader-clause-own : goal.returns-in_err-reader-clause-own
 returns-in_err-reader-clause-own g c =

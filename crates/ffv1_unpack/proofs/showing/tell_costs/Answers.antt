@@ -2,6 +2,7 @@
 use Rattle.std.proofs.Common.{refl, inl, inr}
 use Rattle.std.proofs.lemmas.Result.{err_from_is_err_and}
 use Rattle.ffv1_video.proofs.Output.{silent}
+use Rattle.std.proofs.Common.{length}
 use Rattle.ffv1_unpack.proofs.showing.tell_costs.Goals as goal
 
 pub returns-in_err-player-clause-err : goal.returns-in_err-player-clause-err
@@ -22,3 +23,9 @@ returns-in_err-tell_frames-clause-err g c =
     c.from_residual-in_err-tell_frames.ensures.1 in
     rw (p.1, p.2) (inr (rw (c.in_ok-player.ensures.reader, c.in_ok-player.ensures.decoder) at
     c.in_err-tell_frames.ensures.err))
+
+pub returns-clause-noted : goal.returns-clause-noted
+returns-clause-noted g c =
+    let told = c.in_ok-tell_frames.ensures.ok in
+    rw c.in_ok-player.ensures.reader at
+    (c.in_ok-tell_frames.ensures.noted (length told.0) told.1 refl)

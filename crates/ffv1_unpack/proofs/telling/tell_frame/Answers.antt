@@ -130,16 +130,17 @@ returns-in-Err-File-clause-answer g c =
     c.tell_byte.new.output in
     let from = c.args.player.now.reader in
     let to = c.play.new.player.reader in
+    let offset = c.play.new.player.offset in
     let f = of_avi c.in-Err-File.fault in
     let is : c.from-fault.result ≡ f = c.from-fault.ensures in
     let answer = rw c.in-Err-File.field-0-is at c.in-Err-File.ensures.answer in
     let stops = rw c.in-Err-File.field-0-is at c.in-Err-File.ensures.located in
-    let writes : WritesLine [] (located_text c.args.telling.places.byte c.args.number f to.offset)
-    writing = rw (is, c.offset-offset.ensures) at c.tell_byte.ensures in
+    let writes : WritesLine [] (located_text c.args.telling.places.byte c.args.number f offset)
+    writing = rw is at c.tell_byte.ensures in
     inr (subst (λ z. FrameStopsBy c.args.telling.kind c.args.telling.places.place
     c.args.telling.places.byte a c.args.number from to.place reading writing z (cause_of z))
     (sym is)
     (file_refused (IsFrame a) frame_payload (told_line c.args.telling.kind a.configuration
-    c.args.number) c.args.telling.places.byte c.args.number from to.place to.offset reading
+    c.args.number) c.args.telling.places.byte c.args.number from to.place offset reading
     writing f (cause_of f) refl
     answer.0 stops writes))

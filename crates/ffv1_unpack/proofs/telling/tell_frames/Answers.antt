@@ -11,6 +11,8 @@ use Rattle.ffv1_unpack.proofs.FramesInTurn.{counted_more}
 use Rattle.ffv1_unpack.proofs.FramesPlayed.{none_at_most, one_at_most, played_more, played_none}
 use Rattle.ffv1_unpack.proofs.FramesPlayed.{played_over, plays_full}
 use Rattle.ffv1_unpack.proofs.FramesTold.{all_lines, telling_stops}
+use Rattle.std.proofs.Common.{true, false}
+use Rattle.ffv1_unpack.proofs.OwnFaults.{told_on}
 use Rattle.ffv1_unpack.proofs.telling.tell_frames.Goals as goal
 
 pub frames-init : goal.frames-init
@@ -55,7 +57,10 @@ returns-in_err-tell_frame-clause-err g c =
 pub returns-in_err-tell_frame-clause-own : goal.returns-in_err-tell_frame-clause-own
 returns-in_err-tell_frame-clause-own g c =
     let p = err_from_is_err_and c.from_residual.result c.from_residual.ensures.1 in
-    rw (p.1, p.2) (rw c.frames.invariant.3 at c.in_err-tell_frame.ensures.own)
+    rw (p.1, p.2) (told_on c.args.player.now.reader c.frames.player.reader
+    (passage g.R.ByteIn.remaining g.R.ByteIn.failures c.args.input.now c.frames.input)
+    c.in_err-tell_frame.field-0.0 c.frames.invariant.3 c.frames.invariant.4
+    c.in_err-tell_frame.ensures.own)
 
 pub frames-preserved : goal.frames-preserved
 unfolding played_more
@@ -72,11 +77,11 @@ frames-preserved g c =
     c.tell_frame.new.output in
     let answer = subst (λ b. FrameAnswers c.args.telling.kind c.args.telling.places.place
     c.args.telling.places.byte c.args.player.now.decoder.accepted c.saturating_add-number.result
-    c.frames.player.reader c.tell_frame.new.player.reader.place reading writing (Ok b))
+    c.frames.player.reader c.tell_frame.new.player.reader.place reading writing c.tell_frame.new.player.notes (Ok b))
     c.if-not-branch.false
     (subst (λ z. FrameAnswers c.args.telling.kind c.args.telling.places.place
     c.args.telling.places.byte z c.saturating_add-number.result c.frames.player.reader
-    c.tell_frame.new.player.reader.place reading writing (Ok c.in_ok-tell_frame.field-0)) same
+    c.tell_frame.new.player.reader.place reading writing c.tell_frame.new.player.notes (Ok c.in_ok-tell_frame.field-0)) same
     c.in_ok-tell_frame.ensures.answer) in
     let f = answer.0 in
     let next : c.saturating_add-count.result ≡ saturated (length (so.frames ++ (f ∷ []))) =
@@ -118,11 +123,11 @@ returns-then-not-branch-clause-ok g c =
     c.tell_frame.new.output in
     let answer = subst (λ b. FrameAnswers c.args.telling.kind c.args.telling.places.place
     c.args.telling.places.byte c.args.player.now.decoder.accepted c.saturating_add-number.result
-    c.frames.player.reader c.tell_frame.new.player.reader.place reading writing (Ok b))
+    c.frames.player.reader c.tell_frame.new.player.reader.place reading writing c.tell_frame.new.player.notes (Ok b))
     c.if-not-branch.true
     (subst (λ z. FrameAnswers c.args.telling.kind c.args.telling.places.place
     c.args.telling.places.byte z c.saturating_add-number.result c.frames.player.reader
-    c.tell_frame.new.player.reader.place reading writing (Ok c.in_ok-tell_frame.field-0)) same
+    c.tell_frame.new.player.reader.place reading writing c.tell_frame.new.player.notes (Ok c.in_ok-tell_frame.field-0)) same
     c.in_ok-tell_frame.ensures.answer) in (
       so.frames,
       so.is,
@@ -137,8 +142,18 @@ returns-then-not-branch-clause-ok g c =
           (g.R.ByteIn.failures c.tell_frame.new.input)
           (g.W.ByteOut.failures c.args.output.now) (g.W.ByteOut.failures c.frames.output)
           (g.W.ByteOut.failures c.tell_frame.new.output)
-          so c.args.range.count room c.frames.invariant.2.1 answer.0 answer.1,
+          so c.tell_frame.new.player.notes c.args.range.count room c.frames.invariant.2.1 answer.0 answer.1,
     )
+
+pub returns-then-not-branch-clause-noted : goal.returns-then-not-branch-clause-noted
+returns-then-not-branch-clause-noted g c = λ k is room scope text stands.
+    c.in_ok-tell_frame.ensures.noted c.if-not-branch.true scope text
+    (c.frames.invariant.4 scope text stands)
+
+pub returns-clause-noted : goal.returns-clause-noted
+returns-clause-noted g c = λ k is room scope text stands.
+    absurd (let no : true ≡ false = sym room ∙ sym (c.has_more.ensures k is)
+    ∙ c.frames-test.false in cc)
 
 pub returns-clause-ok : goal.returns-clause-ok
 returns-clause-ok g c =
@@ -154,5 +169,5 @@ returns-clause-ok g c =
           (g.W.ByteOut.contents c.args.output.now) (g.W.ByteOut.contents c.frames.output)
           (g.R.ByteIn.failures c.args.input.now) (g.R.ByteIn.failures c.frames.input)
           (g.W.ByteOut.failures c.args.output.now) (g.W.ByteOut.failures c.frames.output)
-          so.frames so.so c.args.range.count full c.frames.invariant.2.1,
+          so.frames so.so c.frames.player.notes c.args.range.count full c.frames.invariant.2.1,
     )

@@ -7,6 +7,7 @@ use Rattle.ffv1_video.specs.Faults.{cause_of}
 use Rattle.ffv1_unpack.specs.Unpacked.{HasText}
 use Rattle.ffv1_unpack.proofs.FramesPassed.{opens_range, pass_file}
 use Rattle.ffv1_unpack.proofs.OwnFaults.{passing_unpacks}
+use Rattle.ffv1_video.specs.Profiles.{scope_in}
 use Rattle.ffv1_unpack.proofs.unpacking.open_unpacking_range.Goals as goal
 
 pub returns-in_err-player-clause-err : goal.returns-in_err-player-clause-err
@@ -39,8 +40,11 @@ pub returns-in_err-pass_frames-clause-own : goal.returns-in_err-pass_frames-clau
 returns-in_err-pass_frames-clause-own g c =
     let p = err_from_is_err_and c.from_residual-in_err-pass_frames.result
     c.from_residual-in_err-pass_frames.ensures.1 in
-    rw (p.1, p.2) (passing_unpacks c.args.profile c.in_ok-player.player.reader.place
-    c.in_err-pass_frames.field-0.0 c.in_ok-player.ensures.ok.within
+    rw (p.1, p.2) (passing_unpacks c.args.profile c.in_ok-player.player.reader
+    (g.R.ByteIn.remaining c.args.input.now)
+    (g.R.ByteIn.remaining c.open_unpacking.new.input)
+    c.in_err-pass_frames.field-0.0 c.in_ok-player.ensures.located
+    c.in_ok-player.ensures.ok.within
     c.in_err-pass_frames.ensures.own)
 
 pub returns-clause-ok : goal.returns-clause-ok
@@ -66,3 +70,8 @@ returns-clause-text g c =
       head = c.in_ok-player.player.reader.head;
       accepted = z;
     })) (sym (ap (λ d. d.accepted) c.in_ok-pass_frames.ensures.same)) c.in_ok-player.ensures.text)
+
+pub returns-clause-located : goal.returns-clause-located
+returns-clause-located g c =
+    c.in_ok-pass_frames.ensures.reached (scope_in c.args.profile) (g.R.ByteIn.remaining c.args.input.now)
+    c.in_ok-player.ensures.located

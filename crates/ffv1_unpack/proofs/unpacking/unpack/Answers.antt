@@ -15,8 +15,9 @@ returns-clause-ok g c =
     c.unpack_range.new.input in
     let output = passage g.W.ByteOut.contents g.W.ByteOut.failures c.args.output
     c.unpack_range.result.0 in
-    IfOk-weaker c.unpack_range.result.1 (UnpackRangeDone c.args.profile all_frames input output)
-    (UnpackDone c.args.profile input output)
+    IfOk-weaker c.unpack_range.result.1
+    (λ told. UnpackRangeDone c.args.profile all_frames input output told.0 told.1)
+    (λ told. UnpackDone c.args.profile input output told.0 told.1)
     (unpacks_whole (holds_payloads c.frames_come_in_turn.ensures
     c.what_is_read_is_a_file.ensures.first c.what_is_read_is_a_file.ensures.whole)
     c.args.profile input output) c.unpack_range.ensures.ok

@@ -1,8 +1,10 @@
 -- Decodes the frames of a range of a file that the profile reads, and writes their pictures.
-use Rattle.std.proofs.Common.{◌≡◌, inl}
+use Rattle.std.proofs.Common.{◌≡◌, inl, length}
 use Rattle.ffv1_video.proofs.Output.{silent}
 use Rattle.ffv1_unpack.proofs.FileUnpacked.{done, no_frames, unpack_stops}
 use Rattle.ffv1_unpack.proofs.OwnFaults.{written_unpacks}
+use Rattle.ffv1_unpack.proofs.FramesNoted.{noted_file}
+use Rattle.ffv1_unpack.specs.Plays.{has_more}
 use Rattle.ffv1_unpack.proofs.unpacking.unpack_range.Goals as goal
 
 pub returns-in-Err-clause-err : goal.returns-in-Err-clause-err
@@ -24,7 +26,7 @@ returns-in-Ok-eq0-clause-err g c =
     (g.R.ByteIn.failures c.write_frames-output.new.input) (g.W.ByteOut.failures c.args.output)
     (g.W.ByteOut.failures c.write_frames-output.result.0)
     c.in-Ok.player.reader c.in-Ok.player.decoder.accepted c.in-Ok.ensures.ok c.in-Ok.ensures.text
-    all.0 c.in-Ok-eq0.field-0 all.1 all.2 none
+    c.write_frames-output.new.player.notes all.0 c.in-Ok-eq0.field-0 all.1 all.2 none
 
 pub returns-in-Ok-answer-clause-ok : goal.returns-in-Ok-answer-clause-ok
 returns-in-Ok-answer-clause-ok g c =
@@ -41,7 +43,17 @@ returns-in-Ok-answer-clause-ok g c =
     (g.R.ByteIn.failures c.open_unpacking_range.new.input)
     (g.R.ByteIn.failures c.write_frames-output.new.input) (g.W.ByteOut.failures c.args.output)
     (g.W.ByteOut.failures c.write_frames-output.result.0)
-    r a opens c.in-Ok.ensures.text all.0 c.in-Ok-answer.count all.1 all.2 some
+    r a opens c.in-Ok.ensures.text c.write_frames-output.new.player.notes all.0
+    c.in-Ok-answer.count all.1 all.2 some c.notes_after-notes.result
+    (λ room. c.notes_after-notes.ensures.read (length all.0) all.1 room)
+    (c.notes_after-notes.ensures.unread (length all.0) all.1)
+    (noted_file c.args.profile c.in-Ok.player.reader (g.R.ByteIn.remaining c.args.input.now)
+    (g.R.ByteIn.remaining c.open_unpacking_range.new.input) (g.R.ByteIn.remaining c.write_frames-output.new.input)
+    (g.R.ByteIn.failures c.args.input.now) (g.R.ByteIn.failures c.open_unpacking_range.new.input)
+    (g.R.ByteIn.failures c.write_frames-output.new.input) c.write_frames-output.new.player.notes c.notes_after-notes.result
+    (has_more c.args.range.count (length all.0)) c.in-Ok.ensures.located
+    ((rw c.in-Ok-answer.is at c.write_frames-output.ensures.noted) (length all.0) all.1)
+    (λ room. c.notes_after-notes.ensures.read (length all.0) all.1 room))
 
 pub returns-clause-err : goal.returns-clause-err
 returns-clause-err g c =
@@ -57,5 +69,8 @@ returns-clause-err g c =
 
 pub returns-clause-own : goal.returns-clause-own
 returns-clause-own g c =
-    written_unpacks c.args.profile c.in-Ok.player.reader.place c.in-Err-answer.fault
+    written_unpacks c.args.profile c.in-Ok.player.reader
+    (g.R.ByteIn.remaining c.args.input.now)
+    (g.R.ByteIn.remaining c.open_unpacking_range.new.input) c.in-Err-answer.fault
+    c.in-Ok.ensures.located
     c.in-Ok.ensures.ok.within (rw c.in-Err-answer.is at c.write_frames-output.ensures.own)

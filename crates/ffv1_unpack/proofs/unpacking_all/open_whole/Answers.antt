@@ -36,3 +36,10 @@ returns-in_err-check_text-clause-own g c =
     let configuration = c.in_ok-player.player.decoder.accepted.configuration in
     rw (p.1, p.2) (inl (text_own (is_rct configuration.colour) configuration
     c.in_err-check_text.field-0.0 (rw c.config.ensures at c.in_err-check_text.ensures.err)))
+
+pub returns-clause-stands : goal.returns-clause-stands
+returns-clause-stands g c = record {
+  reached = c.in_ok-player.ensures.located;
+  ends = c.in_ok-player.ensures.ends;
+  noted = c.in_ok-player.ensures.noted;
+}

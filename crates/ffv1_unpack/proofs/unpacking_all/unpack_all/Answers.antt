@@ -31,7 +31,10 @@ returns-in-Err-answer-clause-err g c =
 
 pub returns-in-Err-answer-clause-own : goal.returns-in-Err-answer-clause-own
 returns-in-Err-answer-clause-own g c =
-    written_unpacks c.args.profile c.in-Ok.player.reader.place c.in-Err-answer.fault
+    written_unpacks c.args.profile c.in-Ok.player.reader
+    (g.R.ByteIn.remaining c.args.input.now)
+    (g.R.ByteIn.remaining c.open_whole.new.input) c.in-Err-answer.fault
+    c.in-Ok.ensures.stands
     c.in-Ok.ensures.ok.within (rw c.in-Err-answer.is at c.salvage_file-output.ensures.own)
 
 pub returns-in-Ok-found-clause-ok : goal.returns-in-Ok-found-clause-ok

@@ -17,5 +17,7 @@ returns c =
     let against = added _ _ _ _ _ c.in_ok-command.ensures json c.path_arg.ensures.rule
     c.path_arg.ensures.own in
     let ranged = c.in_ok-command-2.ensures in
-    added_last _ _ _ _ _ c.arg-6.ensures (ranged.0 ∙ ap with_range against.0, ranged.1)
-    c.progress_arg.ensures.rule c.progress_arg.ensures.own
+    let told = added _ _ _ _ _ c.in_ok-command-3.ensures
+    (ranged.0 ∙ ap with_range against.0, ranged.1)
+    c.progress_arg.ensures.rule c.progress_arg.ensures.own in
+    added_last _ _ _ _ _ c.arg-7.ensures told c.notes_arg.ensures.rule c.notes_arg.ensures.own

@@ -1,16 +1,12 @@
 -- The command `framemd5`.
-use Rattle.std.proofs.Common.{◌≡◌, ◌∙◌, ap, false}
-use Rattle.std.proofs.lemmas.Result.{IfOk-weaker}
-use Rattle.clap.specs.Words.{app_of}
-use Rattle.clap.specs.declared.builder.command.Command.{Command}
-use Rattle.clap.specs.declared.builder.command.Command.TheViews.{out-Command as fields_of}
-use Rattle.ffv1_words.specs.CommandLine.{framemd5_app, with_range}
+use Rattle.std.proofs.Common.{◌∙◌, ap}
+use Rattle.ffv1_words.specs.CommandLine.{with_range}
+use Rattle.ffv1_words.proofs.AddedArgument.{added_last}
 use Rattle.ffv1_words.proofs.command_line.framemd5_command.Goals as goal
 
 pub returns : goal.returns
 returns c =
-    IfOk-weaker c.add_range.result (λ (x : Command).
-    (app_of x ≡ with_range (app_of c.in_ok-command.command)) × ((fields_of x).has_globals ≡ false))
-    (λ (x : Command). (app_of x ≡ framemd5_app) × ((fields_of x).has_globals ≡ false))
-    (λ x p. (p.0 ∙ ap with_range c.in_ok-command.ensures.0, p.1))
-    c.add_range.ensures
+    let ranged = c.in_ok-command-2.ensures in
+    added_last _ _ _ _ _ c.arg.ensures
+    (ranged.0 ∙ ap with_range c.in_ok-command.ensures.0, ranged.1)
+    c.notes_arg.ensures.rule c.notes_arg.ensures.own

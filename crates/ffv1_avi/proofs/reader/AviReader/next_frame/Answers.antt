@@ -1,12 +1,13 @@
 -- Reads the next frame in place of what the vector has, and answers true; or false at the end. The
 -- vector is then empty. Each further call answers false again, and reads nothing.
-use Rattle.std.proofs.Common.{rules, ◌≡◌, Bool, Option, [], false, Ok, inl, refl}
-use Rattle.ffv1_avi.specs.Readers.{next_of, next_with}
+use Rattle.std.proofs.Common.{rules, ◌≡◌, Bool, Option, [], false, Ok, inl, refl, ap, ◌∙◌}
+use Rattle.ffv1_avi.specs.Readers.{Standing, next_of, next_with}
 use Rattle.ffv1_avi.specs.declared.place.Place.{Place}
 use Rattle.ffv1_avi.specs.Files.{frame_read}
 use Rattle.ffv1_avi.specs.Places.{extent_of}
 use Rattle.ffv1_avi.proofs.EndReadings.{answers_by, refused_by}
-use Rattle.ffv1_avi.proofs.Moves.{frame_ends}
+use Rattle.ffv1_avi.proofs.Moves.{extent_first, frame_ends}
+use Rattle.ffv1_avi.proofs.BehindLaws.{end_told}
 use Rattle.ffv1_avi.proofs.ReadingFaults.{frame_own}
 use Rattle.ffv1_reads.proofs.Reading.{consumes_none}
 use Rattle.ffv1_avi.proofs.reader.AviReader.next_frame.Goals as goal
@@ -45,3 +46,15 @@ returns-in-Err-clause-answer g c =
     (λ (after : Option Place). next_with bytes after)
     (λ (more : Bool). next_of more bytes place) (frame_read place) _ c.in-Err.fault
     c.in-Err.ensures.answer)
+
+pub returns-in-Ok-None-clause-behind : goal.returns-in-Ok-None-clause-behind
+returns-in-Ok-None-clause-behind g c = rw (← c.self.view_is) (λ sound.
+    end_told (extent_of c.self.inside.place) _ _ _ _ _
+    (rw c.in-Ok-None.field-0-is at c.in-Ok-None.ensures.behind refl))
+
+pub returns-then-self-eq0-2-clause-behind : goal.returns-then-self-eq0-2-clause-behind
+returns-then-self-eq0-2-clause-behind g c =
+    let place = c.args.self.now.place in
+    let input : place.input ≡ 0 = search rules in
+    λ sound. rw (extent_first place input)
+    (λ none. ap (λ (v : Standing). v.after) c.self.view_is ∙ none)

@@ -21,7 +21,9 @@ returns-clause-most g c =
     (sym (c.in_ok-bytes.ensures.items ∙ c.in_ok-counts.ensures.ok)) most)
 
 pub returns-clause-codes : goal.returns-clause-codes
-returns-clause-codes g c = grind (arith, elements)
+returns-clause-codes g c = λ range.
+    let law = c.encoded_frame_codes_its_picture.ensures in
+    grind (arith, elements)
 
 pub returns-clause-long : goal.returns-clause-long
 returns-clause-long g c = grind (arith, elements)

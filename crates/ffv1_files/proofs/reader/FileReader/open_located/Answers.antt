@@ -1,8 +1,10 @@
 -- `open_located`: the same, which says where in the file a fault is: `offset` is then the number of
 -- bytes of the file before the element or chunk at fault, those before it read whole; no greater
 -- than 2^64 - 1.
+use Rattle.std.proofs.Common.{refl}
 use Rattle.ffv1_wire.specs.Passage.{passage}
 use Rattle.ffv1_files.proofs.Locations.{movi_reached, movi_stopped}
+use Rattle.ffv1_files.proofs.Noted.{opens_noted}
 use Rattle.ffv1_files.proofs.Openings.{movi_opens, movi_stops}
 use Rattle.ffv1_files.proofs.reader.FileReader.open_located.Goals as goal
 
@@ -36,3 +38,19 @@ returns-in-Ok-open_whole-clause-located g c = rw c.in-Whole.is c.in-Ok-open_whol
 
 pub returns-in-Err-open_whole-clause-stopped : goal.returns-in-Err-open_whole-clause-stopped
 returns-in-Err-open_whole-clause-stopped g c = rw c.in-Whole.is c.in-Err-open_whole.ensures.stopped
+
+pub returns-in-Ok-clause-noted : goal.returns-in-Ok-clause-noted
+returns-in-Ok-clause-noted g c =
+    let reader = c.in-Ok.reader in
+    let p = passage g.R.ByteIn.remaining g.R.ByteIn.failures c.args.input.now
+    c.open_located.new.input in
+    rw c.in-FirstMovi.is (opens_noted _ p.old p.new _
+    (movi_opens p (reader.head, reader.place) c.in-Ok.ensures.answer).1
+    (movi_reached p reader c.open_located.new.offset c.in-Ok.ensures.offset) tt refl
+    c.in-Ok.ensures.none)
+
+pub returns-in-Ok-open_whole-clause-noted : goal.returns-in-Ok-open_whole-clause-noted
+returns-in-Ok-open_whole-clause-noted g c =
+    let done = c.in-Ok-open_whole.ensures in
+    rw c.in-Whole.is (opens_noted _ _ _ c.in-Ok-open_whole.reader done.answer.1 done.located
+    done.ends done.uncued done.untold)

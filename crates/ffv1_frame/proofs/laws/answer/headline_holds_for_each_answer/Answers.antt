@@ -16,11 +16,11 @@ returns g c = λ a payload old new result tally held is bytes short answer holds
   only = λ planes info codes. c.answer_is_ok_for_coded_pictures.ensures.only a payload planes info
       old new tally result is bytes codes answer;
   once = λ planes. c.each_line_stands_once.ensures.rows a planes is;
-  encoded = λ planes info picture said none same.
+  encoded = λ range planes info picture said none same.
       c.answer_is_ok_for_coded_pictures.ensures.only a payload planes info old new tally result is
       bytes
       (subst (λ bs. CodesPicture a bs planes info) (sym same)
-      (c.encoded_frame_codes_its_picture.ensures a planes info is picture said none)) answer;
+      (c.encoded_frame_codes_its_picture.ensures a planes info is range picture said none)) answer;
   short = short;
   few = c.decoding_makes_few_decisions.ensures.answer a payload old new tally result is answer;
   few_by_bytes = λ wide. c.coded_bytes_bound_the_decisions.ensures.table a payload old new tally

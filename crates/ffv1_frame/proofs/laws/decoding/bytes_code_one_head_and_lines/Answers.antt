@@ -30,14 +30,14 @@ laws c a bytes is are = record {
 }
 
 pub returns : goal.returns
-returns c = λ a coded n q r read more is are inside parts this that.
+returns c = λ a coded n q r read more is range are inside parts this that.
     let conf = a.configuration in
     let columns = c.accepted_configuration_is_in_range.ensures.columns conf a.table is in
     let rows = c.accepted_configuration_is_in_range.ensures.rows conf a.table is in
     let sets = c.accepted_configuration_is_in_range.ensures.sets conf a.table is in
     let few = few_slices n conf.columns conf.rows inside columns.1 rows.1 in
     let same = read_same a coded n (laws c a (coded n) is are)
-    (c.planes_are_divided_part_by_part.ensures conf a.table is) q r read more inside parts
+    (c.planes_are_divided_part_by_part.ensures conf a.table is) range q r read more inside parts
     (λ g h. c.bytes_code_one_head.ensures.head (coded n) a.table a.profile conf n g h are is.closed
     few sets.1) this that in
     (same.head, same.past, same.shown)

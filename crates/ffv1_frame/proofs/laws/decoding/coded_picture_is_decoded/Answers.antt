@@ -6,7 +6,7 @@ use Rattle.ffv1_range.specs.History.{decisions_after}
 use Rattle.ffv1_record.specs.Accepted.{Accepted, IsAccepted}
 use Rattle.ffv1_slice.specs.Footer.{foot_length}
 use Rattle.ffv1_slice.specs.Cutting.{coded_of}
-use Rattle.ffv1_frame.specs.SliceList.{CodesSlice}
+use Rattle.ffv1_frame.specs.CodedSlice.{CodesSlice}
 use Rattle.ffv1_frame.proofs.PictureLines.{ColourLaws}
 use Rattle.ffv1_frame.proofs.PictureMade.{PictureLaws}
 use Rattle.ffv1_frame.proofs.SlicesRead.{FrontLaws}
@@ -61,5 +61,5 @@ returns c = λ a payload planes info codes spans is bytes same.
     let goes = goes_of a planes info coded (laws c a is)
     (c.planes_are_divided_part_by_part.ensures conf a.table is).part (colours c)
     (λ n. front c a (coded n) is (coded_bytes payload foot spans n bytes)) slices
-    codes.picture in
+    codes.picture (λ p x y. c.coded_samples_fit_their_bits.ensures a planes p x y codes.picture) in
     (goes.end, goes.decodes, goes.says, goes.lines)

@@ -1,8 +1,11 @@
 -- Decoding has one end at most: it comes to its end in one state, or is refused at one first fault;
 -- and after each beginning of its order it stands in one state.
-use Rattle.std.proofs.Common.{◌≡◌, ℕ, ◌+◌, ◌*◌, ◌<◌, ◌≤◌, ◌^◌, List, arith, sym, subst, ◌∙◌}
+use Rattle.std.proofs.Common.{◌≡◌, ℕ, ◌+◌, ◌*◌, ◌<◌, ◌≤◌, ◌^◌, List, [], arith, sym, subst, ◌∙◌}
 use Rattle.std.proofs.Math.Nat.{mul-le-mul_left}
-use Rattle.ffv1_range.specs.Codes.{AreBytes}
+use Rattle.ffv1_range.specs.Codes.{AreBytes, IsState}
+use Rattle.ffv1_range.specs.History.{decisions_after}
+use Rattle.ffv1_frame.proofs.BitLines.{BitLaws}
+use Rattle.ffv1_frame.proofs.Coders.{rice_bits_are}
 use Rattle.ffv1_record.specs.Accepted.{Accepted, IsAccepted}
 use Rattle.ffv1_slice.specs.Grid.{across, division_of, reduced, whole_of, Lies}
 use Rattle.ffv1_frame.specs.Order.{events_of}
@@ -39,6 +42,22 @@ row_laws c a coded is are n = record {
       (coded n) (coding_by a.table set bits) base past d e y z two one ps qs (are n) is.closed;
 }
 
+sealed_state : IsState 129
+sealed_state = record { least = omega arith; most = omega arith }
+
+bit_laws : (c : goal.After-parts_follow_one_another) (a : Accepted) (coded : ℕ → List ℕ) →
+    IsAccepted a.configuration a.table → ((n : ℕ) → AreBytes (coded n)) → (n : ℕ) → BitLaws
+    a (coded n)
+bit_laws c a coded is are n = record {
+  depth = rice_bits_are a.configuration
+      (c.accepted_configuration_has_sound_parts.ensures.rice a.configuration a.table is);
+  seal = λ past b d. c.bytes_code_one_bit_next.ensures (coded n) (decisions_after a.table [] past) []
+      [] 129 b d (are n) sealed_state tt tt;
+  one = c.bits_begin_with_one_row_of_samples.ensures;
+  coded = c.a_row_is_refused_in_one_way.ensures.coded;
+  once = c.a_row_is_refused_in_one_way.ensures.once;
+}
+
 one_column : (x k j : ℕ) (c : goal.After-parts_follow_one_another) (a : Accepted) → IsAccepted
     a.configuration a.table → x < a.configuration.width →
     Lies (across (division_of a.configuration) 0) x k → Lies
@@ -56,6 +75,7 @@ bytes_laws : (c : goal.After-parts_follow_one_another) (a : Accepted) (coded : �
     IsAccepted a.configuration a.table → ((n : ℕ) → AreBytes (coded n)) → BytesLaws a coded
 bytes_laws c a coded is are = record {
   rows = row_laws c a coded is are;
+  bits = bit_laws c a coded is are;
   heads = λ r k r_inside k_inside.
       let n = slice_number a.configuration r k in
       let columns = c.accepted_configuration_is_in_range.ensures.columns a.configuration a.table

@@ -30,7 +30,7 @@ laws c a bytes is are = record {
 }
 
 pub returns : goal.returns
-returns c = λ a xs ys planes others info said n is wide are inside this that.
+returns c = λ a xs ys planes others info said n is range wide are inside this that.
     let conf = a.configuration in
     let columns = c.accepted_configuration_is_in_range.ensures.columns conf a.table is in
     let rows = c.accepted_configuration_is_in_range.ensures.rows conf a.table is in
@@ -42,4 +42,4 @@ returns c = λ a xs ys planes others info said n is wide are inside this that.
     few sets.1)
     (λ steps. c.ended_bytes_code_their_list.ensures.begins xs ys (decisions_after a.table [] steps)
     are (c.each_decision_has_a_state.ensures.named a.table [] steps is.closed))
-    wide planes others info said this that
+    range wide planes others info said this that

@@ -6,8 +6,10 @@ use Rattle.ffv1_matroska.proofs.FoundFrames.{frame_ends}
 use Rattle.ffv1_matroska.proofs.FrameFaults.{frame_own}
 use Rattle.ffv1_reads.specs.Offsets.{ReadsWhole}
 use Rattle.ffv1_matroska.specs.Offsets.{element_taken}
-use Rattle.ffv1_reads.proofs.OffsetLaws.{offset_of, reads_take}
+use Rattle.ffv1_reads.proofs.OffsetLaws.{offset_of, reads_none, reads_take}
 use Rattle.ffv1_matroska.specs.Places.{amount}
+use Rattle.ffv1_matroska.specs.Cues.{cued_taken}
+use Rattle.ffv1_matroska.proofs.CuedElements.{ended_none, ends_on}
 use Rattle.ffv1_matroska.proofs.ElementTaken.{element_taken_takes}
 use Rattle.ffv1_matroska.proofs.reader.MatroskaReader.next_frame.Goals as goal
 
@@ -66,3 +68,41 @@ returns-in-Err-clause-offset g c =
           ∙ rw c.passed-in-Err.ensures (offset_of c.self.inside.offset _ _ from.0 (2 ^ 64 - 1)
           less),
     ))
+
+pub returns-in-Ok-Some-clause-ends : goal.returns-in-Ok-Some-clause-ends
+returns-in-Ok-Some-clause-ends g c =
+    let from : (n : ℕ) × ReadsWhole (element_taken c.self.inside.track) c.self.inside.place
+    (g.R.ByteIn.remaining c.args.input.now) (g.R.ByteIn.remaining c.read_frame.new.input)
+    c.in-Ok-Some.place n = rw c.in-Ok-Some.field-0-is at c.in-Ok-Some.ensures.from in
+    let less = reads_take amount (element_taken_takes c.self.inside.track) from.1 in
+    rw (← c.self.view_is, c.in-Ok-Some.place-is) (λ there more. ends_on c.self.inside.offset _ _ _
+    from.0 (2 ^ 64 - 1) _ less there (c.saturating_add-self-inside.ensures ∙
+    rw (c.passed.ensures, c.in-Ok-Some.place-is)
+    (offset_of c.self.inside.offset _ _ from.0 (2 ^ 64 - 1) less)))
+
+pub returns-then-self-eq0-3-clause-cued : goal.returns-then-self-eq0-3-clause-cued
+returns-then-self-eq0-3-clause-cued g c =
+    let place = c.self.inside.place in
+    let segment : place.segment ≡ 0 = search rules in
+    let cluster : place.cluster ≡ 0 = search rules in
+    let group : place.group ≡ 0 = search rules in
+    let track = c.self.inside.track in
+    rw (← c.self.view_is) (λ sound. (
+      place,
+      (
+        _,
+        0,
+        reads_none (cued_taken track) (place, c.self.inside.cued) _,
+        ended_none track place _ segment cluster group,
+      ),
+    ))
+
+pub returns-in-Ok-None-clause-cued : goal.returns-in-Ok-None-clause-cued
+returns-in-Ok-None-clause-cued g c = rw (← c.self.view_is) (λ sound. (
+  c.read_frame.new.here,
+  rw c.in-Ok-None.field-0-is at c.in-Ok-None.ensures.cued,
+))
+
+pub returns-in-Ok-Some-clause-cued : goal.returns-in-Ok-Some-clause-cued
+returns-in-Ok-Some-clause-cued g c = rw (← c.self.view_is, c.in-Ok-Some.place-is)
+    (λ sound. rw c.in-Ok-Some.field-0-is at c.in-Ok-Some.ensures.cued)

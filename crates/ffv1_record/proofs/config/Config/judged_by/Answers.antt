@@ -4,6 +4,7 @@ use Rattle.ffv1_record.specs.Configuration.{configuration_of, at_depth, with_set
 use Rattle.ffv1_record.specs.declared.fault.RecordFault.TheVariants as fault
 use Rattle.ffv1_record.specs.Accepted.{is_depth, is_subsampled, is_transparent}
 use Rattle.ffv1_record.specs.Accepted.{are_counted, is_divided, IsFirstWhere, PassesEdges}
+use Rattle.ffv1_record.specs.Accepted.{has_coder}
 use Rattle.ffv1_record.proofs.Checks.{not_true, first_size, first_depth}
 use Rattle.ffv1_record.proofs.Edges.{edges_at, edges_of, edges_with, edges_without}
 use Rattle.ffv1_record.proofs.config.Config.judged_by.Goals as goal
@@ -97,6 +98,37 @@ returns-then-not-is_aligned-clause-refused g c = λ ss many.
       ),
     ))
 
+pub returns-then-not-has_coder-clause-refused : goal.returns-then-not-has_coder-clause-refused
+returns-then-not-has_coder-clause-refused g c = λ ss many.
+    let y = configuration_of c.args.self.now in
+    let x = with_sets (at_depth y c.args.depth) ss in
+    let deep : IsTrue (is_depth c.args.most c.args.depth) = sym c.if-not-is_depth.ensures in
+    let none : IsFalse (has_coder c.args.profile x) = sym c.if-not-has_coder.ensures in
+    subst (λ b. IsFirstWhere c.args.profile b x fault.Coder) (sym deep) (inr (
+      sym c.if-not-is_sized.ensures,
+      inr (
+        sym c.if-not-is_subsampled.ensures,
+        inr (
+          sym c.if-not-is_transparent.ensures,
+          inr (
+            sym (c.if-not-are_so_many.ensures ss many),
+            inr (
+              (c.in-Ok.table, c.in-Ok.ensures.ok),
+              inr (
+                sym c.if-not-is_divided.ensures,
+                inr (
+                  edges_with c.args.profile (at_depth y c.args.depth) ss
+                      (edges_at c.args.profile _ c.args.depth
+                      (c.is_aligned.ensures.0 c.if-not-is_aligned.false)),
+                  inl (not_true _ none, refl),
+                ),
+              ),
+            ),
+          ),
+        ),
+      ),
+    ))
+
 pub returns-clause-passes : goal.returns-clause-passes
 returns-clause-passes g c = λ ss many. (
   sym c.if-not-is_sized.ensures,
@@ -113,7 +145,7 @@ returns-clause-passes g c = λ ss many. (
             (
               edges_with c.args.profile (at_depth (configuration_of c.args.self.now) c.args.depth) ss
                   (edges_at c.args.profile _ c.args.depth (c.is_aligned.ensures.0 c.if-not-is_aligned.false)),
-              tt,
+              (sym c.if-not-has_coder.ensures, tt),
             ),
           ),
         ),

@@ -1,8 +1,8 @@
 -- Whether more than one of these paths is a hyphen alone.
 use Rattle.std.proofs.Common.{◌∙◌, sym, arith}
 use Rattle.ffv1_words.proofs.Hyphens.{first, hyphens_from, over, passed, second}
-use Rattle.ffv1_words.proofs.order.has_hyphens.Goals as goal
-use Rattle.ffv1_words.proofs.order.has_hyphens.Goals.{then-is_hyphen+else-seen, else-is_hyphen}
+use Rattle.ffv1_words.proofs.conflicts.has_hyphens.Goals as goal
+use Rattle.ffv1_words.proofs.conflicts.has_hyphens.Goals.{then-is_hyphen+else-seen, else-is_hyphen}
 
 pub loop-path-init : goal.loop-path-init
 loop-path-init c = omega arith

@@ -1,0 +1,345 @@
+-- What is noted of a file, by what a reader knows of it.
+use Rattle.std.proofs.Common.{◌≡◌, ◌≤◌, ◌+◌, ◌-◌, ◌^◌, ◌++◌, min, ℕ, Bool, true, false, Option, Some, None, Result, Ok, Err, IfOk, List, [], ◌∷◌, length, refl, sym, ap, ◌∙◌, subst, arith, inl, inr}
+use Rattle.std.proofs.lemmas.List.{length-append}
+use Rattle.ffv1_wire.specs.Passage.{Passage}
+use Rattle.ffv1_reads.specs.Ends.{ReadOrNone}
+use Rattle.ffv1_reads.specs.Head.{Head}
+use Rattle.ffv1_reads.specs.Known.{Known}
+use Rattle.ffv1_reads.specs.Offsets.{ReadsWhole, all_bytes, offset_after}
+use Rattle.ffv1_reads.specs.Reads.{Reading, given}
+use Rattle.ffv1_reads.specs.declared.fault.FileFault.{FileFault}
+use Rattle.ffv1_reads.proofs.OffsetLaws.{reads_none, reads_then}
+use Rattle.ffv1_reads.proofs.Results.{ok_is, read_on_ok}
+use Rattle.ffv1_avi.specs.Behind.{BehindEnd, EndsBehind, StandAfter}
+use Rattle.ffv1_avi.specs.Behind as avi_behind
+use Rattle.ffv1_avi.specs.Files as avi
+use Rattle.ffv1_avi.specs.Files.{riff_begun}
+use Rattle.ffv1_avi.specs.Offsets.{ReadsUpTo}
+use Rattle.ffv1_avi.specs.Places.{extent_of, first_place}
+use Rattle.ffv1_avi.specs.Readers as avi_reader
+use Rattle.ffv1_avi.specs.declared.place.Extent.{Extent}
+use Rattle.ffv1_avi.specs.declared.place.Extent.TheVariants.{FirstMovi, EveryRiff}
+use Rattle.ffv1_avi.specs.declared.place.Names.{Names}
+use Rattle.ffv1_avi.specs.declared.place.Place.{Place as AviPlace}
+use Rattle.ffv1_avi.proofs.OpenLaws.{open_sound}
+use Rattle.ffv1_matroska.specs.Cues.{CuedNext, cued_taken}
+use Rattle.ffv1_matroska.specs.Offsets.{InSegment, Start, spot_taken}
+use Rattle.ffv1_matroska.specs.Opened as opening
+use Rattle.ffv1_matroska.specs.Opened.{Opened}
+use Rattle.ffv1_matroska.specs.Places.{amount}
+use Rattle.ffv1_matroska.specs.Readers as matroska_reader
+use Rattle.ffv1_matroska.specs.Readers.{segment_behind}
+use Rattle.ffv1_matroska.specs.Segments.{header_read, step_read}
+use Rattle.ffv1_matroska.specs.Tracks.{Track}
+use Rattle.ffv1_matroska.specs.declared.place.Place.{Place as MatroskaPlace}
+use Rattle.ffv1_matroska.specs.declared.track.TrackNumbers.{TrackNumbers}
+use Rattle.ffv1_matroska.proofs.LastSteps.{IsLast, last_nothing, opened_sized, read_to_end, step_last}
+use Rattle.ffv1_matroska.proofs.ReadSegments.{headed_sound}
+use Rattle.ffv1_files.specs.Answers.{Endings, FileAnswers}
+use Rattle.ffv1_files.specs.Behind.{EndsThere, any_value, ends_there, notes_of, notes_read}
+use Rattle.ffv1_files.specs.Files.{avi_opened, is_matroska, matroska_opened, open_read}
+use Rattle.ffv1_files.specs.Noted.{IsNotedOf, NotedOf, NotesEnd, NotesNext, NotesReached, RiffsEnd, SegmentRead, SegmentReached, bytes_before, notes_reached, stands_after}
+use Rattle.ffv1_files.specs.Offsets.{AviReached, EndsEarly, Layout, MatroskaReached, PlaceReached, Reached, ReadsThrough}
+use Rattle.ffv1_files.specs.Places.{InAvi, InMatroska, Place}
+use Rattle.ffv1_files.specs.Readers.{Standing, opened_at}
+use Rattle.ffv1_files.specs.declared.container.Scope.{Scope}
+use Rattle.ffv1_files.specs.declared.container.Scope.TheVariants as scope
+use Rattle.ffv1_files.specs.declared.notes.Notes.{Notes}
+use Rattle.ffv1_files.proofs.Answering.{known_map, none_known}
+use Rattle.ffv1_files.proofs.Locations.{counts_on, in_avi, in_matroska, through_on}
+
+-- what is known from one position to the next, and from there on
+known_then : (text old new : Option (List ℕ)) (P Q R : List ℕ → List ℕ → Type 0) → ((file a b : List ℕ) → P file a → Q a b → R file b) → Known text old P → Known old new Q → Known text new R
+known_then None old new P Q R f h k = tt
+known_then (Some file) None new P Q R f h k = absurd h
+known_then (Some file) (Some a) None P Q R f h k = absurd k
+known_then (Some file) (Some a) (Some b) P Q R f h k = f file a b h k
+
+abbrev Goes : Option (List ℕ) → Option (List ℕ) → Type 0
+Goes old new = Known old new (λ a b. Unit {0})
+
+goes_by : {X Y : Type 0} (ends : Endings X) (view : Y → X) (reading : Reading X) (p : Passage) (y : Y) → FileAnswers ends view reading p (Ok y) → Goes p.old p.new
+goes_by ends view reading p y h = known_map p.old p.new (λ text rest. reading text ≡ Ok (view y, rest)) (λ a b. Unit {0}) (λ text rest is. tt) h.1
+
+-- notes that are read at the end are those of the file
+pub noted_answer : (s : Scope) (text : Option (List ℕ)) (r : Standing) (p : Passage) (result : Result Notes FileFault) → FileAnswers any_value (λ (n : Notes). n) (notes_of r) p result → NotesEnd s text p.old r → IfOk result (NotedOf s text p.new)
+noted_answer s text r p (Ok notes) h e = known_then text p.old p.new (λ file behind. (n : Notes) (rest : List ℕ) → notes_of r behind ≡ Ok (n, rest) → IsNotedOf s file rest n) (λ a b. notes_of r a ≡ Ok (notes, b)) (λ file rest. IsNotedOf s file rest notes) (λ file a b all is. all notes b is) e.known h.1
+noted_answer s text r p (Err f) h e = tt
+
+-- an offset is what comes before what is left
+whole_counts : {S : Type 0} {element : S → Reading S} {from to : S} {count : ℕ} (file left : List ℕ) → ReadsWhole element from (Some file) (Some left) to count → length file ≡ count + length left
+whole_counts file left h = ap length h.consumed ∙ omega (arith, length-append (all_bytes h.elements) left, h.counted)
+
+abbrev Counted : List ℕ → List ℕ → ℕ → Type 0
+Counted file left offset = (n : ℕ) × (length file ≡ n + length left) × (offset ≡ offset_after 0 n)
+
+counted_before : (file left : List ℕ) (offset : ℕ) → Counted file left offset → offset ≡ bytes_before file left
+counted_before file left offset (n, long, is) = all (length file) (length left) (2 ^ 64 - 1) long is
+  where
+    all : (f l most : ℕ) → f ≡ n + l → offset ≡ min (0 + n) most → offset ≡ min (0 + (f - l)) most
+    all f l most long is = grind (arith, long, is)
+
+through_counts : {S T : Type 0} {layout : Layout S T} {place : T} {offset : ℕ} (file left : List ℕ) → ReadsThrough layout (Some file) (Some left) place offset → Counted file left offset
+through_counts {layout = layout} {place = place} {offset = offset} file left h = on_between h.between h.opened h.framed
+  where
+    on_between : (between : Option (List ℕ)) → ReadsWhole layout.opening layout.start (Some file) between (layout.begun h.first) h.before → ReadsWhole layout.frames h.first between (Some left) place h.after → Counted file left offset
+    on_between None opened framed = absurd opened.consumed
+    on_between (Some mid) opened framed =
+        let one = whole_counts file mid opened in
+        let two = whole_counts mid left framed in
+        (h.before + h.after, omega (arith, one, two), h.offset_is)
+
+-- of a Segment, which may have ended before any Cluster
+pub header_over : (place : MatroskaPlace) (text rest : List ℕ) → header_read place text ≡ Ok (None, rest) → text ≡ rest
+unfolding header_read
+header_over place text rest h = (headed_sound place false place.segment text None rest h).0
+
+early_counts : (file left : List ℕ) (track : Track) (offset : ℕ) → EndsEarly (Some file) (Some left) track offset → Counted file left offset
+early_counts file left track offset (count, ends, is) = on_between ends.between ends.before ends.none
+  where
+    on_between : (between : Option (List ℕ)) → ReadsWhole spot_taken Start (Some file) between (InSegment (Some track) ends.here) count → ReadOrNone (header_read ends.here) between (Some left) None → Counted file left offset
+    on_between None before none = absurd before.consumed
+    on_between (Some mid) before none =
+        let over = header_over ends.here mid left (none_known (header_read ends.here) (record { old = Some mid; new = Some left; before = 0; after = 0 }) None none) in
+        (count, whole_counts file mid before ∙ ap (λ (z : List ℕ). count + length z) over, is)
+
+matroska_counts : (file left : List ℕ) (numbers : TrackNumbers) (place : MatroskaPlace) (offset : ℕ) → MatroskaReached (Some file) (Some left) numbers place offset → Counted file left offset
+matroska_counts file left numbers place offset (inl h) = through_counts file left h.1
+matroska_counts file left numbers place offset (inr h) = early_counts file left (record { numbers = numbers; head = h.1 }) offset h.2
+
+-- where a file was opened
+module _ (file left : List ℕ) (end offset : ℕ) (cued : Bool) (after : Option ℕ) (uncued : cued ≡ false) (untold : after ≡ None) where
+  avi_extent : (extent : Extent) (head : Head) (place : AviPlace) → avi_opened extent file ≡ Ok ((head, InAvi place), left) → extent_of place ≡ extent
+  avi_extent extent head place h =
+      let first = read_on_ok (avi.open_read extent file) (λ p. given (p.0, InAvi p.1)) ((head, InAvi place), left) h in
+      let same : InAvi first.0.0.1 ≡ InAvi place = ap (λ (z : (Head × Place) × List ℕ). z.0.1) (ok_is ((first.0.0.0, InAvi first.0.0.1), first.0.1) ((head, InAvi place), left) first.2) in
+      let there : first.0.0.1 ≡ place = ap (in_place place) same in
+      ap (λ (z : AviPlace). extent_of z) (sym there) ∙ ap (λ (z : AviPlace). extent_of z) (open_sound extent file first.0 first.1).top.place ∙ first_extent extent _ _ _ _
+    where
+      in_place : AviPlace → Place → AviPlace
+      in_place other (InAvi p) = p
+      in_place other (InMatroska segment track p) = other
+
+      first_extent : (extent : Extent) (riff movi owed : ℕ) (names : Names) → extent_of (first_place extent riff movi names owed) ≡ extent
+      first_extent FirstMovi riff movi owed names = refl
+      first_extent EveryRiff riff movi owed names = refl
+
+  segment_opened : (head : Head) (segment : Option ℕ) (track : TrackNumbers) (place : MatroskaPlace) → matroska_opened file ≡ Ok ((head, InMatroska segment track place), left) → MatroskaReached (Some file) (Some left) track place offset → end ≡ offset_after offset (amount place) →
+      notes_reached scope.Whole (InMatroska segment track place) end cued after file left
+  segment_opened head segment track place h reached there =
+      let first = read_on_ok (opening.open_read file) (λ o. given (o.track.head, InMatroska o.segment o.track.numbers o.place)) ((head, InMatroska segment track place), left) h in
+      let o : Opened = first.0.0 in
+      let all = ok_is ((o.track.head, InMatroska o.segment o.track.numbers o.place), first.0.1) ((head, InMatroska segment track place), left) first.2 in
+      let same : InMatroska o.segment o.track.numbers o.place ≡ InMatroska segment track place = ap (λ (z : (Head × Place) × List ℕ). z.0.1) all in
+      let rest : first.0.1 ≡ left = ap (λ (z : (Head × Place) × List ℕ). z.1) all in
+      let P : Place → Type 0 = λ z. notes_reached scope.Whole z end cued after file left in
+      let Q : Place → Type 0 = λ z. ends_there z offset end in
+      let here : end ≡ offset_after offset (amount o.place) = subst Q (sym same) there in
+      let counts : Counted file left offset = matroska_counts file left track place offset reached in
+      let before : offset ≡ bytes_before file left = counted_before file left offset counts in
+      let none = subst (λ c. ReadsWhole (cued_taken o.track.numbers) (o.place, false) (Some left) (Some left) (o.place, c) 0) (sym uncued) (reads_none (cued_taken o.track.numbers) (o.place, false) (Some left)) in
+      let read : SegmentRead file left o o.place cued = record { begun = left; count = 0; opens = first.1 ∙ ap (λ z. Ok (o, z)) rest; elements = none } in
+      subst P same (
+        o,
+        refl,
+        refl,
+        record {
+          read = read;
+          fits = omega (arith, counts.1);
+          end_is = here ∙ ap (λ n. offset_after n (amount o.place)) before;
+        },
+      )
+
+  opened_at_once : (s : Scope) (head : Head) (place : Place) → open_read s file ≡ Ok ((head, place), left) → PlaceReached s (Some file) (Some left) head place offset → ends_there place offset end → notes_reached s place end cued after file left
+  unfolding open_read
+  opened_at_once scope.FirstMovi head (InAvi place) h reached there = (avi_extent FirstMovi head place h, untold)
+  opened_at_once scope.FirstMovi head (InMatroska segment track place) h reached there = absurd reached
+  opened_at_once scope.Whole head (InAvi place) h reached there = on_first (is_matroska file) refl
+    where
+      on_first : (b : Bool) → is_matroska file ≡ b → extent_of place ≡ EveryRiff
+      on_first false is = avi_extent EveryRiff head place (rw is at h)
+      on_first true is = absurd (no_avi (rw is at h))
+        where
+          no_avi : matroska_opened file ≡ Ok ((head, InAvi place), left) → ⊥
+          no_avi k =
+              let first = read_on_ok (opening.open_read file) (λ o. given (o.track.head, InMatroska o.segment o.track.numbers o.place)) ((head, InAvi place), left) k in
+              let o : Opened = first.0.0 in
+              let same : InMatroska o.segment o.track.numbers o.place ≡ InAvi place = ap (λ (z : (Head × Place) × List ℕ). z.0.1) (ok_is ((o.track.head, InMatroska o.segment o.track.numbers o.place), first.0.1) ((head, InAvi place), left) first.2) in
+              cc
+  opened_at_once scope.Whole head (InMatroska segment track place) h reached there = on_first (is_matroska file) refl
+    where
+      on_first : (b : Bool) → is_matroska file ≡ b → notes_reached scope.Whole (InMatroska segment track place) end cued after file left
+      on_first true is = segment_opened head segment track place (rw is at h) reached there
+      on_first false is = absurd (no_segment (rw is at h))
+        where
+          no_segment : avi_opened EveryRiff file ≡ Ok ((head, InMatroska segment track place), left) → ⊥
+          no_segment k =
+              let first = read_on_ok (avi.open_read EveryRiff file) (λ p. given (p.0, InAvi p.1)) ((head, InMatroska segment track place), left) k in
+              let same : InAvi first.0.0.1 ≡ InMatroska segment track place = ap (λ (z : (Head × Place) × List ℕ). z.0.1) (ok_is ((first.0.0.0, InAvi first.0.0.1), first.0.1) ((head, InMatroska segment track place), left) first.2) in
+              cc
+
+pub opens_noted : (s : Scope) (text left : Option (List ℕ)) (r : Standing) → Known text left (λ file rest. open_read s file ≡ Ok (opened_at r, rest)) → Reached s text left r → EndsThere r → r.cued ≡ false → r.after ≡ None → NotesReached s text left r
+opens_noted s None left r h reached there uncued untold = record { known = tt }
+opens_noted s (Some file) None r h reached there uncued untold = absurd h
+opens_noted s (Some file) (Some left) r h reached there uncued untold = record { known = opened_at_once file left r.end r.offset r.cued r.after uncued untold s r.head r.place h reached.whole there }
+
+-- after a frame of an AVI
+avi_goes : (s : Scope) (text old new : Option (List ℕ)) (from to : avi_reader.Standing) → Goes old new → extent_of to.place ≡ extent_of from.place → to.after ≡ from.after → NotesReached s text old (in_avi from) → NotesReached s text new (in_avi to)
+avi_goes s text old new from to goes same kept h = record { known = known_then text old new (notes_reached s (InAvi from.place) 0 false from.after) (λ a b. Unit {0}) (notes_reached s (InAvi to.place) 0 false to.after) (on s) h.known goes }
+  where
+    on : (s : Scope) (file a b : List ℕ) → notes_reached s (InAvi from.place) 0 false from.after file a → Unit {0} → notes_reached s (InAvi to.place) 0 false to.after file b
+    on scope.FirstMovi file a b (e, none) u = (same ∙ e, kept ∙ none)
+    on scope.Whole file a b e u = same ∙ e
+
+-- what an AVI tells
+avi_told : (place : AviPlace) (after : Option ℕ) (behind rest : List ℕ) (notes : Notes) → notes_read (InAvi place) 0 false after behind ≡ Ok (notes, rest) → (notes ≡ record { is_open = false; after = after }) × (rest ≡ behind)
+unfolding notes_read
+avi_told place after behind rest notes h =
+    let told : Notes = record { is_open = false; after = after } in
+    let both = ok_is (told, behind) (notes, rest) h in
+    (sym (ap (λ (z : Notes × List ℕ). z.0) both), sym (ap (λ (z : Notes × List ℕ). z.1) both))
+
+told_after : (file behind rest : List ℕ) (end : ℕ) (after : Option ℕ) → end ≡ bytes_before file behind → StandAfter (Some behind) (Some rest) end after → after ≡ stands_after file behind
+told_after file behind rest end None is (same, over) = nothing behind (same ∙ over)
+  where
+    nothing : (bs : List ℕ) → bs ≡ [] → None ≡ stands_after file bs
+    nothing [] none = refl
+    nothing (b ∷ bs) none = absurd (cc)
+told_after file behind rest end (Some n) is (same, (bytes, some, taken)) = others behind taken (same ∙ is)
+  where
+    others : (bs : List ℕ) → bs ≡ bytes ++ rest → n ≡ bytes_before file bs → Some n ≡ stands_after file bs
+    others [] none at = let long : 0 ≡ length bytes + length rest = ap length none ∙ length-append bytes rest in absurd (omega (arith, long, some))
+    others (b ∷ bs) is at = ap Some at
+
+riffs_end : (file a b : List ℕ) (from : avi_reader.Standing) (after : Option ℕ) (notes : Notes) → AviReached EveryRiff (Some file) (Some a) from.head from.place from.offset → EndsBehind from.place (Some a) (Some b) from.offset after → notes ≡ record { is_open = false; after = after } → RiffsEnd file b notes
+riffs_end file a b from after notes h ends are = on_between ends.between ends.chunks ends.over ends.told
+  where
+    on_between : (between : Option (List ℕ)) → ReadsUpTo from.place (Some a) between ends.to from.offset ends.end → ReadOrNone (riff_begun ends.to) between (Some b) None → StandAfter between (Some b) ends.end after → RiffsEnd file b notes
+    on_between None chunks over told = absurd chunks.1.consumed
+    on_between (Some behind) (n, whole, counts) over told =
+        let chunks : AviReached EveryRiff (Some file) (Some behind) from.head ends.to ends.end = through_on n h whole (counts_on h.before h.after n h.offset_is counts) in
+        let where_from : after ≡ stands_after file behind = told_after file behind b ends.end after (counted_before file behind ends.end (through_counts file behind chunks)) told in
+        record {
+          head = from.head;
+          to = ends.to;
+          offset = ends.end;
+          behind = behind;
+          chunks = chunks;
+          movi = ends.movi;
+          riff = ends.riff;
+          every = ends.every;
+          over = none_known (riff_begun ends.to) (record { old = Some behind; new = Some b; before = 0; after = 0 }) None over;
+          notes_are = are ∙ ap (λ (z : Option ℕ). record { is_open = false; after = z }) where_from;
+        }
+
+-- at the end of an AVI
+avi_over : (s : Scope) (text old new : Option (List ℕ)) (before failed : ℕ) (from to : avi_reader.Standing) → Goes old new → BehindEnd (extent_of from.place) from.place from.offset from.after (record { old = old; new = new; before = before; after = failed }) to.after → Reached s text old (in_avi from) →
+    NotesReached s text old (in_avi from) → NotesEnd s text new (in_avi to)
+avi_over s None old new before failed from to goes ends reached h = record { known = tt }
+avi_over s (Some file) None new before failed from to goes ends reached h = absurd h.known
+avi_over s (Some file) (Some a) None before failed from to goes ends reached h = absurd goes
+avi_over scope.FirstMovi (Some file) (Some a) (Some b) before failed from to goes ends reached h =
+    let P : Extent → Type 0 = λ z. BehindEnd z from.place from.offset from.after (record { old = Some a; new = Some b; before = before; after = failed }) to.after in
+    let none : to.after ≡ None = (subst P h.known.0 ends) h.known.1 in
+    record { known = λ notes rest read. (avi_told to.place to.after b rest notes read).0 ∙ ap (λ (z : Option ℕ). record { is_open = false; after = z }) none }
+avi_over scope.Whole (Some file) (Some a) (Some b) before failed from to goes ends reached h =
+    let P : Extent → Type 0 = λ z. BehindEnd z from.place from.offset from.after (record { old = Some a; new = Some b; before = before; after = failed }) to.after in
+    let there : EndsBehind from.place (Some a) (Some b) from.offset to.after = subst P h.known ends in
+    record { known = λ notes rest read. (let told = avi_told to.place to.after b rest notes read in inl (rw told.1 (riffs_end file a b from to.after notes reached.whole there told.0))) }
+
+pub avi_noted : {X : Type 0} (ends : Endings X) (view : Bool → X) (reading : Reading X) (s : Scope) (text : Option (List ℕ)) (from to : avi_reader.Standing) (p : Passage) (r : Result Bool FileFault) → FileAnswers ends view reading p r → IfOk r (λ more. more ≡ true → extent_of to.place ≡ extent_of from.place) →
+    avi_behind.BehindAfter from.place from.offset from.after p r to.after → Reached s text p.old (in_avi from) → NotesReached s text p.old (in_avi from) → NotesNext s text p r (in_avi to)
+avi_noted ends view reading s text from to p (Ok true) answer same behind reached h = avi_goes s text p.old p.new from to (goes_by ends view reading p true answer) (same refl) behind h
+avi_noted ends view reading s text from to p (Ok false) answer same behind reached h = avi_over s text p.old p.new p.before p.after from to (goes_by ends view reading p false answer) behind reached h
+avi_noted ends view reading s text from to p (Err f) answer same behind reached h = tt
+
+-- after a frame of a Segment
+segment_goes : (s : Scope) (text old new : Option (List ℕ)) (from to : matroska_reader.Standing) (count : ℕ) → to.track ≡ from.track → to.segment ≡ from.segment → to.end ≡ from.end → ReadsWhole (cued_taken from.track.numbers) (from.place, from.cued) old new (to.place, to.cued) count →
+    NotesReached s text old (in_matroska from) → NotesReached s text new (in_matroska to)
+segment_goes s None old new from to count track segment same whole h = record { known = tt }
+segment_goes s (Some file) None new from to count track segment same whole h = absurd h.known
+segment_goes s (Some file) (Some a) None from to count track segment same whole h = absurd whole.consumed
+segment_goes scope.FirstMovi (Some file) (Some a) (Some b) from to count track segment same whole h = absurd h.known
+segment_goes scope.Whole (Some file) (Some a) (Some b) from to count track segment same whole h =
+    let opened : Opened = h.known.0 in
+    let numbers : opened.track.numbers ≡ from.track.numbers = h.known.2 in
+    let there : SegmentReached file a opened from.place from.cued from.end = h.known.3 in
+    let more : ReadsWhole (cued_taken opened.track.numbers) (from.place, from.cued) (Some a) (Some b) (to.place, to.cued) count =
+    subst (λ (t : TrackNumbers). ReadsWhole (cued_taken t) (from.place, from.cued) (Some a) (Some b) (to.place, to.cued) count) (sym numbers) whole in
+    let read : SegmentRead file b opened to.place to.cued = record { begun = there.read.begun; count = there.read.count + count; opens = there.read.opens; elements = reads_then there.read.elements more } in
+    record {
+      known = (
+        opened,
+        h.known.1 ∙ sym segment,
+        numbers ∙ ap (λ (t : Track). t.numbers) (sym track),
+        record { read = read; fits = there.fits; end_is = same ∙ there.end_is },
+      );
+    }
+
+-- notes are read of a Segment by its size, and if that is known by where it ends
+notes_same : (s : Option ℕ) (track numbers : TrackNumbers) (here there : MatroskaPlace) (end other : ℕ) (cued : Bool) (text : List ℕ) → ((size : ℕ) → s ≡ Some size → end ≡ other) → notes_read (InMatroska s track here) end cued None text ≡ notes_read (InMatroska s numbers there) other cued None text
+unfolding notes_read segment_behind
+notes_same None track numbers here there end other cued text same = refl
+notes_same (Some size) track numbers here there end other cued text same = rw (same size refl) refl
+
+-- which is behind as many bytes as it has
+ends_behind : (file begun left amount most : ℕ) → begun ≡ amount + left → begun ≤ file → min (min (0 + (file - begun)) most + amount) most ≡ min (0 + (file - left)) most
+ends_behind file begun left amount most long fits = grind (arith, long, fits)
+
+module _ (file mid b : List ℕ) (opened : Opened) (place : MatroskaPlace) (cued : Bool) (read : SegmentRead file mid opened place cued) (fits : length read.begun ≤ length file) (last : IsLast place mid b) where
+  sized_end : (end size : ℕ) → end ≡ offset_after (bytes_before file read.begun) (amount opened.place) → opened.segment ≡ Some size → end ≡ bytes_before file mid
+  sized_end end size is has =
+      let sized = opened_sized.only file read.begun opened read.opens size has in
+      let all = read_to_end opened.track.numbers (opened.place, false) (place, cued) read.begun mid b read.count sized read.elements last in
+      let long : length read.begun ≡ amount opened.place + length mid = whole_counts read.begun mid read.elements ∙ ap (λ n. n + length mid) all in
+      is ∙ ends_behind (length file) (length read.begun) (length mid) (amount opened.place) (2 ^ 64 - 1) long fits
+
+-- at the end of a Segment
+segment_over : (s : Scope) (text old new : Option (List ℕ)) (from to : matroska_reader.Standing) (place : MatroskaPlace) (between : Option (List ℕ)) (count : ℕ) → to.segment ≡ from.segment → to.end ≡ from.end →
+    ReadsWhole (cued_taken from.track.numbers) (from.place, from.cued) old between (place, to.cued) count → ReadOrNone (step_read from.track.numbers place) between new None → NotesReached s text old (in_matroska from) → NotesEnd s text new (in_matroska to)
+segment_over s None old new from to place between count segment same whole none h = record { known = tt }
+segment_over s (Some file) None new from to place between count segment same whole none h = absurd h.known
+segment_over s (Some file) (Some a) new from to place None count segment same whole none h = absurd whole.consumed
+segment_over scope.FirstMovi (Some file) (Some a) new from to place (Some mid) count segment same whole none h = absurd h.known
+segment_over scope.Whole (Some file) (Some a) new from to place (Some mid) count segment same whole none h = record { known = on_new new (none_known (step_read from.track.numbers place) (record { old = Some mid; new = new; before = 0; after = 0 }) None none) }
+  where
+    opened : Opened
+    opened = h.known.0
+
+    numbers : opened.track.numbers ≡ from.track.numbers
+    numbers = h.known.2
+
+    there : SegmentReached file a opened from.place from.cued from.end
+    there = h.known.3
+
+    read : SegmentRead file mid opened place to.cued
+    read = record {
+      begun = there.read.begun;
+      count = there.read.count + count;
+      opens = there.read.opens;
+      elements = reads_then there.read.elements (subst (λ (t : TrackNumbers). ReadsWhole (cued_taken t) (from.place, from.cued) (Some a) (Some mid) (place, to.cued) count) (sym numbers) whole);
+    }
+
+    on_new : (new : Option (List ℕ)) → Known (Some mid) new (λ text rest. step_read from.track.numbers place text ≡ Ok (None, rest)) → Known (Some file) new (λ file behind. (notes : Notes) (rest : List ℕ) → notes_of (in_matroska to) behind ≡ Ok (notes, rest) → IsNotedOf scope.Whole file rest notes)
+    on_new None over = absurd over
+    on_new (Some b) over =
+        let last = step_last from.track.numbers place mid b over in
+        let nothing = last_nothing place mid b last in
+        let at_end = sized_end file mid b opened place to.cued read there.fits last to.end in
+        λ notes rest looked. inr (record {
+          opened = opened;
+          to = place;
+          cued = to.cued;
+          behind = mid;
+          read = read;
+          over = ap (λ (t : TrackNumbers). step_read t place mid) numbers ∙ over ∙ ap (λ z. Ok (None, z)) (sym nothing);
+          noted = sym (notes_same opened.segment to.track.numbers opened.track.numbers to.place place to.end (bytes_before file mid) to.cued mid (λ size has. at_end size (same ∙ there.end_is) has))
+              ∙ ap (λ (z : Option ℕ). notes_read (InMatroska z to.track.numbers to.place) to.end to.cued None mid) (h.known.1 ∙ sym segment)
+              ∙ ap (notes_of (in_matroska to)) nothing ∙ looked;
+        })
+
+pub segment_noted : (s : Scope) (text : Option (List ℕ)) (from to : matroska_reader.Standing) (p : Passage) (r : Result Bool FileFault) → matroska_reader.StandsAfter from r to → to.end ≡ from.end → CuedNext from.track.numbers (from.place, from.cued) p r (to.place, to.cued) →
+    NotesReached s text p.old (in_matroska from) → NotesNext s text p r (in_matroska to)
+segment_noted s text from to p (Ok true) stands same (count, whole) h = segment_goes s text p.old p.new from to count stands.2 stands.3 same whole h
+segment_noted s text from to p (Ok false) stands same (place, (between, count, whole, none)) h = segment_over s text p.old p.new from to place between count stands.3 same whole none h
+segment_noted s text from to p (Err f) stands same cued h = tt

@@ -1,0 +1,72 @@
+-- What is noted of a file, by what its end is.
+use Rattle.std.proofs.Common.{◌≡◌, ◌<◌, ℕ, Bool, true, false, not, List, [], ◌∷◌, Option, Some, None, Ok, length, refl, sym, ap, ◌∙◌, arith}
+use Rattle.ffv1_reads.specs.Behind.{behind_read}
+use Rattle.ffv1_reads.specs.Reads.{given}
+use Rattle.ffv1_reads.proofs.FilesBehind.{few_are_read}
+use Rattle.ffv1_reads.proofs.Results.{ok_is, read_on_ok}
+use Rattle.ffv1_matroska.specs.Readers.{is_open, segment_behind}
+use Rattle.ffv1_matroska.specs.declared.place.Place.{Place as MatroskaPlace}
+use Rattle.ffv1_matroska.specs.declared.track.TrackNumbers.{TrackNumbers}
+use Rattle.ffv1_files.specs.Behind.{noted, notes_read}
+use Rattle.ffv1_files.specs.Noted.{RiffsEnd, SegmentEnds, bytes_before, no_notes, stands_after}
+use Rattle.ffv1_files.specs.Places.{InMatroska}
+use Rattle.ffv1_files.specs.declared.notes.Notes.{Notes}
+
+-- of an AVI
+pub avi_bare : (file rest : List ℕ) (notes : Notes) (is : RiffsEnd file rest notes) → is.behind ≡ [] → notes ≡ no_notes
+avi_bare file rest notes is none = is.notes_are ∙ ap (λ (z : List ℕ). record { is_open = false; after = stands_after file z }) none
+
+pub avi_others : (file rest : List ℕ) (notes : Notes) (is : RiffsEnd file rest notes) → 0 < length is.behind → (notes.is_open ≡ false) × (notes.after ≡ Some (bytes_before file is.behind))
+avi_others file rest notes is some = (ap (λ (n : Notes). n.is_open) is.notes_are, ap (λ (n : Notes). n.after) is.notes_are ∙ stand is.behind some)
+  where
+    stand : (bytes : List ℕ) → 0 < length bytes → stands_after file bytes ≡ Some (bytes_before file bytes)
+    stand [] some = absurd (omega (arith, some))
+    stand (b ∷ bs) some = refl
+
+-- of a Segment whose size is known
+abbrev Told : ℕ → Bool → ℕ → List ℕ → List ℕ → Notes → Type 0
+Told size cued end behind rest notes = (some : Bool) × (behind_read behind ≡ Ok (some, rest)) × (notes ≡ noted (Some size) cued end some)
+
+size_told : (size : ℕ) (track : TrackNumbers) (to : MatroskaPlace) (end : ℕ) (cued : Bool) (behind rest : List ℕ) (notes : Notes) → notes_read (InMatroska (Some size) track to) end cued None behind ≡ Ok (notes, rest) → Told size cued end behind rest notes
+unfolding notes_read segment_behind
+size_told size track to end cued behind rest notes h =
+    let first = read_on_ok (behind_read behind) (λ some. given (noted (Some size) cued end some)) (notes, rest) h in
+    let both = ok_is (noted (Some size) cued end first.0.0, first.0.1) (notes, rest) first.2 in
+    let left : first.0.1 ≡ rest = ap (λ (z : Notes × List ℕ). z.1) both in
+    (first.0.0, first.1 ∙ ap (λ z. Ok (first.0.0, z)) left, sym (ap (λ (z : Notes × List ℕ). z.0) both))
+
+module _ (file rest : List ℕ) (notes : Notes) (is : SegmentEnds file rest notes) where
+  segment_told : (size : ℕ) → is.opened.segment ≡ Some size → Told size is.cued (bytes_before file is.behind) is.behind rest notes
+  segment_told size has = size_told size is.opened.track.numbers is.to (bytes_before file is.behind) is.cued is.behind rest notes
+      (sym (ap (λ (z : Option ℕ). notes_read (InMatroska z is.opened.track.numbers is.to) (bytes_before file is.behind) is.cued None is.behind) has) ∙ is.noted)
+
+  pub segment_bare : (size : ℕ) → is.opened.segment ≡ Some size → is.behind ≡ [] → notes ≡ no_notes
+  unfolding is_open
+  segment_bare size has none = on_told (segment_told size has)
+    where
+      on_told : Told size is.cued (bytes_before file is.behind) is.behind rest notes → notes ≡ no_notes
+      on_told (false, read, are) = are
+      on_told (true, read, are) =
+          let nothing : behind_read is.behind ≡ Ok (false, []) = ap behind_read none ∙ few_are_read [] (omega arith) in
+          let other : true ≡ false = ap (λ (z : Bool × List ℕ). z.0) (ok_is (true, rest) (false, []) (sym read ∙ nothing)) in
+          absurd (cc)
+
+  pub segment_others : ((text more : List ℕ) → behind_read text ≡ Ok (false, more) → text ≡ []) → (size : ℕ) → is.opened.segment ≡ Some size → 0 < length is.behind → (notes.is_open ≡ false) × (notes.after ≡ Some (bytes_before file is.behind))
+  unfolding is_open
+  segment_others nothing size has some = on_told (segment_told size has)
+    where
+      on_told : Told size is.cued (bytes_before file is.behind) is.behind rest notes → (notes.is_open ≡ false) × (notes.after ≡ Some (bytes_before file is.behind))
+      on_told (true, read, are) = (ap (λ (n : Notes). n.is_open) are, ap (λ (n : Notes). n.after) are)
+      on_told (false, read, are) = absurd (omega (arith, some, ap length (nothing is.behind rest read)))
+
+-- of one whose size is unknown
+open_told : (track : TrackNumbers) (to : MatroskaPlace) (end : ℕ) (cued : Bool) (behind rest : List ℕ) (notes : Notes) → notes_read (InMatroska None track to) end cued None behind ≡ Ok (notes, rest) → (notes.is_open ≡ not cued) × (notes.after ≡ None) × (rest ≡ behind)
+unfolding notes_read segment_behind is_open
+open_told track to end cued behind rest notes h =
+    let both = ok_is (noted None cued end false, behind) (notes, rest) h in
+    let are : noted None cued end false ≡ notes = ap (λ (z : Notes × List ℕ). z.0) both in
+    (sym (ap (λ (n : Notes). n.is_open) are), sym (ap (λ (n : Notes). n.after) are), sym (ap (λ (z : Notes × List ℕ). z.1) both))
+
+pub segment_unknown : (file rest : List ℕ) (notes : Notes) (is : SegmentEnds file rest notes) → is.opened.segment ≡ None → (notes.is_open ≡ not is.cued) × (notes.after ≡ None) × (rest ≡ is.behind)
+segment_unknown file rest notes is none = open_told is.opened.track.numbers is.to (bytes_before file is.behind) is.cued is.behind rest notes
+    (sym (ap (λ (z : Option ℕ). notes_read (InMatroska z is.opened.track.numbers is.to) (bytes_before file is.behind) is.cued None is.behind) none) ∙ is.noted)

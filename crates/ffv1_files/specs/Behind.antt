@@ -1,0 +1,77 @@
+-- What stands behind the end of a file, and what its end leaves to be noted.
+use Rattle.std.specs.Prelude.{◌≡◌, ℕ, Bool, true, false, if◌then◌else◌, Option, Some, None, Result}
+use Rattle.std.specs.Prelude.{⊤}
+use Rattle.ffv1_wire.specs.Passage.{Passage}
+use Rattle.ffv1_reads.specs.Offsets.{offset_after}
+use Rattle.ffv1_reads.specs.Reads.{Reading, given, ◌>>=◌}
+use Rattle.ffv1_reads.specs.declared.fault.FileFault.{FileFault}
+use Rattle.ffv1_reads.specs.declared.fault.FileFault.TheVariants as fault
+use Rattle.ffv1_avi.specs.Behind as avi
+use Rattle.ffv1_matroska.specs.Cues.{CuedNext}
+use Rattle.ffv1_matroska.specs.Places as matroska
+use Rattle.ffv1_matroska.specs.Readers.{is_open, segment_behind}
+use Rattle.ffv1_files.specs.Answers.{Endings}
+use Rattle.ffv1_files.specs.Places.{InAvi, InMatroska, Place}
+use Rattle.ffv1_files.specs.Readers.{Standing}
+use Rattle.ffv1_files.specs.declared.notes.Notes.{Notes}
+
+-- a Segment of this size, with Cues behind its last Cluster or without, ends after so many bytes of
+-- the file; others stand there or not
+abbrev pub noted : Option ℕ → Bool → ℕ → Bool → Notes
+noted segment cued end some =
+    record { is_open = is_open segment cued; after = if some then Some end else None }
+
+-- what stands behind the end, as notes; behind an AVI it was looked at before
+unfoldable pub notes_read : Place → ℕ → Bool → Option ℕ → Reading Notes
+notes_read (InAvi place) end cued after = given (record { is_open = false; after = after })
+notes_read (InMatroska segment track place) end cued after =
+    segment_behind segment >>= λ some. given (noted segment cued end some)
+
+abbrev pub notes_of : Standing → Reading Notes
+notes_of r = notes_read r.place r.end r.cued r.after
+
+-- the end of the input may be any answer
+abbrev pub any_value : {X : Type 0} → Endings X
+any_value = record { values = λ x. ⊤; faults = λ f. ⊥ }
+
+-- the Segment ends where all that it has left was read
+abbrev pub ends_there : Place → ℕ → ℕ → Type 0
+ends_there (InAvi place) offset end = ⊤
+ends_there (InMatroska segment track place) offset end =
+    end ≡ offset_after offset (matroska.amount place)
+
+abbrev pub EndsThere : Standing → Type 0
+EndsThere r = ends_there r.place r.offset r.end
+
+-- it stays where it is
+abbrev pub end_stays : Place → ℕ → ℕ → Type 0
+end_stays (InAvi place) before after = ⊤
+end_stays (InMatroska segment track place) before after = after ≡ before
+
+abbrev pub EndStays : Standing → Standing → Type 0
+EndStays old new = end_stays old.place old.end new.end
+
+-- the faults that looking behind a file has
+abbrev pub is_behind_fault : Place → FileFault → Bool
+is_behind_fault (InAvi place) f = false
+is_behind_fault (InMatroska segment track place) fault.Read = true
+is_behind_fault (InMatroska segment track place) fault.Another = true
+is_behind_fault (InMatroska segment track place) f = false
+
+-- whether Cues came after the last Cluster, after a call for a frame
+abbrev pub cued_after : Place → Bool → Passage → Result Bool FileFault → Place → Bool → Type 0
+cued_after (InMatroska size track from) before p result (InMatroska segment numbers to) after =
+    CuedNext track (from, before) p result (to, after)
+cued_after from before p result to after = ⊤
+
+abbrev pub CuedAfter : Standing → Passage → Result Bool FileFault → Standing → Type 0
+CuedAfter old p result new = cued_after old.place old.cued p result new.place new.cued
+
+-- where bytes stand behind the last RIFF of an AVI, after a call for a frame
+abbrev pub behind_after : Place → ℕ → Option ℕ → Passage → Result Bool FileFault → Option ℕ →
+    Type 0
+behind_after (InAvi from) before was p result after = avi.BehindAfter from before was p result after
+behind_after (InMatroska size track from) before was p result after = after ≡ was
+
+abbrev pub BehindAfter : Standing → Passage → Result Bool FileFault → Standing → Type 0
+BehindAfter old p result new = behind_after old.place old.offset old.after p result new.after

@@ -1,0 +1,115 @@
+-- What is noted of a file, by its bytes alone: what the end of its frames leaves in doubt.
+use Rattle.std.specs.Prelude.{◌≡◌, ◌≤◌, ◌⊎◌, ◌-◌, ℕ, Bool, true, false, List, [], ◌∷◌, length}
+use Rattle.std.specs.Prelude.{Option, Some, None, Result, Ok, Err, ⊤}
+use Rattle.ffv1_wire.specs.Passage.{Passage}
+use Rattle.ffv1_reads.specs.Head.{Head}
+use Rattle.ffv1_reads.specs.Known.{Known}
+use Rattle.ffv1_reads.specs.Offsets.{ReadsWhole, offset_after}
+use Rattle.ffv1_reads.specs.declared.fault.FileFault.{FileFault}
+use Rattle.ffv1_avi.specs.Files.{riff_begun}
+use Rattle.ffv1_avi.specs.Places.{extent_of}
+use Rattle.ffv1_avi.specs.declared.place.Extent.TheVariants.{FirstMovi, EveryRiff}
+use Rattle.ffv1_avi.specs.declared.place.Place.{Place as AviPlace}
+use Rattle.ffv1_matroska.specs.Cues.{cued_taken}
+use Rattle.ffv1_matroska.specs.Opened.{Opened, open_read}
+use Rattle.ffv1_matroska.specs.Places.{amount}
+use Rattle.ffv1_matroska.specs.Segments.{step_read}
+use Rattle.ffv1_matroska.specs.declared.place.Place.{Place as MatroskaPlace}
+use Rattle.ffv1_files.specs.Behind.{notes_of, notes_read}
+use Rattle.ffv1_files.specs.Offsets.{AviReached}
+use Rattle.ffv1_files.specs.Places.{InAvi, InMatroska, Place}
+use Rattle.ffv1_files.specs.Readers.{Standing}
+use Rattle.ffv1_files.specs.declared.container.Scope.{Scope}
+use Rattle.ffv1_files.specs.declared.container.Scope.TheVariants as scope
+use Rattle.ffv1_files.specs.declared.notes.Notes.{Notes}
+
+-- nothing is noted
+abbrev pub no_notes : Notes
+no_notes = record { is_open = false; after = None }
+
+-- how many bytes of a file come before those that are left of it; it is held in 8 bytes
+abbrev pub bytes_before : List ℕ → List ℕ → ℕ
+bytes_before file left = offset_after 0 (length file - length left)
+
+-- the same of bytes that stand behind its end, if any do
+abbrev pub stands_after : List ℕ → List ℕ → Option ℕ
+stands_after file [] = None
+stands_after file (b ∷ bs) = Some (bytes_before file (b ∷ bs))
+
+-- an AVI: its chunks are read whole up to the end of an RIFF, behind which no further one begins,
+-- nor another file, and no frame is owed. What stands there is noted, and is no chunk
+pub record RiffsEnd (file rest : List ℕ) (notes : Notes) : Type 0 where
+  pub head : Head
+  pub to : AviPlace
+  pub offset : ℕ
+  pub behind : List ℕ
+  pub chunks : AviReached EveryRiff (Some file) (Some behind) head to offset
+  pub movi : to.movi ≡ 0
+  pub riff : to.riff ≡ 0
+  pub every : extent_of to ≡ EveryRiff
+  pub over : riff_begun to behind ≡ Ok (None, rest)
+  pub notes_are : notes ≡ record { is_open = false; after = stands_after file behind }
+
+-- a Segment: from where its frames begin its elements are read whole up to a place, and Cues came
+-- after the last Cluster of them or not
+pub record SegmentRead (file left : List ℕ) (opened : Opened) (place : MatroskaPlace) (cued : Bool)
+    : Type 0 where
+  pub begun : List ℕ
+  pub count : ℕ
+  pub opens : open_read file ≡ Ok (opened, begun)
+  pub elements : ReadsWhole (cued_taken opened.track.numbers) (opened.place, false) (Some begun)
+      (Some left) (place, cued) count
+
+-- up to its end, where no further element comes. What stands behind it is noted, if its size is
+-- known; and if it is not, that no Cues came after its last Cluster
+pub record SegmentEnds (file rest : List ℕ) (notes : Notes) : Type 0 where
+  pub opened : Opened
+  pub to : MatroskaPlace
+  pub cued : Bool
+  pub behind : List ℕ
+  pub read : SegmentRead file behind opened to cued
+  pub over : step_read opened.track.numbers to behind ≡ Ok (None, behind)
+  pub noted : notes_read (InMatroska opened.segment opened.track.numbers to)
+      (bytes_before file behind) cued None behind ≡ Ok (notes, rest)
+
+-- what is noted of a file, and what is left behind the bytes that were looked at for that. Up to
+-- its first movi alone nothing is looked at, and nothing is noted
+abbrev pub IsNotedOf : Scope → List ℕ → List ℕ → Notes → Type 0
+IsNotedOf scope.FirstMovi file rest notes = notes ≡ no_notes
+IsNotedOf scope.Whole file rest notes = RiffsEnd file rest notes ⊎ SegmentEnds file rest notes
+
+-- a reader of a Segment, which ends where all was read that it has from its frames on
+pub record SegmentReached (file left : List ℕ) (opened : Opened) (place : MatroskaPlace)
+    (cued : Bool) (end : ℕ) : Type 0 where
+  pub read : SegmentRead file left opened place cued
+  pub fits : length read.begun ≤ length file
+  pub end_is : end ≡ offset_after (bytes_before file read.begun) (amount opened.place)
+
+-- what a reader knows of that where it stands, with this left of the file
+abbrev pub notes_reached : Scope → Place → ℕ → Bool → Option ℕ → List ℕ → List ℕ → Type 0
+notes_reached scope.FirstMovi (InAvi place) end cued after file left =
+    (extent_of place ≡ FirstMovi) × (after ≡ None)
+notes_reached scope.FirstMovi (InMatroska segment track place) end cued after file left = ⊥
+notes_reached scope.Whole (InAvi place) end cued after file left = extent_of place ≡ EveryRiff
+notes_reached scope.Whole (InMatroska segment track place) end cued after file left =
+    (opened : Opened) × (opened.segment ≡ segment) × (opened.track.numbers ≡ track)
+    × SegmentReached file left opened place cued end
+
+-- if the bytes of the file are known
+pub record NotesReached (scope : Scope) (text left : Option (List ℕ)) (r : Standing) : Type 0 where
+  pub known : Known text left (notes_reached scope r.place r.end r.cued r.after)
+
+-- the notes that a reader reads, once the frames have ended, are those of its file
+pub record NotesEnd (scope : Scope) (text left : Option (List ℕ)) (r : Standing) : Type 0 where
+  pub known : Known text left (λ file behind. (notes : Notes) (rest : List ℕ) →
+      notes_of r behind ≡ Ok (notes, rest) → IsNotedOf scope file rest notes)
+
+-- after a call for the next frame
+abbrev pub NotesNext : Scope → Option (List ℕ) → Passage → Result Bool FileFault → Standing → Type 0
+NotesNext scope text p (Ok true) r = NotesReached scope text p.new r
+NotesNext scope text p (Ok false) r = NotesEnd scope text p.new r
+NotesNext scope text p (Err f) r = ⊤
+
+-- notes are those of a file whose bytes are known
+abbrev pub NotedOf : Scope → Option (List ℕ) → Option (List ℕ) → Notes → Type 0
+NotedOf scope text left notes = Known text left (λ file rest. IsNotedOf scope file rest notes)
