@@ -15,6 +15,7 @@ sys.path.append(os.path.join(TOP, "model"))
 
 import ebml
 import matroska
+import matroska_writer
 
 MONO, C420, C422, C444, _, ALPHA, RGB = KINDS
 
@@ -220,9 +221,9 @@ def read_forms(results):
     for kind in [C420, RGB]:
         head, frames = frames_of(encoded("source.mkv", pixels_of(kind), 96, 96, "-slices", "4"))
         head.number = 1
-        for name, form in [("finished", matroska.finished), ("open", matroska.open_form),
-                           ("begun", matroska.begun)]:
-            save("form.mkv", form(head, matroska.Shown(), frames))
+        for name, form in [("finished", matroska_writer.finished), ("open", matroska_writer.open_form),
+                           ("begun", matroska_writer.begun)]:
+            save("form.mkv", form(head, matroska_writer.Shown(), frames))
             whole(results, f"{name}, {kind.name}", kind, (96, 96), "form.mkv",
                   OPEN if name == "begun" else "")
 
@@ -252,7 +253,7 @@ def read_merged(results):
     encoded("a.avi", "yuv422p", 96, 96)
     encoded("b.mkv", "yuv422p", 96, 96, *sounding, inputs=SOUND)
     head, frames = frames_of("a.mkv")
-    save("c.mkv", matroska.finished(head, matroska.Shown(3, (1, 1)), frames))
+    save("c.mkv", matroska_writer.finished(head, matroska_writer.Shown(3, (1, 1)), frames))
     for name in ["a.mkv", "a.avi", "b.mkv", "c.mkv"]:
         for what, options in OF_MKVMERGE:
             what = f"mkvmerge, {what} of {name}"

@@ -13,6 +13,7 @@ import tempfile
 
 sys.dont_write_bytecode = True
 
+import avi_format
 import check_matroska
 import commands
 import ffv1
@@ -111,7 +112,7 @@ def read(data, wide):
         return data[at[0] - count:at[0]]
 
     try:
-        head, frames = files.open_avi(files.Source(some), wide)
+        head, frames = avi_format.open_avi(files.Source(some), wide)
         frames = list(frames)
     except ffv1.Fault as fault:
         return fault.number, head is not None
@@ -127,8 +128,8 @@ class Long:
 
 def example_checks():
     """A file of one frame: its bytes, and each of its beginnings."""
-    head = files.AviHead(2, 3, 25, 1, RECORD)
-    yield "the bytes of a file", files.write_avi(head, [FRAME]), EXAMPLE
+    head = avi_format.AviHead(2, 3, 25, 1, RECORD)
+    yield "the bytes of a file", avi_format.write_avi(head, [FRAME]), EXAMPLE
     yield "the length of a file", len(EXAMPLE), 298
     for wide in [False, True]:
         yield "a file is read", read(EXAMPLE, wide), ((2, 3, 25, 1, RECORD), [FRAME])
@@ -137,11 +138,11 @@ def example_checks():
     yield "what is left of a file", read(EXAMPLE + b"xy", False), ((2, 3, 25, 1, RECORD), [FRAME])
     yield "bytes behind a file", read(EXAMPLE + b"xyzw", True), ((2, 3, 25, 1, RECORD), [FRAME])
     yield "another file", read(EXAMPLE + EXAMPLE, True), (88, True)
-    yield "the greatest file", files.riff_size(0, [2 ** 31 - 2 - 224]), 2 ** 31 - 2
-    yield "a file too large", fault_of(lambda: files.write_avi(head, [Long()])), 55
-    yield "the most microseconds", files.write_avi(
-        files.AviHead(1, 1, 1, 2 ** 32 - 1, b""), [])[32:36], b"\xff" * 4
-    yield "no rate", files.write_avi(files.AviHead(1, 1, 0, 0, b""), [])[32:36], bytes(4)
+    yield "the greatest file", avi_format.riff_size(0, [2 ** 31 - 2 - 224]), 2 ** 31 - 2
+    yield "a file too large", fault_of(lambda: avi_format.write_avi(head, [Long()])), 55
+    yield "the most microseconds", avi_format.write_avi(
+        avi_format.AviHead(1, 1, 1, 2 ** 32 - 1, b""), [])[32:36], b"\xff" * 4
+    yield "no rate", avi_format.write_avi(avi_format.AviHead(1, 1, 0, 0, b""), [])[32:36], bytes(4)
 
 
 def results():

@@ -12,6 +12,7 @@ import zlib
 import ebml
 import ffv1
 import matroska
+import matroska_writer
 from known_answers import matroska as known
 from known_answers import matroska_others, matroska_tracks, matroska_written
 from known_answers.case import fault_of
@@ -123,15 +124,15 @@ def known_numbers():
         file = H + known.segment(tracks, known.cluster(known.block(spelled + "000080")))
         yield f"track {number} as {spelled}", read(file).frames, [FRAME]
     for rate, scale, duration in matroska_written.TIMED:
-        yield f"{rate}:{scale}", matroska.timed(rate, scale), duration
+        yield f"{rate}:{scale}", matroska_writer.timed(rate, scale), duration
     for rate, scale in matroska_written.UNTIMED:
-        yield f"{rate}:{scale}", fault_of(lambda: matroska.timed(rate, scale)), 86
+        yield f"{rate}:{scale}", fault_of(lambda: matroska_writer.timed(rate, scale)), 86
 
 
 def many_rates():
     """Rates that are read back: whole ones, n / 1001 and halves; and those of whole nanoseconds."""
     def bad(rates):
-        return [rate for rate in rates if fault_of(lambda: matroska.timed(*rate))]
+        return [rate for rate in rates if fault_of(lambda: matroska_writer.timed(*rate))]
     yield "whole rates", bad((n, 1) for n in range(1, 31796)), []
     yield "the next one", bad([(31796, 1)]), [(31796, 1)]
     yield "1000 n / 1001", bad((1000 * n, 1001) for n in range(1, 1001) if 1001 % n or n == 1), []
@@ -145,30 +146,30 @@ def many_rates():
 def known_bytes():
     """Files byte by byte, in their three forms."""
     w = matroska_written
-    head, shown = matroska.Head(1, 1, 1, 0, 0, RECORD), matroska.Shown()
-    yield "a finished file", matroska.finished(head, shown, [FRAME]), w.EXAMPLE
-    yield "an open file", matroska.open_form(head, shown, [FRAME]), w.OPEN_EXAMPLE
-    yield "a begun file", matroska.begun(head, shown, [FRAME]), w.OPEN_EXAMPLE[:w.BEGUN]
+    head, shown = matroska.Head(1, 1, 1, 0, 0, RECORD), matroska_writer.Shown()
+    yield "a finished file", matroska_writer.finished(head, shown, [FRAME]), w.EXAMPLE
+    yield "an open file", matroska_writer.open_form(head, shown, [FRAME]), w.OPEN_EXAMPLE
+    yield "a begun file", matroska_writer.begun(head, shown, [FRAME]), w.OPEN_EXAMPLE[:w.BEGUN]
     yield "the length of a file", len(w.EXAMPLE), 399
-    head, shown = matroska.Head(1, 352, 288, 30000, 1001, RECORD), matroska.Shown(1, (10, 11))
-    yield "a file of two frames", matroska.finished(head, shown, [FRAME, w.SECOND]), w.FILE
+    head, shown = matroska.Head(1, 352, 288, 30000, 1001, RECORD), matroska_writer.Shown(1, (10, 11))
+    yield "a file of two frames", matroska_writer.finished(head, shown, [FRAME, w.SECOND]), w.FILE
     for width, height, structure, aspect, spelled in w.VIDEOS:
-        head, shown = matroska.Head(1, width, height, 0, 0, b""), matroska.Shown(structure, aspect)
-        yield f"Video of {spelled}", matroska.video(head, shown), spell(spelled)
+        head, shown = matroska.Head(1, width, height, 0, 0, b""), matroska_writer.Shown(structure, aspect)
+        yield f"Video of {spelled}", matroska_writer.video(head, shown), spell(spelled)
     for n, spelled in w.DOUBLES:
-        yield f"{n} as a double", matroska.double(n), spell(spelled)
-        yield f"{n} as Python's", matroska.double(n), struct.pack(">d", n)
+        yield f"{n} as a double", matroska_writer.double(n), spell(spelled)
+        yield f"{n} as Python's", matroska_writer.double(n), struct.pack(">d", n)
     for count, stride, cues in w.STRIDES:
-        found = matroska.cues(range(1000, 1000 + 50 * count, 50))
-        yield f"the stride of {count}", (matroska.stride_of(count), len(found)), \
+        found = matroska_writer.cues(range(1000, 1000 + 50 * count, 50))
+        yield f"the stride of {count}", (matroska_writer.stride_of(count), len(found)), \
             (stride, 18 + 27 * cues)
         yield f"the last cue of {count}", found[-27:], cue(
             (cues - 1) * stride, 1000 + 50 * (cues - 1) * stride)
     most = 2 ** 56 - 2 ** 20 - 41
-    yield "the last place", matroska.places(most - 5, [5]), [most - 5, most + 41]
-    yield "a place too far", fault_of(lambda: matroska.places(most - 5, [6])), 55
-    yield "a later place too far", fault_of(lambda: matroska.places(most - 99, [5, 60])), 55
-    for form in [matroska.begun, matroska.open_form, matroska.finished]:
+    yield "the last place", matroska_writer.places(most - 5, [5]), [most - 5, most + 41]
+    yield "a place too far", fault_of(lambda: matroska_writer.places(most - 5, [6])), 55
+    yield "a later place too far", fault_of(lambda: matroska_writer.places(most - 99, [5, 60])), 55
+    for form in [matroska_writer.begun, matroska_writer.open_form, matroska_writer.finished]:
         head = matroska.Head(1, 1, 1, 50, 2, RECORD)
         yield "a rate that is not written", fault_of(lambda: form(head, shown, [FRAME])), 86
 
@@ -183,9 +184,9 @@ def cue(count, place):
 
 def small_files(numbers):
     """Small files: of the writer, in its three forms, and of elements of all kinds."""
-    for name, form, is_open in [("a begun file", matroska.begun, True),
-                                ("an open file", matroska.open_form, True),
-                                ("a finished file", matroska.finished, False)]:
+    for name, form, is_open in [("a begun file", matroska_writer.begun, True),
+                                ("an open file", matroska_writer.open_form, True),
+                                ("a finished file", matroska_writer.finished, False)]:
         head, shown, frames = written(numbers)
         file = form(head, shown, frames[:3])
         begins = [place for _, _, place in parts(file, 52)] + [len(file)]
@@ -309,7 +310,7 @@ def written_files(numbers):
     for number in range(100):
         head, shown, frames = written(numbers)
         begun, opened, finished = (form(head, shown, frames) for form in [
-            matroska.begun, matroska.open_form, matroska.finished])
+            matroska_writer.begun, matroska_writer.open_form, matroska_writer.finished])
         for name, file, size, note in [
                 ("begun", begun, None, {90: "Open"}), ("open", opened, None, {}),
                 ("finished", finished, len(finished) - 52, {94: f"After byte {len(finished)}"})]:
@@ -376,7 +377,7 @@ def random_files():
             (small.said, small.size(), small.frames, 0, len(file + rest[:4]))
         yield from mutated_files(numbers, small.name, file + rest)
         head, shown, frames = written(numbers)
-        form = numbers.choice([matroska.begun, matroska.open_form, matroska.finished])
+        form = numbers.choice([matroska_writer.begun, matroska_writer.open_form, matroska_writer.finished])
         yield from mutated_files(numbers, f"written file {number}", form(head, shown, frames))
 
 

@@ -112,12 +112,16 @@ def check(source, out, place, every, choice=ALL):
 def check_frames(config, frames, out, place, every):
     """A line for each frame; own: where places are asked for, one more where decoding is refused.
     Where every frame is asked for, it goes on then and behind what is told of a file of Matroska, and
-    the first fault of either kind ends it."""
+    the first fault of either kind ends it. A frame of no bytes is the one before again."""
     count, faults = 0, []
     for number, payload in frames:
         if isinstance(payload, damaged_files.Told):
             out(f"byte {payload.offset}: fault {payload.fault}\n")
             faults.append(payload.fault)
+            continue
+        count += 1
+        if not payload:
+            out(f"frame {number}: again\n")
             continue
         decoded = ffv1.decode_frame(config, payload)
         if not decoded.fault:
@@ -129,7 +133,6 @@ def check_frames(config, frames, out, place, every):
             faults.append(decoded.fault)
         else:
             refuse(number, decoded, out, place)
-        count += 1
     if count == 0 and not faults:
         raise Fault(70)
     out(f"frames {count} faults {len(faults)}\n" if every else f"frames {count}\n")
@@ -142,6 +145,9 @@ def show(source, out, cost):
     for line in shown(head, config, segment):
         out(line + "\n")
     for number, payload in enumerate(frames if cost else []):
+        if not payload:
+            out(f"cost frame {number}: again\n")
+            continue
         decoded = ffv1.decode_frame(config, payload)
         if decoded.fault:
             raise decoded.fault
@@ -168,8 +174,12 @@ def told_pictures(source, choice):
 
 
 def decoded_pictures(config, frames):
-    """The pictures of frames, each with its aspect, up to the first that is at fault."""
+    """The pictures of frames, each with its aspect, up to the first that is at fault; none of a frame
+    of no bytes."""
     for payload in frames:
+        if not payload:
+            yield None
+            continue
         decoded = ffv1.decode_frame(config, payload)
         if decoded.fault:
             raise decoded.fault
@@ -177,13 +187,17 @@ def decoded_pictures(config, frames):
 
 
 def framemd5(source, out, choice=ALL):
-    """A line for each picture, with its MD5, as FFmpeg's framemd5 writes them."""
+    """A line for each picture, with its MD5, as FFmpeg's framemd5 writes them. A frame of no bytes has
+    a number, and no line."""
     head, rct, depth, pictures = told_pictures(source, choice)
-    number = choice["from"]
-    for planes, aspect in pictures:
-        if number == choice["from"]:
-            out(md5_header(head, aspect))
-        out(md5_line(number, raw_bytes(planes, rct, depth)))
+    number, is_headed = choice["from"], False
+    for picture in pictures:
+        if picture is not None:
+            planes, aspect = picture
+            if not is_headed:
+                out(md5_header(head, aspect))
+            is_headed = True
+            out(md5_line(number, raw_bytes(planes, rct, depth)))
         number += 1
     if number == choice["from"]:
         raise Fault(70)
@@ -302,15 +316,15 @@ def make(order, source, descriptors, output):
 def unpack_all(source, out, output):
     """Unpacks all of a file that may be damaged. Its lines are printed as they come, and then how many
     frames there were; the first fault ends it. It answers what is printed on standard error, the lines
-    where OUT is standard output. Own: nothing is noted."""
+    where OUT is standard output."""
     told = []
     data, is_matroska = input_of(source)
     try:
         head, config, frames, _ = opened_in(data, is_matroska, True)
         count, first = salvage(head, config, frames, out, output or told.append)
-        source.notes.clear()
         (output or told.append)(f"frames {count}\n")
         if first:
+            first.notes = source.notes
             raise first
     except Fault as fault:
         fault.told = "".join(told)
@@ -330,10 +344,10 @@ def list_of(path, standard_input):
 
 
 def compare(md5s, source, out):
-    """Compares all pictures of a file with MD5s."""
+    """Compares all pictures of a file with MD5s; a frame of no bytes has none."""
     _, config, frames, _ = opened(source)
     pictures = decoded_pictures(config, frames)
-    md5_lists.compare(md5s, (raw_bytes(p, config.rct, config.depth) for p, _ in pictures), out)
+    md5_lists.compare(md5s, (p and raw_bytes(p[0], config.rct, config.depth) for p in pictures), out)
 
 
 @objectively

@@ -5,11 +5,13 @@ passed.
 All of it is this project's own choice. A Cluster whose CRC-32 fails gives all its frames, then its
 fault. A block that is refused, or an element that a Cluster does not hold, is passed by its size. An
 element of the Segment that begins in a Cluster is read as one of the Segment, and one that passes the
-Segment is read as if that were open. Behind all other faults the next Cluster is sought.
+Segment is read as if that were open. Behind all other faults the next Cluster is sought. Behind the
+end it is looked as behind a file that is sound: another file there is told, too. Whether Cues came
+after the last Cluster is said by the IDs that were read.
 """
 import ebml
 from ffv1 import Fault
-from matroska import BLOCK_GROUP, CLUSTER, OPEN, OUTSIDE, SIMPLE_BLOCK, Segment
+from matroska import BLOCK_GROUP, CLUSTER, CUES, OPEN, OUTSIDE, SIMPLE_BLOCK, Segment
 
 CLUSTER_ID = CLUSTER.to_bytes(4, "big")
 
@@ -126,6 +128,7 @@ class Damaged(Segment):
             left, last = left - 1, (last + byte)[-4:]
             if last != CLUSTER_ID:
                 continue
+            self.cued = False
             last, start = b"", self.source.position
             try:
                 size, length = ebml.get_size(self.source, left)
@@ -164,14 +167,32 @@ class Damaged(Segment):
         self.outside(OPEN + 12)     # and a header, of 12 bytes at most
         self.is_open, self.loose = True, loose
 
+    def came(self):
+        """What the ID says, behind a fault of the header of an element of the Segment."""
+        given = self.kept.given
+        length = ebml.length_of(given[0]) if given else 5
+        if length <= 4 and len(given) >= length:
+            ident = int.from_bytes(given[:length], "big")
+            self.cued = ident != CLUSTER and (self.cued or ident == CUES)
+
     def items(self, number):
-        """The frames of a track, and what is told, in turn."""
+        """The frames of a track, and what is told, in turn; and behind the end another file."""
+        yield from self.inner_items(number)
+        try:
+            self.look_behind()
+        except Fault as fault:
+            if fault.number == 56:
+                raise
+            yield Told(fault, self.source.begun)
+
+    def inner_items(self, number):
+        """Those of the Segment."""
         source = self.source
         self.kept = Kept(source)
         while True:
             start, room = source.position, self.left + self.cluster + self.group
             self.inside_before, self.group_before = self.inside(), self.group
-            self.in_header = False
+            self.in_header, cued = False, self.cued
             source.mark()
             try:
                 frame = self.element(number)
@@ -194,6 +215,10 @@ class Damaged(Segment):
             except Fault as fault:
                 if fault.number == 56:
                     raise
+                if self.kept.ended:
+                    self.cued = cued
+                elif self.in_header:
+                    self.came()
                 yield Told(fault, source.begun)
                 if fault.number == 85:
                     self.loose = self.loose and bool(self.inside_before)

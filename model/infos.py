@@ -4,6 +4,7 @@ its first picture, and of how many frames it has; each group as soon as it is kn
 import json
 import math
 
+import avi_format
 import ffv1
 import files
 import matroska
@@ -96,7 +97,7 @@ def tell_record(config, facts):
 
 
 def tell_picture(config, decoded, facts):
-    """What the first picture says, if there is one."""
+    """What the first picture says, if there is one; the first frame may have none."""
     structure, num, den = decoded.info if decoded else (0, 0, 0)
     if structure:
         facts.word("fields", FIELDS[structure])
@@ -112,7 +113,7 @@ def tell_stream(head, config, frames, facts):
     """The facts of the record and of the first picture."""
     tell_record(config, facts)
     first = next(frames, None)
-    decoded = None if first is None else ffv1.decode_frame(config, first)
+    decoded = ffv1.decode_frame(config, first) if first else None
     if decoded and decoded.fault:
         raise decoded.fault
     tell_picture(config, decoded, facts)
@@ -131,7 +132,7 @@ def info(source, out, choice):
     facts, first = outline.Facts(out, choice["json"]), source.some(outline.MOST)
     outline.outline(first, facts)
     data, is_matroska = input_of(files.Source(after(first, source.read)))
-    head, *_, frames = matroska.open_matroska(data) if is_matroska else files.open_avi(data, True)
+    head, *_, frames = matroska.open_matroska(data) if is_matroska else avi_format.open_avi(data, True)
     tell_head(head, facts)
     config = ffv1.read_record(head.record, head.width, head.height, wide=True)
     count = tell_stream(head, config, iter(frames), facts)

@@ -118,14 +118,16 @@ def md5s_of(file, path):
 
 def compare(md5s, pictures, out):
     """Compares the bytes of pictures with MD5s, in turn; 89 with the first frame that differs, or
-    that one of the two lacks."""
-    count = 0
+    that one of the two lacks. A frame that has none is counted, and compared with nothing."""
+    count, met = 0, 0
     for data in pictures:
-        if count == len(md5s) or hashlib.md5(data).hexdigest() != md5s[count]:
-            raise Unlike(89, {"frame": count})
+        if data is not None:
+            if met == len(md5s) or hashlib.md5(data).hexdigest() != md5s[met]:
+                raise Unlike(89, {"frame": count})
+            met += 1
         count += 1
     if count == 0:
         raise Fault(70)
-    if count < len(md5s):
+    if met < len(md5s):
         raise Unlike(89, {"frame": count})
-    out(f"frames {count}\n")
+    out(f"frames {met}\n")

@@ -1,5 +1,6 @@
 # SPDX-License-Identifier: MIT OR Apache-2.0
 """Files of AVI and Matroska, opened by their first byte."""
+import avi_format
 import damaged_files
 import ebml
 import ffv1
@@ -41,7 +42,7 @@ def opened_in(data, is_matroska, damaged=False):
         head, size, frames = matroska.open_matroska(data, read)
         segment = [f"segment {'open' if size is None else size}"]
     else:
-        head, frames = files.open_avi(data, True)
+        head, frames = avi_format.open_avi(data, True)
         segment = []
     config = ffv1.read_record(head.record, head.width, head.height, wide=True)
     return head, config, frames, segment

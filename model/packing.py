@@ -1,8 +1,10 @@
 # SPDX-License-Identifier: MIT OR Apache-2.0
 """What `ffv1 pack` does with a video: a part of `commands.py`."""
+import avi_format
 import ffv1
 import files
 import matroska
+import matroska_writer
 from ffv1 import Fault
 from record import are_multiples
 
@@ -94,8 +96,8 @@ def pack(source, out, choice):
     head, config, frames = video_of(source, choice)
     frames = list(frames)
     count = packed([len(frame) for frame in frames])
-    avi = files.AviHead(head.width, head.height, head.rate, head.scale, ffv1.write_record(config))
-    out(files.write_avi(avi, frames))
+    avi = avi_format.AviHead(head.width, head.height, head.rate, head.scale, ffv1.write_record(config))
+    out(avi_format.write_avi(avi, frames))
     return count, head
 
 
@@ -133,20 +135,20 @@ def pack_matroska(source, out, over, choice):
     the end the opening is written over, which does nothing where OUT is no regular file. It answers
     the count, and the head of the text."""
     head, config, frames = video_of(source, choice, by_default=True)
-    matroska.timed(head.rate, head.scale)
+    matroska_writer.timed(head.rate, head.scale)
     track = matroska.Head(1, head.width, head.height, head.rate, head.scale,
                           ffv1.write_record(config), colour=colour_of(head, choice))
-    tracks = matroska.tracks(track, matroska.Shown(head.structure, head.aspect))
-    lengths, begins, end = [], [], matroska.TRACKS_PLACE + len(tracks)
+    tracks = matroska_writer.tracks(track, matroska_writer.Shown(head.structure, head.aspect))
+    lengths, begins, end = [], [], matroska_writer.TRACKS_PLACE + len(tracks)
     for frame in frames:
-        begin, end = matroska.places(end, [len(frame)])
+        begin, end = matroska_writer.places(end, [len(frame)])
         if not begins:
-            out(matroska.opening(track) + tracks)
-        out(matroska.cluster(len(begins), frame))
+            out(matroska_writer.opening(track) + tracks)
+        out(matroska_writer.cluster(len(begins), frame))
         lengths.append(len(frame))
         begins.append(begin)
     count = packed(lengths)
-    cues = matroska.cues(begins)
+    cues = matroska_writer.cues(begins)
     out(cues)
-    over(matroska.opening(track, matroska.Finish(end + len(cues), end, len(lengths))))
+    over(matroska_writer.opening(track, matroska_writer.Finish(end + len(cues), end, len(lengths))))
     return count, head

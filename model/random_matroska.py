@@ -3,6 +3,7 @@
 have them, spelled here, of which it is known what they are read as.
 """
 import matroska
+import matroska_writer
 from known_answers.matroska import FRAME, H, LOOSE, element, size, spell, summed
 from known_answers.matroska_tracks import BITMAP
 
@@ -62,7 +63,7 @@ def written(numbers):
     head = matroska.Head(1, width, height, *numbers.choice(RATES),
                          numbers.randbytes(numbers.choice([0, 5, 26, 43, 150])))
     aspect = numbers.choice([(0, 0), (1, 1), (16, 15), (65535, 1), (10, 11)])
-    return head, matroska.Shown(numbers.randrange(4), aspect), some_frames(numbers, 9)
+    return head, matroska_writer.Shown(numbers.randrange(4), aspect), some_frames(numbers, 9)
 
 
 # --------------------------------------------------------------------------- elements of all kinds

@@ -33,10 +33,15 @@ def head_of(head, config, said):
 
 
 def unpack_y4m(head, config, frames, out):
-    """The canonical text of a file; own: 71 where a frame's structure or aspect is another."""
+    """The canonical text of a file; own: 71 where a frame's structure or aspect is another. A frame of
+    no bytes is the picture before once more, and nothing before the first picture."""
     has_text(config)
-    count, first = 0, None
+    count, first, picture = 0, None, b""
     for payload in frames:
+        count += 1
+        if not payload:
+            out(picture)
+            continue
         decoded = ffv1.decode_frame(config, payload)
         if decoded.fault:
             raise decoded.fault
@@ -45,16 +50,21 @@ def unpack_y4m(head, config, frames, out):
             out(files.y4m_header(head_of(head, config, first)))
         elif decoded.info != first:
             raise Fault(71)
-        out(files.y4m_picture(planes_of(config, decoded.lines), config.depth))
-        count += 1
+        picture = files.y4m_picture(planes_of(config, decoded.lines), config.depth)
+        out(picture)
     return count
 
 
 def unpack_ppm(config, frames, out):
-    """The images of a file, of a frame at fault the rows before the fault."""
+    """The images of a file, of a frame at fault the rows before the fault; of a frame of no bytes the
+    image before once more, and nothing before the first one."""
     has_text(config)
-    count = 0
+    count, image = 0, b""
     for payload in frames:
+        count += 1
+        if not payload:
+            out(image)
+            continue
         decoded = ffv1.decode_frame(config, payload)
         rows = list(zip(*planes_of(config, decoded.lines)))
         if rows:
@@ -63,15 +73,15 @@ def unpack_ppm(config, frames, out):
             out(files.ppm_line(row, config.depth))
         if decoded.fault:
             raise decoded.fault
-        count += 1
+        image = image_of(config, planes_of(config, decoded.lines))
     return count
 
 
 def salvage(head, config, frames, out, tell):
     """The pictures of a file that may be damaged, and the lines of its faults: how many frames there
-    are, and the first fault. Own: for a frame that is refused the last good picture is written once
-    more, and before the first good one nothing. A frame of another structure or aspect than the header
-    of YUV4MPEG2 is good, and told; PPM says neither."""
+    are, and the first fault. Own: for a frame that is refused, or has no bytes, the last good picture
+    is written once more, and before the first good one nothing. A frame of another structure or aspect
+    than the header of YUV4MPEG2 is good, and told; PPM says neither."""
     has_text(config)
     count, faults, header, last = 0, [], None, None
     for payload in frames:
@@ -79,9 +89,9 @@ def salvage(head, config, frames, out, tell):
             tell(f"byte {payload.offset}: fault {payload.fault}\n")
             faults.append(payload.fault)
             continue
-        decoded = ffv1.decode_frame(config, payload)
-        fault = decoded.fault
-        if not fault and not config.rct:
+        decoded = ffv1.decode_frame(config, payload) if payload else None
+        fault = decoded and decoded.fault
+        if decoded and not fault and not config.rct:
             if header is None:
                 header = decoded.info
                 out(files.y4m_header(head_of(head, config, header)))
@@ -90,7 +100,7 @@ def salvage(head, config, frames, out, tell):
         if fault:
             tell(f"frame {count}: fault {fault}\n")
             faults.append(fault)
-        if not decoded.fault:
+        if decoded and not decoded.fault:
             last = planes_of(config, decoded.lines)
         if last is not None:
             out(image_of(config, last) if config.rct else files.y4m_picture(last, config.depth))

@@ -2,11 +2,12 @@
 """Files of Matroska at random, good and bad, of frames that are given: in the forms that the writer
 has, and of elements of all kinds, as other programs have them."""
 import matroska
+import matroska_writer
 import random_matroska
 from damage import damaged, inserted
 from known_answers.matroska import FRAME, spell
 
-FORMS = [matroska.finished, matroska.open_form, matroska.begun]
+FORMS = [matroska_writer.finished, matroska_writer.open_form, matroska_writer.begun]
 
 
 class Maker(random_matroska.Maker):
@@ -31,7 +32,7 @@ def whole(dice, config, record, payloads):
         return random_matroska.made_by(Maker(dice, config, record, payloads), "").file()
     rate = dice.choice(random_matroska.RATES)
     head = matroska.Head(1, config.width, config.height, *rate, record)
-    shown = matroska.Shown(dice.randrange(4), dice.choice([(0, 0), (1, 1), (16, 15)]))
+    shown = matroska_writer.Shown(dice.randrange(4), dice.choice([(0, 0), (1, 1), (16, 15)]))
     return dice.choice(FORMS)(head, shown, payloads)
 
 

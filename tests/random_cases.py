@@ -3,6 +3,7 @@
 its seed and its number alone."""
 import random
 
+import avi_format
 import command_line
 import ffv1
 import files
@@ -248,8 +249,8 @@ def file_of(dice):
 def avi(dice, config, record, payloads):
     """A file that is good, or one that is cut or changed."""
     if dice.random() < 0.5:
-        head = files.AviHead(config.width, config.height, *dice.choice([(25, 1), (0, 0)]), record)
-        file = files.write_avi(head, payloads)
+        head = avi_format.AviHead(config.width, config.height, *dice.choice([(25, 1), (0, 0)]), record)
+        file = avi_format.write_avi(head, payloads)
     else:
         file = made_file(dice, config, record, payloads)
     kind = dice.randrange(24)

@@ -4,6 +4,7 @@
 import io
 import struct
 
+import avi_format
 import ffv1
 import files
 
@@ -180,7 +181,7 @@ def answer(file, is_whole):
     left."""
     data, said, frames, fault = io.BytesIO(file), None, [], 0
     try:
-        head, rest = files.open_avi(files.Source(data.read), bool(is_whole))
+        head, rest = avi_format.open_avi(files.Source(data.read), bool(is_whole))
         said = (head.width, head.height, head.rate, head.scale, head.record)
         for frame in rest:
             frames.append(frame)

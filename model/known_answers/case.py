@@ -1,7 +1,7 @@
 # SPDX-License-Identifier: MIT OR Apache-2.0
 """What a known answer is, and the texts, files and payloads that they are about."""
+import avi_format
 import ffv1
-import files
 
 ANY = None      # an output that is not compared
 
@@ -73,8 +73,8 @@ FRAME = bytes.fromhex("FE7B000002")     # the picture MONO, without parity
 def avi(config, payloads, rate=25, scale=1):
     """The file of frames with these payloads."""
     record = ffv1.write_record(config)
-    head = files.AviHead(config.width, config.height, rate, scale, record)
-    return files.write_avi(head, payloads)
+    head = avi_format.AviHead(config.width, config.height, rate, scale, record)
+    return avi_format.write_avi(head, payloads)
 
 
 def one(**changes):

@@ -487,15 +487,6 @@ ROWS = [("", EXAMPLES), ("header: ", HEADERS), ("outside: ", GROWN), ("EBML: ", 
         ("Cluster of unknown size: ", LOOSE_CLUSTERS), ("block: ", BLOCKS), ("CRC-32 ", SUMS)]
 
 
-# what is noted of those that are read to their end
-OPEN = "90 Open"
-NOTED = {
-    "header: an element that suits": "94 After byte 162", "Segment: open in one byte": OPEN,
-    "Segment: open in four bytes": OPEN, "Cluster of unknown size: open, and cut between blocks": OPEN,
-    **{f"Segment: a size of {k} bytes": f"94 After byte {149 + k}" for k in range(1, 9)},
-}
-
-
 def files():
     """All rows."""
     for subject, rows in ROWS:

@@ -14,6 +14,13 @@ from known_answers.shown import FIRST, SHOWN, SHOWN_IMAGE
 LINE = "frame 0: 5 bytes, 1 slices, 11 decisions\n"
 SHOWN_MONO = SHOWN.replace("25/1", "0/0")
 SEGMENT = bytes.fromhex("18538067")
+# what is noted of those that are read to their end
+OPEN = "90 Open"
+NOTED = {
+    "header: an element that suits": "94 After byte 162", "Segment: open in one byte": OPEN,
+    "Segment: open in four bytes": OPEN, "Cluster of unknown size: open, and cut between blocks": OPEN,
+    **{f"Segment: a size of {k} bytes": f"94 After byte {149 + k}" for k in range(1, 9)},
+}
 
 
 def lines(count):
@@ -57,7 +64,7 @@ def known_files():
     for name, file, count, number, _ in matroska.files():
         fault = f"{number} {ffv1.FAULTS[number]}" if number else ""
         if file.startswith(b"\x1a"):
-            yield read(f"Matroska: {name}", file, count, fault, matroska.NOTED.get(name, ""))
+            yield read(f"Matroska: {name}", file, count, fault, NOTED.get(name, ""))
 
 
 def said_of(answer):

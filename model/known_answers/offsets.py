@@ -30,8 +30,6 @@ OF_AVI = [
     ("no movi", riff(header(), JUNK), 0, 12 + len(header()) + 12, "50 NotAvi"),
     ("a list in movi", riff(header(), chunk_list(b"movi", GOOD, chunk_list(b"abcd"))), 1,
      12 + len(header()) + 12 + 14, "50 NotAvi"),
-    ("an empty frame", riff(header(), chunk_list(b"movi", GOOD, JUNK, chunk(b"00dc", b""))), 1,
-     12 + len(header()) + 12 + 14 + 12, "54 EmptyFrame"),
     ("another file", TWO + b"RIFF" + bytes(8), 2, len(TWO), "88 Another"),
     ("Matroska after all RIFFs", TWO + further(JUNK) + H, 2, len(TWO + further(JUNK)), "88 Another"),
     ("bytes where a frame is owed", riff(streams(total=numbers(2)), MOVI) + b"x", 1,

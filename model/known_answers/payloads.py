@@ -32,12 +32,14 @@ def flipped_bits():
 
 
 def cut_payloads():
-    """Payloads that are cut off, and one of no bytes, which is no frame of a file."""
+    """Payloads that are cut off, and one of no bytes, which repeats the frame before."""
     for ec, payload in [(0, FRAME), (1, PARITY)]:
         for length in range(1, len(payload)):
             yield placed(f"{length} bytes with ec {ec}", one(ec=ec), payload[:length],
                          *at("35 Footer", NOWHERE, 0))
-        yield placed(f"no bytes with ec {ec}", one(ec=ec), b"", "fault frame 0 byte 250\n", "54 EmptyFrame")
+        empty, note = "frame 0: again\nframes 1\n", "93 Repeated 1"
+        yield Case(f"no bytes with ec {ec}", {"in": avi(one(ec=ec), [b""])}, [
+            Step(["check", "--place", "in"], empty, note=note), Step(["check", "in"], empty, note=note)])
 
 
 # name, parity, columns, payload, fault, its place, decisions before it
@@ -123,8 +125,9 @@ def later_frames():
         Step(["check", "--all", "in"], lines + refused + last + ended, fault),
         Step(["check", "--place", "--all", "in"], lines + place + last + ended, fault)])
     yield Case("a chunk of no bytes", {"in": avi(one(), [FRAME, b""])},
-               [Step(["check", "--place", "in"], "frame 0: 5 bytes, 1 slices, 11 decisions\nfault frame 1 byte 264\n",
-                     "54 EmptyFrame")])
+               [Step(["check", "--place", "in"],
+                     "frame 0: 5 bytes, 1 slices, 11 decisions\nframe 1: again\nframes 2\n",
+                     note="93 Repeated 1")])
     first = ffv1.encode_frame(one(), [[[9]]], [3, 5, 4])
     file = avi(one(), [first, ffv1.encode_frame(one(), [[[9]]], [3, 5, 3])])
     yield Case("another aspect is checked", {"in": file}, [Step(["check", "in"], ANY)])
@@ -140,10 +143,10 @@ def all_frames():
              "frame 3: fault 35 Footer\nframes 4 faults 3\n")
     yield Case("the first of several faults", {"in": file}, [
         Step(["check", "--all", "in"], lines, "35 Footer"), Step(["check", "in"], "", "35 Footer")])
-    file = avi(one(), [bytes(3), FRAME, b""])
+    file = avi(one(), [bytes(3), FRAME, FRAME])[:-2]
     lines = "frame 0: fault 30 NotKey\n" + line.format(1)
     yield Case("a fault of the file after one of a frame", {"in": file},
-               [Step(["check", "--all", "in"], lines, "54 EmptyFrame")])
+               [Step(["check", "--all", "in"], lines, "52 Truncated")])
     yield Case("all of a file without frames", {"in": avi(one(), [])},
                [Step(["check", "--all", "in"], "", "70 NoFrames")])
 

@@ -144,8 +144,6 @@ OF_STREAMS = [
 ]
 CLOSED = [
     ("both names of frames", riff(header(), chunk_list(b"movi", GOOD, BITMAP)), whole(2), ""),
-    ("an empty 00db", riff(header(), chunk_list(b"movi", GOOD, chunk(b"00db", b""))), lines(1),
-     "54 EmptyFrame"),
     ("frames of a stream that is not there", riff(header(), chunk_list(b"movi", GOOD, FRAME_OF_1)),
      lines(1), "50 NotAvi"),
     ("sound of the stream", riff(header(), chunk_list(b"movi", GOOD, chunk(b"00wb", b"a"))),

@@ -14,13 +14,13 @@ FOOTER = "35 Footer"
 SAID = "W1 H1 F0:0 I? A0:0 Cmono"
 
 
-def salvaged(name, file, lines, left, fault=""):
+def salvaged(name, file, lines, left, fault="", note=""):
     """A file of which all is unpacked; what is printed and what OUT has is the same where OUT is
     standard output, but for the streams."""
-    yield Case(f"salvaged: {name}", {"in": file}, [Step(WORDS, lines, fault)],
+    yield Case(f"salvaged: {name}", {"in": file}, [Step(WORDS, lines, fault, note=note)],
                {"in": file, "out": left})
     if left and fault:
-        said = lines + f"ffv1: {fault}\n"
+        said = lines + (f"ffv1: note {note}\n" if note else "") + f"ffv1: {fault}\n"
         yield Case(f"salvaged to standard output: {name}", {"in": file},
                    [Step(["unpack", "--all", "in", "-"], None, status=1, errors=said)], {"in": file})
 
@@ -42,8 +42,9 @@ def pictures():
         yield from salvaged(name, avi(one(), frames, 0, 0), lines,
                             y4m(SAID, *left) if left else b"", fault)
     yield from salvaged("there is none", avi(one(), []), "", b"", "70 NoFrames")
-    yield from salvaged("an empty chunk ends it", avi(one(), [FRAME, b"", WHITE], 0, 0), "",
-                        y4m(SAID, b"\0"), "54 EmptyFrame")
+    yield from salvaged("an empty chunk", avi(one(), [b"", FRAME, b"", BAD, b"", WHITE], 0, 0),
+                        f"frame 3: fault {FOOTER}\nframes 6\n",
+                        y4m(SAID, b"\0", b"\0", b"\0", b"\0", b"\xff"), FOOTER, "93 Repeated 3")
     yield from salvaged("chroma without a name", avi(one(chroma=True, log2_v=1), []), "", b"",
                         "72 NoY4mName")
 

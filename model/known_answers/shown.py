@@ -131,7 +131,6 @@ COSTS = [
     ("of a sample 255", ["FE18000002"], "cost frame 0: ones 11 zeros 2 renormalisations 1\n", ""),
     ("of no frames", [], "", ""),
     ("up to a frame that is damaged", ["FE7B000002", "000000", "FE7B000002"], FIRST, "30 NotKey"),
-    ("up to an empty frame", ["FE7B000002", ""], FIRST, "54 EmptyFrame"),
     ("of two frames", ["FE7B000002"] * 2, FIRST + FIRST.replace("0", "1", 1), ""),
 ]
 

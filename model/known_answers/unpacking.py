@@ -47,8 +47,6 @@ def later_pictures():
     frames = [FRAME, bytes.fromhex("FE18000002")]
     yield unpacked("a frame that is damaged", avi(one(), [*frames, b"\1", FRAME], 0, 0), text,
                    "35 Footer")
-    yield unpacked("a frame that is empty", avi(one(), [*frames, b"", FRAME], 0, 0), text,
-                   "54 EmptyFrame")
     first = ffv1.encode_frame(one(), [[[9]]], [3, 5, 4])
     for name, info in [("structure", [0, 5, 4]), ("aspect", [3, 5, 3])]:
         file = avi(one(), [first, first, ffv1.encode_frame(one(), [[[9]]], info)])

@@ -1,4 +1,4 @@
--- What a reader tells of bytes behind the last RIFF is so.
+-- What a reader tells of bytes after the last RIFF is so.
 use Rattle.std.proofs.Common.{◌≡◌, ◌<◌, ℕ, List, [], Option, Some, None, length, ap, subst, sym, ◌∙◌, arith, length-append}
 use Rattle.ffv1_wire.specs.Passage.{Passage}
 use Rattle.ffv1_avi.specs.declared.place.Extent.{Extent}

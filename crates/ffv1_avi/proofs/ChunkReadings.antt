@@ -25,7 +25,7 @@ use Rattle.ffv1_avi.specs.Padding.{content, padded}
 use Rattle.ffv1_avi.specs.Places.{frame_at}
 use Rattle.ffv1_avi.specs.Walk.{entry_in, entry_judged, is_name}
 use Rattle.ffv1_avi.specs.declared.place.Names.{Names}
-use Rattle.ffv1_avi.specs.Names.{bars, is_barred, most_bytes}
+use Rattle.ffv1_avi.specs.Names.{bars, is_barred, least_bytes, most_bytes}
 use Rattle.ffv1_avi.specs.Names.{is_frame}
 
 -- a header
@@ -74,9 +74,9 @@ visit_takes : (names : Names) (e : Entry) → Takes (Same e) (padded e.size) (vi
 unfolding visit_movi
 visit_takes names e =
     takes_if (is_barred names e.name) (refused fault.NotAvi) _ (λ _. takes_refused fault.NotAvi)
-    (λ _. takes_if (is_frame names e.name) (frame_judged (most_bytes names) e.size e.left) _
+    (λ _. takes_if (is_frame names e.name) (frame_judged (least_bytes names) (most_bytes names) e.size e.left) _
     (λ _. takes_if (nat_lt (most_bytes names) e.size) (refused fault.ChunkTooLong) _ (λ _. takes_refused fault.ChunkTooLong)
-    (λ _. takes_if (e.size == 0) (refused fault.EmptyFrame) _ (λ _. takes_refused fault.EmptyFrame) (λ _. takes_given _ refl refl)))
+    (λ _. takes_if (nat_lt e.size (least_bytes names)) (refused fault.EmptyFrame) _ (λ _. takes_refused fault.EmptyFrame) (λ _. takes_given _ refl refl)))
     (λ _. skipped_takes e))
 
 pub chunk_passed : (place : Place) (e : Entry) {a b c : Option (List ℕ)} → Read (entry_in (bars place.names) place.movi) a b (Some e) → Read (visit_movi place.names tt e) b c (tt, None) → ReadsCounted (chunk_taken place) a c (movi_left place e.left) (8 + (padded e.size + 0))

@@ -149,7 +149,7 @@ file_to {head = head} is before after rest parted =
     ∙ ap (λ z. read_on z (λ p. (frames_read p.1 >>= λ frames. given (p.0, frames)))) (file_opened is (chunks_text is.chunks ++ (sections_text is.sections ++ (riffs_text before ++ rest))))
     ∙ ap (λ z. read_on z (λ frames. given (head, frames))) (place_read most_input n (total is.extended) is.chunks is.sections before rest is.sections_are known.0 known.1 known.2)
 
--- a file and what stands behind it
+-- a file and what stands after it
 pub every_then : (file : List ℕ) (head : Head) (frames : List (List ℕ)) (rest : List ℕ) → RiffFileThen file head frames rest → file_read EveryRiff file ≡ Ok ((head, frames), rest)
 every_then file head frames rest h =
     let is = h.is in
@@ -176,7 +176,7 @@ every_only file head other frames others is also =
     let same = ok_is (one, []) (two, []) (sym (every_complete file head frames is) ∙ every_complete file other others also) in
     (ap (λ (z : (Head × List (List ℕ)) × List ℕ). z.0.0) same, ap (λ (z : (Head × List (List ℕ)) × List ℕ). z.0.1) same)
 
--- whatever stands behind it
+-- whatever stands after it
 pub then_only : (file : List ℕ) (head other : Head) (frames others : List (List ℕ)) (rest more : List ℕ) → RiffFileThen file head frames rest → RiffFileThen file other others more → (head ≡ other) × (frames ≡ others) × (rest ≡ more)
 then_only file head other frames others rest more is also =
     let one : Head × List (List ℕ) = (head, frames) in

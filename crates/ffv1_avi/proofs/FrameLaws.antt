@@ -1,10 +1,10 @@
 -- The frames of a movi.
-use Rattle.std.proofs.Common.{codes, ◌≡◌, ℕ, suc, zero, ◌+◌, ◌-◌, ◌%◌, ◌≤◌, ◌<◌, ◌==◌, nat_lt, Bool, true, false, Option, Some, None, Result, Ok, Err, List, [], ◌∷◌, ◌++◌, length, map, ap, ◌∙◌, sym, subst, arith, refl, append_assoc, append-nil, length-append}
-use Rattle.std.proofs.lemmas.Bool.{eqb-false, ltb-false, le-ltb, ne_eqb}
+use Rattle.std.proofs.Common.{codes, ◌≡◌, ℕ, suc, zero, ◌+◌, ◌-◌, ◌%◌, ◌≤◌, ◌<◌, nat_lt, Bool, true, false, Option, Some, None, Result, Ok, Err, List, [], ◌∷◌, ◌++◌, length, map, ap, ◌∙◌, sym, subst, arith, refl, append_assoc, append-nil, length-append}
+use Rattle.std.proofs.lemmas.Bool.{ltb-false, le-ltb}
 use Rattle.std.proofs.lemmas.Grind.{flat_map-append}
 use Rattle.byteorder.specs.Endian.{little_number}
 use Rattle.ffv1_avi.specs.declared.chunk.Entry.{Entry}
-use Rattle.ffv1_avi.specs.Chunks.{AreChunks, AreFrames, AreSized, Chunk, IsChunk, chunk_text, chunks_text, those}
+use Rattle.ffv1_avi.specs.Chunks.{AreChunks, AreFrames, AreWithin, Chunk, IsChunk, chunk_text, chunks_text, those}
 use Rattle.ffv1_avi.specs.declared.place.Extent.{Extent}
 use Rattle.ffv1_avi.specs.declared.place.Extent.TheVariants.{FirstMovi, EveryRiff}
 use Rattle.ffv1_avi.specs.declared.place.Place.{Place}
@@ -23,7 +23,7 @@ use Rattle.ffv1_reads.proofs.Results.{ok_is, some_is}
 use Rattle.ffv1_avi.proofs.ChunkByChunk.{walk_step_in}
 use Rattle.ffv1_avi.specs.declared.place.Names.{Names}
 use Rattle.ffv1_reads.specs.Head.{limit}
-use Rattle.ffv1_avi.specs.Names.{bars, is_barred, most_bytes}
+use Rattle.ffv1_avi.specs.Names.{bars, is_barred, least_bytes, most_bytes}
 use Rattle.ffv1_avi.specs.Names.{is_frame}
 use Rattle.ffv1_avi.specs.Chunks.{barred_in}
 use Rattle.ffv1_avi.specs.Chunks.{frame_in}
@@ -41,9 +41,9 @@ no_some x e = absurd (cc)
 
 movi_sound : (names : Names) → Sound (visit_movi names) (TakesMovi names)
 unfolding visit_movi
-movi_sound names s e text t rest listed h = on_names (is_barred names e.name) (is_frame names e.name) (nat_lt (most_bytes names) e.size) (e.size == 0) refl refl refl refl h
+movi_sound names s e text t rest listed h = on_names (is_barred names e.name) (is_frame names e.name) (nat_lt (most_bytes names) e.size) (nat_lt e.size (least_bytes names)) refl refl refl refl h
   where
-    on_names : (a b c d : Bool) → is_barred names e.name ≡ a → is_frame names e.name ≡ b → nat_lt (most_bytes names) e.size ≡ c → (e.size == 0) ≡ d → visit_movi names s e text ≡ Ok ((t, None), rest) → IsPassed (TakesMovi names) s e t text rest
+    on_names : (a b c d : Bool) → is_barred names e.name ≡ a → is_frame names e.name ≡ b → nat_lt (most_bytes names) e.size ≡ c → nat_lt e.size (least_bytes names) ≡ d → visit_movi names s e text ≡ Ok ((t, None), rest) → IsPassed (TakesMovi names) s e t text rest
     on_names true b c d p q r z h = absurd (cc (rw p at h))
     on_names false true true d p q r z h = absurd (cc (rw (p, q, r) at h))
     on_names false true false true p q r z h = absurd (cc (rw (p, q, r, z) at h))
@@ -73,16 +73,16 @@ pub record IsFrame (names : Names) (e : Entry) (text : List ℕ) (y : ℕ × ℕ
   pub none_barred : is_barred names e.name ≡ false
   pub named : is_frame names e.name ≡ true
   pub short : e.size ≤ most_bytes names
-  pub some : 0 < e.size
+  pub some : least_bytes names ≤ e.size
   pub size : y.0 ≡ e.size
   pub left : y.1 ≡ e.left
   pub behind : text ≡ rest
 
 movi_stop : (names : Names) (s : Unit {0}) (e : Entry) (text : List ℕ) (t : Unit {0}) (y : ℕ × ℕ) (rest : List ℕ) → visit_movi names s e text ≡ Ok ((t, Some y), rest) → IsFrame names e text y rest
 unfolding visit_movi
-movi_stop names s e text t y rest h = on_names (is_barred names e.name) (is_frame names e.name) (nat_lt (most_bytes names) e.size) (e.size == 0) refl refl refl refl h
+movi_stop names s e text t y rest h = on_names (is_barred names e.name) (is_frame names e.name) (nat_lt (most_bytes names) e.size) (nat_lt e.size (least_bytes names)) refl refl refl refl h
   where
-    on_names : (a b c d : Bool) → is_barred names e.name ≡ a → is_frame names e.name ≡ b → nat_lt (most_bytes names) e.size ≡ c → (e.size == 0) ≡ d → visit_movi names s e text ≡ Ok ((t, Some y), rest) → IsFrame names e text y rest
+    on_names : (a b c d : Bool) → is_barred names e.name ≡ a → is_frame names e.name ≡ b → nat_lt (most_bytes names) e.size ≡ c → nat_lt e.size (least_bytes names) ≡ d → visit_movi names s e text ≡ Ok ((t, Some y), rest) → IsFrame names e text y rest
     on_names true b c d p q r z h = absurd (cc (rw p at h))
     on_names false true true d p q r z h = absurd (cc (rw (p, q, r) at h))
     on_names false true false true p q r z h = absurd (cc (rw (p, q, r, z) at h))
@@ -90,7 +90,7 @@ movi_stop names s e text t y rest h = on_names (is_barred names e.name) (is_fram
         let x : ℕ × ℕ = (e.size, e.left) in
         let found = ok_is ((tt, Some x), text) ((t, Some y), rest) (rw (p, q, r, z) at h) in
         let same : x ≡ y = some_is x y (ap (λ (m : M). m.0.1) found) in
-        let some : 0 < e.size = omega (arith, eqb-false e.size 0 z) in
+        let some : least_bytes names ≤ e.size = ltb-false _ _ z in
         record { none_barred = p; named = q; short = ltb-false _ _ r; some = some; size = ap (λ (n : ℕ × ℕ). n.0) (sym same); left = ap (λ (n : ℕ × ℕ). n.1) (sym same); behind = ap (λ (m : M). m.1) found }
     on_names false false c d p q r z h =
         let first = read_on_ok (passed (padded e.size) text) (λ _. given (tt, None)) ((t, Some y), rest) (rw (p, q) at h) in
@@ -117,7 +117,7 @@ pub record IsNext (names : Names) (left : ℕ) (text bytes : List ℕ) (after : 
   pub none_barred : barred_in names frame ≡ false
   pub named : frame_in names frame ≡ true
   pub short : length bytes ≤ most_bytes names
-  pub some : 0 < length bytes
+  pub some : least_bytes names ≤ length bytes
 
 abbrev pub movi_frame : Option (ℕ × ℕ) → Reading (Option (List ℕ × ℕ))
 movi_frame None = given None
@@ -191,7 +191,7 @@ none_framed names cs each run =
     let none = no_frames names cs run in
     record { each = each; none_barred = none.0; those_of = ap (map (λ (c : Chunk). c.bytes)) none.1; sized = tt }
 
-frames_more : (names : Names) (before behind : List Chunk) (c : Chunk) (frames : List (List ℕ)) → AreChunks before → Run (TakesMovi names) tt before tt → IsChunk c → barred_in names c ≡ false → frame_in names c ≡ true → length c.bytes ≤ most_bytes names → 0 < length c.bytes →
+frames_more : (names : Names) (before behind : List Chunk) (c : Chunk) (frames : List (List ℕ)) → AreChunks before → Run (TakesMovi names) tt before tt → IsChunk c → barred_in names c ≡ false → frame_in names c ≡ true → length c.bytes ≤ most_bytes names → least_bytes names ≤ length c.bytes →
     AreFrames names behind frames → AreFrames names (before ++ c ∷ behind) (c.bytes ∷ frames)
 frames_more names before behind c frames each run is list named short some more =
     let none = no_frames names before run in
@@ -291,7 +291,7 @@ part_more place text bytes left more frames rest next part =
     let whole : text ≡ chunks_text chunks ++ part.more = next.text_is ∙ ap (λ z. chunks_text next.chunks ++ (chunk_text c ++ z)) part.text_is ∙ regrouped (chunks_text next.chunks) (chunk_text c) (chunks_text part.chunks) part.more ∙ ap (λ z. z ++ part.more) (sym apart) in
     let long : length (chunks_text chunks) ≡ place.movi = ap length apart ∙ length-append (chunks_text next.chunks) (chunk_text c ++ chunks_text part.chunks) ∙ (omega (arith, next.long, part.long, length-append (chunk_text c) (chunks_text part.chunks))) in
     let short : length c.bytes ≤ most_bytes place.names = rw next.bytes_are next.short in
-    let some : 0 < length c.bytes = rw next.bytes_are next.some in
+    let some : least_bytes place.names ≤ length c.bytes = rw next.bytes_are next.some in
     let framed = frames_more place.names next.chunks part.chunks c part.here next.each next.run next.is next.none_barred next.named short some part.framed in
     let Q : List ℕ → Type 0 = λ b. AreFrames place.names chunks (b ∷ part.here) in
     let owes : place.owed - 1 - length part.here ≡ place.owed - suc (length part.here) = omega arith in
@@ -358,7 +358,7 @@ movi_passed names c more rest is list named =
     ap (λ z. read_on z (λ p. given p.1)) alone
 
 -- a frame is read
-pub movi_there : (names : Names) (c : Chunk) (more : ℕ) (rest : List ℕ) → IsChunk c → barred_in names c ≡ false → frame_in names c ≡ true → length c.bytes ≤ most_bytes names → 0 < length c.bytes → movi_read names (length (chunk_text c) + more) (chunk_text c ++ rest) ≡ Ok (Some (c.bytes, more), rest)
+pub movi_there : (names : Names) (c : Chunk) (more : ℕ) (rest : List ℕ) → IsChunk c → barred_in names c ≡ false → frame_in names c ≡ true → length c.bytes ≤ most_bytes names → least_bytes names ≤ length c.bytes → movi_read names (length (chunk_text c) + more) (chunk_text c ++ rest) ≡ Ok (Some (c.bytes, more), rest)
 unfolding movi_found visit_movi
 movi_there names c more rest is list named short some =
     let left = length (chunk_text c) + more in
@@ -371,7 +371,7 @@ movi_there names c more rest is list named short some =
     let entry : entry_in (bars names) left (chunk_text c ++ rest) ≡ Ok (Some e, (c.bytes ++ c.padding) ++ rest) =
     ap (entry_in (bars names) left) whole ∙ entry_complete_in (bars names) left c.name c.size ((c.bytes ++ c.padding) ++ rest) (stands_in names c.name list) is.named is.sized (rw (← counted) (omega (arith, total))) (λ l. rw is.counted (is.listed l)) in
     let fits : nat_lt (most_bytes names) size ≡ false = le-ltb _ _ (rw is.counted short) in
-    let not_none : (size == 0) ≡ false = ne_eqb _ _ (λ z. omega (arith, some, is.counted, z)) in
+    let not_none : nat_lt size (least_bytes names) ≡ false = le-ltb _ _ (rw is.counted some) in
     let stop : visit_movi names tt e ((c.bytes ++ c.padding) ++ rest) ≡ Ok ((tt, Some (size, e.left)), (c.bytes ++ c.padding) ++ rest) = rw (list, named, fits, not_none) refl in
     let read : content Kept size ((c.bytes ++ c.padding) ++ rest) ≡ Ok (c.bytes, rest) = content_complete Kept size c.bytes c.padding rest counted (rw is.counted is.padded) in
     ap (λ z. read_on (read_on z (λ p. given p.1)) movi_frame) (walk_step_in (bars names) (visit_movi names) left tt (chunk_text c ++ rest))
@@ -397,7 +397,7 @@ abbrev pub bytes_of : List Chunk → List (List ℕ)
 bytes_of cs = map (λ (c : Chunk). c.bytes) cs
 
 -- the frames of chunks are read, and then those after them
-pub movi_frames : (place : Place) (cs : List Chunk) (owed : ℕ) (rest : List ℕ) → AreChunks cs → those (barred_in place.names) cs ≡ [] → AreSized (most_bytes place.names) (bytes_of (those (frame_in place.names) cs)) →
+pub movi_frames : (place : Place) (cs : List Chunk) (owed : ℕ) (rest : List ℕ) → AreChunks cs → those (barred_in place.names) cs ≡ [] → AreWithin (least_bytes place.names) (most_bytes place.names) (bytes_of (those (frame_in place.names) cs)) →
     frames_read (placed place (length (chunks_text cs)) owed) (chunks_text cs ++ rest)
     ≡ read_on (frames_after (placed place 0 (owed - length (bytes_of (those (frame_in place.names) cs)))) rest) (λ frames. given (bytes_of (those (frame_in place.names) cs) ++ frames))
 movi_frames place [] owed rest each none_barred sized =
@@ -424,7 +424,7 @@ movi_frames place (c ∷ cs) owed rest each none_barred sized =
     Later o xs = read_on (frames_after (placed place 0 (o - length (these xs))) rest) (λ frames. given (these xs ++ frames))
 
     Again : Type 0
-    Again = (o : ℕ) → those (barred_in place.names) cs ≡ [] → AreSized (most_bytes place.names) (these cs) → frames_read (placed place more o) behind ≡ Later o cs
+    Again = (o : ℕ) → those (barred_in place.names) cs ≡ [] → AreWithin (least_bytes place.names) (most_bytes place.names) (these cs) → frames_read (placed place more o) behind ≡ Later o cs
 
     whole : frames_read (placed place (length (chunks_text (c ∷ cs))) owed) (chunks_text (c ∷ cs) ++ rest) ≡ frames_read (placed place (length (chunk_text c) + more) owed) (chunk_text c ++ behind)
     whole = ap (λ n. frames_read (placed place n owed) (chunks_text (c ∷ cs) ++ rest)) (length-append (chunk_text c) (chunks_text cs)) ∙ ap (frames_read (placed place (length (chunk_text c) + more) owed)) (append_assoc (chunk_text c) (chunks_text cs) rest)
@@ -479,7 +479,7 @@ frames_sound left text w h =
 
 pub frames_complete : (chunks : List Chunk) (frames : List (List ℕ)) (rest : List ℕ) → AreFrames Any chunks frames → frames_read (in_movi (length (chunks_text chunks))) (chunks_text chunks ++ rest) ≡ Ok (frames, rest)
 frames_complete chunks frames rest are =
-    let P : List (List ℕ) → Type 0 = λ z. AreSized limit z in
+    let P : List (List ℕ) → Type 0 = λ z. AreWithin 1 limit z in
     let here = bytes_of (those (frame_in Any) chunks) in
     let end : (frames_after (placed (in_movi 0) 0 (0 - length here))) rest ≡ Ok ([], rest) = ap (λ z. read_on z frames_on) (moved_first (placed (in_movi 0) 0 (0 - length here)) refl rest) in
     movi_frames (in_movi 0) chunks 0 rest are.each are.none_barred (subst P (sym are.those_of) are.sized)

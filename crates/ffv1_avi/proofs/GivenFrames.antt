@@ -1,10 +1,10 @@
 -- The frames of a file of every RIFF are given one by one, before what is after its last RIFF is refused.
 use Rattle.std.proofs.Common.{◌≡◌, ℕ, ◌+◌, ◌-◌, ◌<◌, Bool, true, false, Err, List, [], ◌∷◌, ◌++◌, length, codes, ap, ◌∙◌, sym, subst, arith, refl, append_assoc, append-nil, length-append}
 use Rattle.byteorder.specs.Endian.{little_number}
-use Rattle.ffv1_avi.specs.Names.{most_bytes}
+use Rattle.ffv1_avi.specs.Names.{least_bytes, most_bytes}
 use Rattle.ffv1_avi.specs.declared.place.Extent.TheVariants.{EveryRiff}
 use Rattle.ffv1_avi.specs.declared.place.Place.{Place}
-use Rattle.ffv1_avi.specs.Chunks.{AreSized, Chunk, IsChunk, chunk_text, chunks_text, is_list}
+use Rattle.ffv1_avi.specs.Chunks.{AreWithin, Chunk, IsChunk, chunk_text, chunks_text, is_list}
 use Rattle.ffv1_avi.specs.Edges.{FramesThen, GivesThen, frames_to}
 use Rattle.ffv1_avi.specs.Files.{file_read, found_read, frame_found, frame_read, frames_read, more_frames, movi_or_riff, movi_sought, open_read, riff_begun, sought_on}
 use Rattle.ffv1_reads.specs.Head.{Head}
@@ -80,7 +80,7 @@ movi_then input names riff owed (c ∷ cs) rest frames why framed h =
         subst Q (sym none) (counted (fs ++ frames) (then_same here (placed place more owed) (chunk_text c ++ behind) behind (fs ++ frames) why (ap (λ z. read_on z found_read) (frames_passed here c more behind framed.each.0 p q)) later))
     on_names false true p q k again =
         let one : frames_in names (c ∷ cs) ≡ c.bytes ∷ fs = rw q refl in
-        let sizes : AreSized (most_bytes names) (c.bytes ∷ []) = rw q at apart.0.sized in
+        let sizes : AreWithin (least_bytes names) (most_bytes names) (c.bytes ∷ []) = rw q at apart.0.sized in
         let P : List (List ℕ) → Type 0 = λ z. FramesThen (in_riff input names riff (owed - length z)) rest frames why in
         let owes : owed - length (c.bytes ∷ fs) ≡ owed - 1 - length fs = omega arith in
         let R : ℕ → Type 0 = λ n. FramesThen (in_riff input names riff n) rest frames why in

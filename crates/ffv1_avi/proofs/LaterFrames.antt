@@ -1,10 +1,10 @@
 -- The frames after a movi: those of the other movis of its RIFF, and of further RIFFs.
 use Rattle.std.proofs.Common.{◌≡◌, ℕ, ◌+◌, ◌-◌, ◌≤◌, ◌<◌, false, Option, Some, None, Result, Ok, Err, List, [], ◌∷◌, ◌++◌, length, codes, map, ap, ◌∙◌, sym, subst, arith, refl, append_assoc, append-nil, length-append}
 use Rattle.byteorder.specs.Endian.{little_number}
-use Rattle.ffv1_avi.specs.Names.{most_bytes}
+use Rattle.ffv1_avi.specs.Names.{least_bytes, most_bytes}
 use Rattle.ffv1_avi.specs.declared.chunk.Entry.{Entry}
 use Rattle.ffv1_avi.specs.declared.place.Place.{Place}
-use Rattle.ffv1_avi.specs.Chunks.{AreChunks, AreFrames, AreSized, Chunk, IsChunk, chunk_text, chunks_text, is_list, those}
+use Rattle.ffv1_avi.specs.Chunks.{AreChunks, AreFrames, AreWithin, Chunk, IsChunk, chunk_text, chunks_text, is_list, those}
 use Rattle.ffv1_avi.specs.Behind.{begins_another, looked_past}
 use Rattle.ffv1_avi.specs.Edges.{bytes_framed}
 use Rattle.ffv1_avi.specs.Files.{frames_read, movi_or_riff, movi_sought, riff_begun, riff_list, visit_riff}
@@ -53,9 +53,9 @@ chunks_apart : (xs ys : List Chunk) → AreChunks (xs ++ ys) → AreChunks xs ×
 chunks_apart [] ys h = (tt, h)
 chunks_apart (x ∷ xs) ys h = let more = chunks_apart xs ys h.1 in ((h.0, more.0), more.1)
 
-sized_apart : (most : ℕ) (fs gs : List (List ℕ)) → AreSized most (fs ++ gs) → AreSized most fs × AreSized most gs
-sized_apart most [] gs h = (tt, h)
-sized_apart most (f ∷ fs) gs h = let more = sized_apart most fs gs h.2 in ((h.0, h.1, more.0), more.1)
+sized_apart : (least most : ℕ) (fs gs : List (List ℕ)) → AreWithin least most (fs ++ gs) → AreWithin least most fs × AreWithin least most gs
+sized_apart least most [] gs h = (tt, h)
+sized_apart least most (f ∷ fs) gs h = let more = sized_apart least most fs gs h.2 in ((h.0, h.1, more.0), more.1)
 
 none_apart : (xs ys : List Chunk) → xs ++ ys ≡ [] → (xs ≡ []) × (ys ≡ [])
 none_apart [] ys h = (refl, h)
@@ -68,7 +68,7 @@ pub framed_apart : (names : Names) (xs ys : List Chunk) → Framed names (xs ++ 
 framed_apart names xs ys h =
     let each = chunks_apart xs ys h.each in
     let lists = none_apart (those (barred_in names) xs) (those (barred_in names) ys) (sym (those_both (barred_in names) xs ys) ∙ h.none_barred) in
-    let sized = sized_apart (most_bytes names) (frames_in names xs) (frames_in names ys) (subst (AreSized (most_bytes names)) (frames_both names xs ys) h.sized) in
+    let sized = sized_apart (least_bytes names) (most_bytes names) (frames_in names xs) (frames_in names ys) (subst (AreWithin (least_bytes names) (most_bytes names)) (frames_both names xs ys) h.sized) in
     (record { each = each.0; none_barred = lists.0; those_of = refl; sized = sized.0 }, record { each = each.1; none_barred = lists.1; those_of = refl; sized = sized.1 })
 
 -- a chunk of RIFF that is no movi and no frame is passed

@@ -6,7 +6,7 @@ mod TakenBytes
 mod BegunRiffs
 mod Moves
 mod FirstFrames
-mod FrameTurns
+pub mod FrameTurns
 pub mod ListWalks
 mod ListedNames
 pub mod PassedBytes
@@ -39,6 +39,7 @@ pub mod LongLaws
 pub mod RiffRefusals
 pub mod LongMovis
 pub mod GivenFrames
+pub mod EmptyFrames
 mod ReadingFaults
 mod ChunkReadings
 mod RiffReadings

@@ -14,7 +14,7 @@ use Rattle.ffv1_avi.proofs.ListWalks.{entry_sound}
 use Rattle.ffv1_reads.proofs.Results.{read_on_ok}
 use Rattle.ffv1_reads.proofs.Results.{ok_is, some_is}
 use Rattle.ffv1_avi.specs.declared.place.Names.{Names}
-use Rattle.ffv1_avi.specs.Names.{bars, is_barred, most_bytes}
+use Rattle.ffv1_avi.specs.Names.{bars, is_barred, least_bytes, most_bytes}
 use Rattle.ffv1_avi.specs.Names.{is_frame}
 
 no_some : {X : Type 0} (x : X) → ◌≡◌ {A = Option X} (Some x) None → ⊥
@@ -146,12 +146,12 @@ moved_less place next text rest h = on_input (place.input == 0) refl
 -- the frame at which the walk of a movi stops
 movi_stop_at : (names : Names) (s : Unit {0}) (e : Entry) (text : List ℕ) (t : Unit {0}) (y : ℕ × ℕ) (rest : List ℕ) → visit_movi names s e text ≡ Ok ((t, Some y), rest) → (y.0 ≡ e.size) × (y.1 ≡ e.left)
 unfolding visit_movi
-movi_stop_at names s e text t y rest h = on_names (is_barred names e.name) (is_frame names e.name) (nat_lt (most_bytes names) e.size) (e.size == 0) refl refl refl refl h
+movi_stop_at names s e text t y rest h = on_names (is_barred names e.name) (is_frame names e.name) (nat_lt (most_bytes names) e.size) (nat_lt e.size (least_bytes names)) refl refl refl refl h
   where
     Z : Type 0
     Z = (Unit {0} × Option (ℕ × ℕ)) × List ℕ
 
-    on_names : (a b c d : Bool) → is_barred names e.name ≡ a → is_frame names e.name ≡ b → nat_lt (most_bytes names) e.size ≡ c → (e.size == 0) ≡ d → visit_movi names s e text ≡ Ok ((t, Some y), rest) → (y.0 ≡ e.size) × (y.1 ≡ e.left)
+    on_names : (a b c d : Bool) → is_barred names e.name ≡ a → is_frame names e.name ≡ b → nat_lt (most_bytes names) e.size ≡ c → nat_lt e.size (least_bytes names) ≡ d → visit_movi names s e text ≡ Ok ((t, Some y), rest) → (y.0 ≡ e.size) × (y.1 ≡ e.left)
     on_names true b c d p q r z h = absurd (cc (rw p at h))
     on_names false true true d p q r z h = absurd (cc (rw (p, q, r) at h))
     on_names false true false true p q r z h = absurd (cc (rw (p, q, r, z) at h))

@@ -11,7 +11,7 @@ use Rattle.ffv1_avi.specs.Files.{Headers, begins, list_visited, movi_reached, no
 use Rattle.ffv1_reads.specs.Head.{Head}
 use Rattle.ffv1_avi.specs.declared.place.Extent.{Extent}
 use Rattle.ffv1_avi.specs.declared.place.Place.{Place}
-use Rattle.ffv1_avi.specs.Names.{most_bytes, most_in}
+use Rattle.ffv1_avi.specs.Names.{least_bytes, least_in, most_bytes, most_in}
 use Rattle.ffv1_avi.specs.declared.place.Extent.TheVariants.{FirstMovi, EveryRiff}
 use Rattle.ffv1_avi.specs.Places.{first_place}
 use Rattle.ffv1_reads.specs.Reads.{Reading, read_on, refused, taken}
@@ -152,5 +152,14 @@ opened_most extent text w h =
     ap (λ (p : Place). most_bytes p.names) top.place ∙ by_extent extent top.left (little_number 4 top.movi_size - 4) (owed top.known.frames) top.known
   where
     by_extent : (x : Extent) (left size owed : ℕ) (k : Headers) → most_bytes (first_place x left size (Closed k.passed k.streams) owed).names ≡ most_in x
+    by_extent FirstMovi left size owed k = refl
+    by_extent EveryRiff left size owed k = refl
+
+pub opened_least : (extent : Extent) (text : List ℕ) (w : (Head × Place) × List ℕ) → open_read extent text ≡ Ok w → least_bytes w.0.1.names ≡ least_in extent
+opened_least extent text w h =
+    let top = (open_sound extent text w h).top in
+    ap (λ (p : Place). least_bytes p.names) top.place ∙ by_extent extent top.left (little_number 4 top.movi_size - 4) (owed top.known.frames) top.known
+  where
+    by_extent : (x : Extent) (left size owed : ℕ) (k : Headers) → least_bytes (first_place x left size (Closed k.passed k.streams) owed).names ≡ least_in x
     by_extent FirstMovi left size owed k = refl
     by_extent EveryRiff left size owed k = refl

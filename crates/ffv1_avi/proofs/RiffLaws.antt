@@ -6,9 +6,9 @@ use Rattle.byteorder.specs.Endian.{little_number}
 use Rattle.ffv1_avi.specs.declared.chunk.Entry.{Entry}
 use Rattle.ffv1_avi.specs.declared.place.Names.{Names}
 use Rattle.ffv1_avi.specs.declared.place.Names.TheVariants.{Any, Closed}
-use Rattle.ffv1_avi.specs.Names.{bitmap_name, frame_name, is_frame, is_stream_frame, most_bytes}
+use Rattle.ffv1_avi.specs.Names.{bitmap_name, frame_name, is_frame, is_stream_frame, least_bytes, most_bytes}
 use Rattle.ffv1_avi.specs.declared.place.Place.{Place}
-use Rattle.ffv1_avi.specs.Chunks.{AreChunks, AreFrames, AreSized, Chunk, chunk_text, chunks_text, those}
+use Rattle.ffv1_avi.specs.Chunks.{AreChunks, AreFrames, AreWithin, Chunk, chunk_text, chunks_text, those}
 use Rattle.ffv1_avi.specs.Behind.{begins_another, looked_past}
 use Rattle.ffv1_avi.specs.Files.{frames_read, moved, movi_or_riff, movi_sought, riff_list, visit_riff}
 use Rattle.ffv1_avi.specs.Places.{amount, movi_at, riff_at}
@@ -38,8 +38,8 @@ abbrev pub TakesRiff : Names → Taking (Unit {0})
 TakesRiff names s name bytes t = ((is_name name (codes "LIST") && is_name (take 4 bytes) (codes "movi")) ≡ false) × (is_frame names name ≡ false)
 
 -- a list is no frame, by its name
-list_no_frame : (names : Names) (name : List ℕ) → is_name name (codes "LIST") ≡ true → is_frame names name ≡ false
-unfolding is_frame is_stream_frame
+pub list_no_frame : (names : Names) (name : List ℕ) → is_name name (codes "LIST") ≡ true → is_frame names name ≡ false
+unfolding is_stream_frame
 list_no_frame Any name list = let named : name ≡ codes "LIST" = same_text name (codes "LIST") (sym list) in rw named refl
 list_no_frame (Closed stream streams) name list =
     let named : name ≡ codes "LIST" = same_text name (codes "LIST") (sym list) in
@@ -204,9 +204,9 @@ chunks_even (c ∷ cs) each =
     let both : length (chunks_text (c ∷ cs)) ≡ length (chunk_text c) + length (chunks_text cs) = length-append (chunk_text c) (chunks_text cs) in
     omega (arith, more, long, both)
 
-sized_both : (most : ℕ) (fs gs : List (List ℕ)) → AreSized most fs → AreSized most gs → AreSized most (fs ++ gs)
-sized_both most [] gs h k = k
-sized_both most (f ∷ fs) gs h k = (h.0, h.1, sized_both most fs gs h.2 k)
+sized_both : (least most : ℕ) (fs gs : List (List ℕ)) → AreWithin least most fs → AreWithin least most gs → AreWithin least most (fs ++ gs)
+sized_both least most [] gs h k = k
+sized_both least most (f ∷ fs) gs h k = (h.0, h.1, sized_both least most fs gs h.2 k)
 
 pub map_both : (xs ys : List Chunk) → map (λ (c : Chunk). c.bytes) (xs ++ ys) ≡ map (λ (c : Chunk). c.bytes) xs ++ map (λ (c : Chunk). c.bytes) ys
 map_both [] ys = refl
@@ -218,9 +218,9 @@ framed_both names xs ys fs gs h k =
     let lists : those (barred_in names) (xs ++ ys) ≡ [] = those_both (barred_in names) xs ys ∙ ap (λ z. z ++ those (barred_in names) ys) h.none_barred ∙ k.none_barred in
     let all : map (λ (c : Chunk). c.bytes) (those (frame_in names) (xs ++ ys)) ≡ fs ++ gs =
     ap (map (λ (c : Chunk). c.bytes)) (those_both (frame_in names) xs ys) ∙ map_both (those (frame_in names) xs) (those (frame_in names) ys) ∙ ap (λ z. z ++ map (λ (c : Chunk). c.bytes) (those (frame_in names) ys)) h.those_of ∙ ap (λ z. fs ++ z) k.those_of in
-    record { each = chunks_both xs ys h.each k.each; none_barred = lists; those_of = all; sized = sized_both (most_bytes names) fs gs h.sized k.sized }
+    record { each = chunks_both xs ys h.each k.each; none_barred = lists; those_of = all; sized = sized_both (least_bytes names) (most_bytes names) fs gs h.sized k.sized }
 
--- what RIFF has after a movi, the RIFFs after it, and what stands behind the last one
+-- what RIFF has after a movi, the RIFFs after it, and what stands after the last one
 pub record RiffRest (place : Place) (text : List ℕ) (frames : List (List ℕ)) (rest : List ℕ) : Type 0 where
   pub sections : List Section
   pub riffs : List Riff

@@ -6,10 +6,10 @@ use Rattle.std.proofs.lemmas.List.Sums.{sum_by-cons}
 use Rattle.byteorder.specs.Endian.{little_number}
 use Rattle.byteorder.specs.Numbers.{little_number-reads_back}
 use Rattle.ffv1_reads.specs.Bitmap.{number}
-use Rattle.ffv1_avi.specs.Chunks.{AreFrames, AreSized, AviFile, Chunk, IsChunk, IsPart, IsStream, IsWritable, Part, Says, chunk_text, chunks_text, part_chunk}
+use Rattle.ffv1_avi.specs.Chunks.{AreFrames, AreSized, AreWithin, AviFile, Chunk, IsChunk, IsPart, IsStream, IsWritable, Part, Says, chunk_text, chunks_text, part_chunk}
 use Rattle.ffv1_reads.specs.Reads.{Stop}
 use Rattle.ffv1_avi.specs.declared.place.Names.{Names}
-use Rattle.ffv1_avi.specs.Names.{is_barred, is_frame, most_bytes}
+use Rattle.ffv1_avi.specs.Names.{is_barred, is_frame, least_bytes, most_bytes}
 use Rattle.ffv1_avi.specs.declared.place.Names.TheVariants.{Any, Closed}
 use Rattle.ffv1_avi.specs.declared.place.Extent.{Extent}
 use Rattle.ffv1_avi.specs.declared.place.Extent.TheVariants.{FirstMovi, EveryRiff}
@@ -39,12 +39,20 @@ most_fits : (names : Names) → most_bytes names < 2 ^ 32
 most_fits Any = omega arith
 most_fits (Closed stream streams) = omega arith
 
+least_fits : (names : Names) → least_bytes names ≤ 1
+least_fits Any = omega arith
+least_fits (Closed stream streams) = omega arith
+
+sized_within : (least most : ℕ) → least ≤ 1 → (frames : List (List ℕ)) → AreSized most frames → AreWithin least most frames
+sized_within least most few [] sized = tt
+sized_within least most few (f ∷ fs) sized = (omega (arith, few, sized.0), sized.1, sized_within least most few fs sized.2)
+
 pub frames_are : (names : Names) → is_barred names (codes "00dc") ≡ false → is_frame names (codes "00dc") ≡ true → (frames : List (List ℕ)) → AreSized (most_bytes names) frames → AreFrames names (map frame_of frames) frames
 frames_are names stands named [] sized = record { each = tt; none_barred = refl; those_of = refl; sized = tt }
 frames_are names stands named (f ∷ fs) sized =
     let more = frames_are names stands named fs sized.2 in
     let fits : length f < 2 ^ 32 = omega (arith, sized.1, most_fits names) in
-    record { each = (frame_is f fits, more.each); none_barred = rw stands more.none_barred; those_of = rw named (ap (λ z. f ∷ z) more.those_of); sized = sized }
+    record { each = (frame_is f fits, more.each); none_barred = rw stands more.none_barred; those_of = rw named (ap (λ z. f ∷ z) more.those_of); sized = sized_within (least_bytes names) (most_bytes names) (least_fits names) (f ∷ fs) sized }
 
 pub frames_long : (most : ℕ) (frames : List (List ℕ)) → AreSized most frames → (4 + length (chunks_text (map frame_of frames)) ≡ movi_size frames) × (movi_size frames % 2 ≡ 0)
 frames_long most [] sized = (refl, refl)

@@ -1,4 +1,4 @@
--- What stands behind the last RIFF of a file: nothing, or bytes with which neither an RIFF nor
+-- What stands after the last RIFF of a file: nothing, or bytes with which neither an RIFF nor
 -- another file begins.
 use Rattle.std.specs.Prelude.{◌≡◌, ◌++◌, ◌<◌, ℕ, Bool, true, false, if◌then◌else◌, nat_le, List, []}
 use Rattle.std.specs.Prelude.{length, take, drop, codes, Option, Some, None, Result, Ok, Err}
@@ -28,7 +28,7 @@ begins_another bytes =
 abbrev pub looked_past : List ℕ → List ℕ
 looked_past bytes = if is_name (take 4 bytes) (codes "RIFF") then [] else drop 4 bytes
 
--- a file of every RIFF with this head and these frames, and behind it bytes with which neither an
+-- a file of every RIFF with this head and these frames, and after it bytes with which neither an
 -- RIFF nor another file begins, of which these were not looked at
 pub record RiffFileThen (file : List ℕ) (head : Head) (frames : List (List ℕ)) (rest : List ℕ)
     : Type 0 where
@@ -44,7 +44,7 @@ abbrev pub Stand : Option (List ℕ) → Option (List ℕ) → Bool → Type 0
 Stand old new false = Consumes old new [] × IsAtEnd new
 Stand old new true = (bytes : List ℕ) × (0 < length bytes) × Consumes old new bytes
 
--- the bytes of the file before others that stand behind its end, after so many; none if it is the
+-- the bytes of the file before others that stand after its end, after so many; none if it is the
 -- end of the input
 abbrev pub StandAfter : Option (List ℕ) → Option (List ℕ) → ℕ → Option ℕ → Type 0
 StandAfter old new end None = Stand old new false
@@ -64,7 +64,7 @@ pub record EndsBehind (from : Place) (old new : Option (List ℕ)) (before : ℕ
   pub over : ReadOrNone (riff_begun to) between new None
   pub told : StandAfter between new end after
 
--- what a reader tells of bytes behind the last RIFF after a call that came to the end: what was
+-- what a reader tells of bytes after the last RIFF after a call that came to the end: what was
 -- found there; nothing if the first movi alone is read, and nothing more if it had come to the end
 abbrev pub BehindEnd : Extent → Place → ℕ → Option ℕ → Passage → Option ℕ → Type 0
 BehindEnd FirstMovi from before was p after = was ≡ None → after ≡ None

@@ -7,7 +7,7 @@ use Rattle.ffv1_avi.specs.declared.place.Extent.{Extent}
 use Rattle.ffv1_avi.specs.declared.place.Extent.TheVariants.{FirstMovi, EveryRiff}
 use Rattle.ffv1_avi.specs.declared.place.Names.{Names}
 use Rattle.ffv1_avi.specs.declared.place.Names.TheVariants.{Any}
-use Rattle.ffv1_avi.specs.Names.{is_barred, is_frame, most_bytes, most_in}
+use Rattle.ffv1_avi.specs.Names.{is_barred, is_frame, least_bytes, most_bytes, most_in}
 use Rattle.ffv1_reads.specs.Colour.{unsaid}
 use Rattle.ffv1_reads.specs.Head.{Head, limit}
 use Rattle.ffv1_avi.specs.Padding.{padded}
@@ -155,6 +155,12 @@ abbrev pub AreSized : ℕ → List (List ℕ) → Type 0
 AreSized bound [] = Unit {0}
 AreSized bound (f ∷ fs) = (0 < length f) × (length f ≤ bound) × AreSized bound fs
 
+-- frames of at least so many bytes, and at most so many
+abbrev pub AreWithin : ℕ → ℕ → List (List ℕ) → Type 0
+AreWithin least bound [] = Unit {0}
+AreWithin least bound (f ∷ fs) =
+    (least ≤ length f) × (length f ≤ bound) × AreWithin least bound fs
+
 -- a chunk that may not stand in movi
 abbrev pub barred_in : Names → Chunk → Bool
 barred_in names c = is_barred names c.name
@@ -164,13 +170,13 @@ abbrev pub frame_in : Names → Chunk → Bool
 frame_in names c = is_frame names c.name
 
 -- the frames are those chunks of movi that are frames by their name, and it has none that may not
--- stand there
+-- stand there; if every RIFF is read, one of no bytes repeats the frame before it
 pub record AreFrames (names : Names) (chunks : List Chunk) (frames : List (List ℕ))
     : Type 0 where
   pub each : AreChunks chunks
   pub none_barred : those (barred_in names) chunks ≡ []
   pub those_of : map (λ (c : Chunk). c.bytes) (those (frame_in names) chunks) ≡ frames
-  pub sized : AreSized (most_bytes names) frames
+  pub sized : AreWithin (least_bytes names) (most_bytes names) frames
 
 -- a file with this head and these frames: RIFF with its parts and then the first movi, which fits
 -- in it; after the chunks of movi may stand whatever does

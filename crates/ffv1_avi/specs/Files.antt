@@ -13,7 +13,7 @@ use Rattle.ffv1_reads.specs.Behind.{begins_file}
 use Rattle.ffv1_reads.specs.Head.{Head}
 use Rattle.ffv1_avi.specs.Places.{amount, extent_of, first_place, frame_at, movi_at, riff_at}
 use Rattle.ffv1_reads.specs.Reads.{Kept, Reading, given, refused, taken, passed}
-use Rattle.ffv1_avi.specs.Names.{bars, is_barred, is_frame, most_bytes}
+use Rattle.ffv1_avi.specs.Names.{bars, is_barred, is_frame, least_bytes, most_bytes}
 use Rattle.ffv1_avi.specs.Padding.{padded, content}
 use Rattle.ffv1_reads.specs.Reads.{◌>>=◌}
 use Rattle.ffv1_avi.specs.Walk.{is_name, Visit, walk, walk_in}
@@ -165,17 +165,18 @@ open_read extent = taken 12 >>= λ bytes.
     else refused fault.NotAvi
 
 -- a frame's size is judged before its bytes are read
-abbrev pub frame_judged : ℕ → ℕ → ℕ → Reading (Unit {0} × Option (ℕ × ℕ))
-frame_judged most size left =
+abbrev pub frame_judged : ℕ → ℕ → ℕ → ℕ → Reading (Unit {0} × Option (ℕ × ℕ))
+frame_judged least most size left =
     if nat_lt most size then refused fault.ChunkTooLong
-    else if size == 0 then refused fault.EmptyFrame
+    else if nat_lt size least then refused fault.EmptyFrame
     else given (tt, Some (size, left))
 
 -- a chunk of movi: one that may not stand there is refused
 unfoldable pub visit_movi : Names → Visit (Unit {0}) (ℕ × ℕ)
 visit_movi names s e =
     if is_barred names e.name then refused fault.NotAvi
-    else if is_frame names e.name then frame_judged (most_bytes names) e.size e.left
+    else if is_frame names e.name
+    then frame_judged (least_bytes names) (most_bytes names) e.size e.left
     else skipped s e.size
 
 -- the size of the next frame, and what movi has left after it, if it has so many bytes left;

@@ -86,6 +86,16 @@ abbrev pub most_bytes : Names → ℕ
 most_bytes Any = most_in FirstMovi
 most_bytes (Closed stream streams) = most_in EveryRiff
 
+-- the fewest bytes of a frame: one if the first movi is read alone; if every RIFF is read, a chunk
+-- of none is a frame that repeats the one before it
+abbrev pub least_in : Extent → ℕ
+least_in FirstMovi = 1
+least_in EveryRiff = 0
+
+abbrev pub least_bytes : Names → ℕ
+least_bytes Any = least_in FirstMovi
+least_bytes (Closed stream streams) = least_in EveryRiff
+
 -- the same in words: the name of a frame of a stream
 abbrev pub IsFrameName : ℕ → List ℕ → Type 0
 IsFrameName stream name = (name ≡ frame_name stream) ⊎ (name ≡ bitmap_name stream)

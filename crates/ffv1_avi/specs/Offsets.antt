@@ -1,6 +1,6 @@
 -- Where in a file a fault is: in the chunk, of those one after the other, that could not be read.
 -- Of a list movi the chunk is its header and its own name, since its chunks come next; the same
--- holds of an RIFF. If a frame that `dmlh` says is not there, or another file stands behind the
+-- holds of an RIFF. If a frame that `dmlh` says is not there, or another file stands after the
 -- last RIFF, the fault is where the next RIFF would begin.
 use Rattle.std.specs.Prelude.{◌≡◌, ℕ, ◌+◌, ◌-◌, ◌^◌, ◌==◌, min, Bool, true, false, if◌then◌else◌}
 use Rattle.std.specs.Prelude.{List, drop, Option, Some, None, Result, Ok, Err}

@@ -1,5 +1,6 @@
 -- Where a reader stands.
-use Rattle.std.specs.Prelude.{◌≡◌, ℕ, ◌≤◌, Bool, true, false, List, [], take, Option, Some, None}
+use Rattle.std.specs.Prelude.{◌≡◌, ℕ, ◌≤◌, ◌+◌, ◌-◌, ◌^◌, ◌==◌, if◌then◌else◌, min, Bool, true}
+use Rattle.std.specs.Prelude.{false, List, [], length, take, Option, Some, None}
 use Rattle.std.specs.Prelude.{Result, Ok, Err, ⊤, ◌⊎◌}
 use Rattle.ffv1_reads.specs.declared.fault.FileFault.{FileFault}
 use Rattle.ffv1_reads.specs.declared.fault.FileFault.TheVariants as fault
@@ -10,8 +11,8 @@ use Rattle.ffv1_avi.specs.declared.place.Extent.TheVariants.{FirstMovi, EveryRif
 use Rattle.ffv1_avi.specs.declared.place.Place.{Place}
 
 -- the head of its file, the place in that, the fault that it has met, for how many bytes its record
--- has room, the bytes before that place, and after the end the bytes before others that stand
--- behind the last RIFF
+-- has room, the bytes before that place, after the end the bytes before others that stand after
+-- the last RIFF, and how many frames so far had no bytes
 pub record Standing : Type 0 where
   pub head : Head
   pub place : Place
@@ -19,6 +20,18 @@ pub record Standing : Type 0 where
   pub room : ℕ
   pub offset : ℕ
   pub after : Option ℕ
+  pub repeated : ℕ
+
+-- how many frames had no bytes, after one more with these; it is held in 8 bytes
+abbrev pub with_repeated : List ℕ → ℕ → ℕ
+with_repeated bytes repeated =
+    if length bytes == 0 then min (repeated + 1) (2 ^ 64 - 1) else repeated
+
+-- after a call that answers so: one more if it gave a frame of none
+abbrev pub repeated_after : Result Bool FileFault → List ℕ → ℕ → ℕ
+repeated_after (Ok true) bytes repeated = with_repeated bytes repeated
+repeated_after (Ok false) bytes repeated = repeated
+repeated_after (Err f) bytes repeated = repeated
 
 abbrev pub opened_at : Standing → Head × Place
 opened_at r = (r.head, r.place)

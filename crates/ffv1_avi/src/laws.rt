@@ -3,7 +3,7 @@
 
 ghost use Rattle.std.specs.Prelude.{◌≡◌, ◌<◌, ◌≤◌, ◌+◌, ◌++◌, ℕ, List, codes, length, []};
 ghost use Rattle.std.specs.Prelude.{false, flat_map, take, true, Option, Some, None};
-ghost use Rattle.std.specs.Prelude.{Ok, Err};
+ghost use Rattle.std.specs.Prelude.{Ok, Err, ◌∷◌, ◌-◌};
 ghost use Rattle.byteorder.specs.Endian.{little_number};
 ghost use Rattle.ffv1_avi.specs.Chunks.{AreChunks, AreOthers, AviFile, Chunk, IsWritable};
 ghost use Rattle.ffv1_avi.specs.Chunks.{MoviBegins, Part, header_chunks, is_list};
@@ -19,7 +19,7 @@ ghost use Rattle.ffv1_reads.specs.Head.{Head, without_colour};
 ghost use Rattle.ffv1_avi.specs.Names.{IsFrameName, IsListed, bars, is_barred, is_frame};
 ghost use Rattle.ffv1_avi.specs.Offsets.{ReadsUpTo};
 ghost use Rattle.ffv1_avi.specs.Padding.{padded};
-ghost use Rattle.ffv1_avi.specs.Places.{ended, extent_of, first_place};
+ghost use Rattle.ffv1_avi.specs.Places.{ended, extent_of, first_place, frame_at};
 ghost use Rattle.ffv1_reads.specs.Reads.{EndsEarly, Faults, Lacks, Met, Read, Reading, Short, Want};
 ghost use Rattle.ffv1_reads.specs.Reads.{Looked, Stop, read_on};
 ghost use Rattle.ffv1_avi.specs.Counted.{AreCounted, ExtendedBegins, HasExtended};
@@ -47,7 +47,7 @@ pub fn what_is_read_is_a_file()
 {}
 
 /// If every RIFF is read and the frames come to an end, the input begins with a file of that head
-/// and those frames, and behind it stand bytes with which neither an RIFF nor another file begins,
+/// and those frames, and after it stand bytes with which neither an RIFF nor another file begins,
 /// or none. Each chunk of the stream's frames, in every movi of every RIFF, was given, in order.
 pub fn every_riff_is_read_whole()
     ensures { (file : List ℕ) (head : Head) (frames : List (List ℕ)) (rest : List ℕ) →
@@ -96,7 +96,7 @@ pub fn shorter_riffs_want_more_bytes()
         GivesThen (beginning ++ some) head (frames_to is before) (Short Looked) }
 {}
 
-/// Behind the last RIFF no other file may begin. All frames are given, one by one, and then the ID
+/// After the last RIFF no other file may begin. All frames are given, one by one, and then the ID
 /// of EBML is refused, and so is an RIFF of another form than `AVIX`, or one too small for it. If
 /// fewer frames came than `dmlh` says, any other four bytes are refused after them. A file that is
 /// so refused is not read as a whole file.
@@ -127,7 +127,7 @@ pub fn only_riffs_follow_riffs()
         GivesThen file head frames why → file_read EveryRiff file ≡ Err why }
 {}
 
-/// If a reader came to the end and tells no bytes behind the last RIFF, none stand there: whole
+/// If a reader came to the end and tells no bytes after the last RIFF, none stand there: whole
 /// chunks lead from where it stood to the end of the input, which is that of an RIFF.
 pub fn no_bytes_told_are_none()
     ensures none { (from : Place) (text : List ℕ) (new : Option (List ℕ)) (before : ℕ) →
@@ -238,7 +238,7 @@ pub fn long_chunk_in_riffs_is_truncated()
 {}
 
 /// A file of a head and frames, by its chunks, is read as that head and those frames, and it has no
-/// others. If every RIFF is read, nothing is left of it; it is read so also if bytes stand behind
+/// others. If every RIFF is read, nothing is left of it; it is read so also if bytes stand after
 /// it with which neither an RIFF nor another file begins.
 pub fn file_is_read_as_its_frames()
     ensures read { (file : List ℕ) (head : Head) (frames : List (List ℕ))
@@ -256,6 +256,16 @@ pub fn file_is_read_as_its_frames()
         (rest more : List ℕ) →
         RiffFileThen file head frames rest → RiffFileThen file other others more →
         (head ≡ other) × (frames ≡ others) × (rest ≡ more) }
+{}
+
+/// If every RIFF is read, an empty chunk of the stream's frames is a frame of no bytes, which
+/// repeats the one before it.
+pub fn empty_chunk_repeats_a_frame()
+    ensures { (place : Place) (stream streams : ℕ) (name rest : List ℕ) →
+        place.names ≡ Closed stream streams → length name ≡ 4 →
+        is_frame place.names name ≡ true → 8 ≤ place.movi →
+        frame_read place ((name ++ (0 ∷ 0 ∷ 0 ∷ 0 ∷ [])) ++ rest)
+        ≡ Ok (Some ([], frame_at place (place.movi - 8)), rest) }
 {}
 
 /// If every RIFF is read, a movi holds only what a name lists: a name of four bytes may stand there

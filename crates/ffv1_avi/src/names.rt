@@ -2,7 +2,7 @@
 
 ghost use Rattle.std.specs.Prelude.{◌≡◌, ◌+◌, ◌/◌, ◌%◌, ◌∷◌, []};
 ghost use Rattle.ffv1_avi.specs.Names.{are_digits, bars, bitmap_name, frame_name, is_barred};
-ghost use Rattle.ffv1_avi.specs.Names.{is_digit, most_bytes};
+ghost use Rattle.ffv1_avi.specs.Names.{is_digit, least_bytes, most_bytes};
 ghost use Rattle.ffv1_avi.specs.Names.{is_frame, is_index, is_of_other, is_stream_frame};
 ghost use Rattle.ffv1_avi.specs.Names.{palette_name, stands_beside};
 
@@ -88,6 +88,16 @@ pub(crate) fn most_bytes(names: Names) -> u32
     match names {
         Names::Any => LIMIT,
         Names::Closed(_, _) => FRAME_LIMIT,
+    }
+}
+
+/// The fewest bytes of a frame that are read.
+pub(crate) fn least_bytes(names: Names) -> u32
+    ensures { result ≡ least_bytes names }
+{
+    match names {
+        Names::Any => 1,
+        Names::Closed(_, _) => 0,
     }
 }
 

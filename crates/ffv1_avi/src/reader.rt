@@ -14,20 +14,20 @@ ghost use Rattle.ffv1_wire.specs.Passage.{passage};
 ghost use Rattle.ffv1_avi.specs.Internal.Ending.{AnswersOrNone};
 ghost use Rattle.ffv1_avi.specs.Offsets.{OffsetAfter};
 ghost use Rattle.ffv1_avi.specs.Internal.Offsets.{FindsFrom, FindsInMovi, MovesTo, TellsBehind};
-ghost use Rattle.ffv1_avi.specs.Names.{most_bytes, most_in};
+ghost use Rattle.ffv1_avi.specs.Names.{least_bytes, least_in, most_bytes, most_in};
 ghost use Rattle.ffv1_avi.specs.Offsets.{OffsetOpened};
 ghost use Rattle.ffv1_avi.specs.Places.{amount, ended, extent_of, frame_at};
 ghost use Rattle.ffv1_reads.specs.Reads.{Answers};
 ghost use Rattle.ffv1_reads.specs.Room.{HasRoom, RoomRead};
 ghost use Rattle.ffv1_avi.specs.Readers.{is_frame_fault, is_opening_fault};
 ghost use Rattle.ffv1_avi.specs.Readers.{Leaves, Standing, StandsAfter, frame_with, next_of};
-ghost use Rattle.ffv1_avi.specs.Readers.{next_with, opened_at};
+ghost use Rattle.ffv1_avi.specs.Readers.{next_with, opened_at, repeated_after, with_repeated};
 ghost use Rattle.ffv1_reads.specs.declared.fault.FileFault.{FileFault};
 ghost use Rattle.ffv1_avi.specs.declared.place.Extent.TheVariants.{FirstMovi, EveryRiff};
 ghost use Rattle.ffv1_avi.specs.declared.place.Place.{Place};
 
 use crate::chunk::{Entry, is_name, next_entry_in, padded};
-use crate::names::{is_barred, is_frame, most_bytes};
+use crate::names::{is_barred, is_frame, least_bytes, most_bytes};
 use crate::open::read_opening;
 use crate::place::{Extent, Names, Place, ended};
 use crate::riff::move_on;
@@ -36,14 +36,16 @@ use ffv1_wire::ByteIn;
 use std::alloc::{Allocator, Global};
 use std::marker::Model;
 
-/// A chunk of movi: the size of a frame, or None if it was passed.
+/// A chunk of movi: the size of a frame, or None if it was passed. If every RIFF is read, a frame
+/// of no bytes repeats the one before it.
 #[tactic(auto, unfolding(crate::specs::Files::visit_movi))]
 fn visit_movi<R: ByteIn>(
     input: &mut R,
     names: Names,
     entry: Entry,
 ) -> Result<Option<u32>, FileFault>
-    ensures sized { IfOk result (λ o. IfSome o (λ n. (0 < n) × (n ≤ most_bytes names))) }
+    ensures sized { IfOk result
+        (λ o. IfSome o (λ n. (least_bytes names ≤ n) × (n ≤ most_bytes names))) }
     ensures answer { Answers (λ (size : Option ℕ). (tt, frame_with size entry.left))
         (visit_movi names tt entry) (passage R.remaining R.failures input.old input.new) result }
 {
@@ -57,7 +59,7 @@ fn visit_movi<R: ByteIn>(
     if entry.size > most_bytes(names) {
         return Err(FileFault::ChunkTooLong);
     }
-    if entry.size == 0 {
+    if entry.size < least_bytes(names) {
         return Err(FileFault::EmptyFrame);
     }
     Ok(Some(entry.size))
@@ -71,7 +73,8 @@ fn find_in_movi<R: ByteIn>(
     place: Place,
     offset: &mut u64,
 ) -> Result<Option<(u32, u32)>, FileFault>
-    ensures sized { IfOk result (λ o. IfSome o (λ p. (0 < p.0) × (p.0 ≤ most_bytes place.names))) }
+    ensures sized { IfOk result (λ o. IfSome o
+        (λ p. (least_bytes place.names ≤ p.0) × (p.0 ≤ most_bytes place.names))) }
     ensures answer { Answers (λ (p : Option (ℕ × ℕ)). p) (movi_found place.names place.movi)
         (passage R.remaining R.failures input.old input.new) result }
     ensures from { FindsInMovi place (passage R.remaining R.failures input.old input.new) result
@@ -102,7 +105,7 @@ fn frame_at(place: Place, left: u32) -> Place
 }
 
 /// The size of the next frame, and the place after its header; None at the end. The chunks before
-/// its own are counted, and at the end it is said where other bytes stand behind the last RIFF, if
+/// its own are counted, and at the end it is said where other bytes stand after the last RIFF, if
 /// any do.
 fn find_frame<R: ByteIn>(
     input: &mut R,
@@ -110,7 +113,8 @@ fn find_frame<R: ByteIn>(
     offset: &mut u64,
     after: &mut Option<u64>,
 ) -> Result<Option<(u32, Place)>, FileFault>
-    ensures sized { IfOk result (λ o. IfSome o (λ p. (0 < p.0) × (p.0 ≤ most_bytes place.names))) }
+    ensures sized { IfOk result (λ o. IfSome o
+        (λ p. (least_bytes place.names ≤ p.0) × (p.0 ≤ most_bytes place.names))) }
     ensures answer { AnswersOrNone (extent_of place) (λ (p : Option (ℕ × Place)). p)
         (frame_found place) (passage R.remaining R.failures input.old input.new) result }
     ensures from { FindsFrom place (passage R.remaining R.failures input.old input.new) result
@@ -132,7 +136,7 @@ fn find_frame<R: ByteIn>(
 
 /// The next frame in place of what the vector has, and the place after it; None at the end. The
 /// chunks before its own are counted, and its own if there is no fault; at the end it is said where
-/// other bytes stand behind the last RIFF, if any do.
+/// other bytes stand after the last RIFF, if any do.
 fn read_frame<R: ByteIn, A: Allocator>(
     input: &mut R,
     place: Place,
@@ -143,7 +147,7 @@ fn read_frame<R: ByteIn, A: Allocator>(
     ensures answer { AnswersFrom place (λ (after : Option Place). next_with frame.new.items after)
         (frame_read place) (passage R.remaining R.failures input.old input.new) result }
     ensures sized { IfOk result
-        (λ o. OnSome o ((0 < length frame.new.items)
+        (λ o. OnSome o ((least_bytes place.names ≤ length frame.new.items)
         × (length frame.new.items ≤ most_bytes place.names))) }
     ensures none { IfOk result (λ after. after ≡ None → frame.new.items ≡ []) }
     ensures less { IfOk result (λ o. IfSome o (λ after. amount after < amount place)) }
@@ -167,6 +171,17 @@ fn read_frame<R: ByteIn, A: Allocator>(
     Ok(Some(after))
 }
 
+/// How many frames had no bytes, after a further frame of these bytes. A count of 64 bits stays at
+/// its greatest value.
+fn with_repeated(repeated: u64, frame: &[u8]) -> u64
+    ensures { result ≡ with_repeated frame.now repeated }
+{
+    if frame.is_empty() {
+        return repeated.saturating_add(1);
+    }
+    repeated
+}
+
 /// A reader of the frames of a file.
 ///
 /// It holds no input: each call is lent the same one. It stands in a `movi`, or at the end, or has
@@ -178,6 +193,7 @@ pub struct AviReader<A: Allocator = Global> {
     fault: Option<FileFault>,
     offset: u64,
     after: Option<u64>,
+    repeated: u64,
 }
 
 impl<A: Allocator> Model for AviReader<A> {
@@ -190,6 +206,7 @@ impl<A: Allocator> Model for AviReader<A> {
       room = vec_capacity r.head.config_record;
       offset = r.offset;
       after = r.after;
+      repeated = r.repeated;
     } };
 }
 
@@ -207,10 +224,12 @@ impl<A: Allocator> AviReader<A> {
             (passage R.remaining R.failures input.old input.new) result }
         ensures sound { IfOk result (λ r. r.fault ≡ None) }
         ensures most { IfOk result (λ r. most_bytes r.place.names ≡ most_in FirstMovi) }
+        ensures least { IfOk result (λ r. least_bytes r.place.names ≡ least_in FirstMovi) }
         ensures own { IfErr result (λ f. is_opening_fault f ≡ true) }
         ensures room { IfOk result (λ r. RoomRead (R.remaining input.old)
             (R.remaining input.new) 0 r.room) }
         ensures none { IfOk result (λ r. r.after ≡ None) }
+        ensures uncounted { IfOk result (λ r. r.repeated ≡ 0) }
     {
         let mut offset = 0;
         AviReader::open_located(alloc, Extent::FirstMovi, None, input, &mut offset)
@@ -233,10 +252,12 @@ impl<A: Allocator> AviReader<A> {
             (passage R.remaining R.failures input.old input.new) result }
         ensures sound { IfOk result (λ r. r.fault ≡ None) }
         ensures most { IfOk result (λ r. most_bytes r.place.names ≡ most_in EveryRiff) }
+        ensures least { IfOk result (λ r. least_bytes r.place.names ≡ least_in EveryRiff) }
         ensures own { IfErr result (λ f. is_opening_fault f ≡ true) }
         ensures room { IfOk result (λ r. RoomRead (R.remaining input.old)
             (R.remaining input.new) 0 r.room) }
         ensures none { IfOk result (λ r. r.after ≡ None) }
+        ensures uncounted { IfOk result (λ r. r.repeated ≡ 0) }
     {
         let mut offset = 0;
         AviReader::open_located(alloc, Extent::EveryRiff, None, input, &mut offset)
@@ -252,10 +273,12 @@ impl<A: Allocator> AviReader<A> {
             (passage_with first R.remaining R.failures input.old input.new) result }
         ensures sound { IfOk result (λ r. r.fault ≡ None) }
         ensures most { IfOk result (λ r. most_bytes r.place.names ≡ most_in EveryRiff) }
+        ensures least { IfOk result (λ r. least_bytes r.place.names ≡ least_in EveryRiff) }
         ensures own { IfErr result (λ f. is_opening_fault f ≡ true) }
         ensures room { IfOk result (λ r. RoomRead (bytes_with first (R.remaining input.old))
             (R.remaining input.new) 0 r.room) }
         ensures none { IfOk result (λ r. r.after ≡ None) }
+        ensures uncounted { IfOk result (λ r. r.repeated ≡ 0) }
     {
         let mut offset = 0;
         AviReader::open_located(alloc, Extent::EveryRiff, first, input, &mut offset)
@@ -278,12 +301,14 @@ impl<A: Allocator> AviReader<A> {
             (passage_with first R.remaining R.failures input.old input.new) result }
         ensures sound { IfOk result (λ r. r.fault ≡ None) }
         ensures most { IfOk result (λ r. most_bytes r.place.names ≡ most_in extent) }
+        ensures least { IfOk result (λ r. least_bytes r.place.names ≡ least_in extent) }
         ensures own { IfErr result (λ f. is_opening_fault f ≡ true) }
         ensures room { IfOk result (λ r. RoomRead (bytes_with first (R.remaining input.old))
             (R.remaining input.new) 0 r.room) }
         ensures offset { OffsetOpened extent (passage_with first R.remaining R.failures input.old
             input.new) result offset.new }
         ensures none { IfOk result (λ r. r.after ≡ None) }
+        ensures uncounted { IfOk result (λ r. r.repeated ≡ 0) }
     {
         let mut config = Vec::new(alloc);
         let (sizes, place) = read_opening(first, input, extent, offset, &mut config)?;
@@ -300,6 +325,7 @@ impl<A: Allocator> AviReader<A> {
             fault: None,
             offset: *offset,
             after: None,
+            repeated: 0,
         })
     }
 
@@ -312,13 +338,21 @@ impl<A: Allocator> AviReader<A> {
         self.offset
     }
 
-    /// The number of bytes of the file before others that stand behind its last RIFF, if any do:
+    /// The number of bytes of the file before others that stand after its last RIFF, if any do:
     /// known once `next_frame` has answered false, of a reader that `open_all` made. No greater
     /// than 2^64 - 1.
     pub fn after(&self) -> Option<u64>
         ensures { result ≡ self.now.after }
     {
         self.after
+    }
+
+    /// How many of the frames that were read have no bytes: each repeats the one before it. None
+    /// has, if `open` made the reader. A count of 64 bits stays at its greatest value.
+    pub fn repeated(&self) -> u64
+        ensures { result ≡ self.now.repeated }
+    {
+        self.repeated
     }
 
     /// The head of the file.
@@ -332,23 +366,28 @@ impl<A: Allocator> AviReader<A> {
     /// Reads the next frame in place of what the vector has, and answers true; or false at the end.
     /// The vector is then empty. Each further call answers false again, and reads nothing. Of a
     /// reader that `open` made the end is that of `movi`, and the bytes after it are left unread;
-    /// of one that `open_all` made it is that of the last RIFF. Behind that at most twelve bytes
+    /// of one that `open_all` made it is that of the last RIFF. After that at most twelve bytes
     /// are looked at, and `after` says where they stand: four, or as many as there are, and after
     /// RIFF eight more.
     ///
+    /// If `open_all` made the reader, an empty chunk of the stream is a frame, too, which repeats
+    /// the one before it: the answer is then true, and the vector is empty. `repeated` says how
+    /// many there were so far; a fault leaves that as it was.
+    ///
     /// The input has to be the one that the reader was opened on. `Truncated` if a chunk does not
     /// fit in its list or the input ends inside it, or before as many frames as `dmlh` says: then
-    /// also if other bytes stand behind the last RIFF. `NotAvi` if a list stands in `movi`, a list
+    /// also if other bytes stand after the last RIFF. `NotAvi` if a list stands in `movi`, a list
     /// has no room for its own name, or an RIFF `AVIX` has none for its form. If `open_all` made
-    /// the reader, `Another` if another file begins behind the last RIFF, with the ID of EBML or as
+    /// the reader, `Another` if another file begins after the last RIFF, with the ID of EBML or as
     /// an RIFF of another form; and `NotAvi` also, after its header, if a chunk stands in `movi`
     /// that is no frame `NNdc` or `NNdb` of the stream, its `NNpc`, a chunk of another of the
     /// streams, `ixNN` or `JUNK`, whatever its size; or a frame in RIFF after a `movi`.
     /// `ChunkTooLong` for a frame above 1073741824 bytes, or 67108864 of a reader that `open` made,
-    /// of which no byte is read, `EmptyFrame` for one of none, `Read` if a read failed,
-    /// `OutOfMemory`. After a fault the vector holds a beginning of the frame, and each further
-    /// call answers the fault again, empties the vector and reads nothing. The vector has room as
-    /// `ffv1_reads::fill` says; it keeps its room in a call that reads nothing.
+    /// of which no byte is read; `EmptyFrame` for a frame of no bytes, of a reader that `open` made;
+    /// `Read` if a read failed, `OutOfMemory`. After a fault the vector holds a beginning of the
+    /// frame, and each further call answers the fault again, empties the vector and reads nothing.
+    /// The vector has room as `ffv1_reads::fill` says; it keeps its room in a call that reads
+    /// nothing.
     pub fn next_frame<R: ByteIn>(
         &mut self,
         input: &mut R,
@@ -359,7 +398,8 @@ impl<A: Allocator> AviReader<A> {
             (frame_read self.old.place)
             (passage R.remaining R.failures input.old input.new) result }
         ensures stands { StandsAfter self.old result self.new }
-        ensures sized { IfOk result (λ more. more ≡ true → (0 < length frame.new.items)
+        ensures sized { IfOk result (λ more. more ≡ true →
+            (least_bytes self.old.place.names ≤ length frame.new.items)
             × (length frame.new.items ≤ most_bytes self.old.place.names)) }
         ensures end { IfOk result (λ more. more ≡ false → (frame.new.items ≡ [])
             × (self.new.place ≡ ended)) }
@@ -368,6 +408,7 @@ impl<A: Allocator> AviReader<A> {
         ensures same { IfOk result
             (λ more. more ≡ true → extent_of self.new.place ≡ extent_of self.old.place) }
         ensures most { most_bytes self.new.place.names ≤ most_bytes self.old.place.names }
+        ensures least { least_bytes self.old.place.names ≤ least_bytes self.new.place.names }
         ensures own { self.old.fault ≡ None →
             IfErr result (λ f. is_frame_fault (extent_of self.old.place) f ≡ true) }
         ensures err { OnErr result (Leaves self.old.place (R.remaining input.old) frame.new.items) }
@@ -388,6 +429,8 @@ impl<A: Allocator> AviReader<A> {
         ensures behind { self.old.fault ≡ None → BehindAfter self.old.place self.old.offset
             self.old.after (passage R.remaining R.failures input.old input.new) result
             self.new.after }
+        ensures repeats { self.new.repeated
+            ≡ repeated_after result frame.new.items self.old.repeated }
     {
         frame.clear();
         if let Some(fault) = self.fault {
@@ -403,6 +446,7 @@ impl<A: Allocator> AviReader<A> {
             Ok(Some(place)) => {
                 self.offset = offset;
                 self.place = place;
+                self.repeated = with_repeated(self.repeated, frame);
                 Ok(true)
             }
             Ok(None) => {

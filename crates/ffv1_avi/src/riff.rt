@@ -168,7 +168,7 @@ fn if_some(some: bool, end: u64) -> Option<u64>
 }
 
 /// The same, which counts its first twelve bytes if there is one; else it says where other bytes
-/// stand behind the last RIFF, if any do.
+/// stand after the last RIFF, if any do.
 fn count_riff<R: ByteIn>(
     input: &mut R,
     place: Place,
@@ -197,7 +197,7 @@ fn count_riff<R: ByteIn>(
 }
 
 /// Where frames are looked for next after the end of a movi; None at the end. What was read is
-/// counted, and at the end it is said where other bytes stand behind the last RIFF, if any do.
+/// counted, and at the end it is said where other bytes stand after the last RIFF, if any do.
 pub(crate) fn move_on<R: ByteIn>(
     input: &mut R,
     place: Place,

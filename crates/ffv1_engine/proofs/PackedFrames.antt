@@ -1,5 +1,5 @@
 -- The frames of a video that was packed: each codes its picture, and no others have their payloads.
-use Rattle.std.proofs.Common.{◌≡◌, refl, ℕ, ◌+◌, ◌*◌, ◌<◌, ◌≤◌, Bool, true, false, Result, Ok, inl, inr, List, [], ◌∷◌, ◌++◌, length, map, slice_index, Some, ap, sym, subst, ◌∙◌, arith, mul-pos}
+use Rattle.std.proofs.Common.{◌≡◌, refl, ℕ, suc, ◌+◌, ◌*◌, ◌<◌, ◌≤◌, Bool, true, false, Result, Ok, inl, inr, List, [], ◌∷◌, ◌++◌, length, map, slice_index, Option, Some, None, ap, sym, subst, ◌∙◌, arith, mul-pos}
 use Rattle.std.specs.List.{range_with_len, sum_by}
 use Rattle.std.proofs.lemmas.List.Sums.{sum_by-cons}
 use Rattle.ffv1_range.specs.Codes.{AreBytes, digits, sentinel_of}
@@ -30,7 +30,8 @@ use Rattle.ffv1_words.specs.declared.order.CoderChoice.{CoderChoice}
 use Rattle.ffv1_words.specs.declared.order.CoderChoice.TheVariants as coder_choice
 use Rattle.ffv1_pack.specs.Packing.{AllShort, coder_for, configuration_for, said_for}
 use Rattle.ffv1_codec.specs.Outcome.{CountOf, FaultsOf}
-use Rattle.ffv1_unpack.specs.Stream.{AreFrames, Frame, payloads}
+use Rattle.ffv1_unpack.specs.Stream.{AreFrames, payloads, shown_after, shown_frames}
+use Rattle.ffv1_unpack.specs.Stream.{Again, Coded, CodedFrame, Frame}
 use Rattle.ffv1_unpack.specs.Unpacked.{AllSay, pictures}
 use Rattle.ffv1_pack.specs.VideoReads.{IsHeadBy}
 use Rattle.ffv1_engine.proofs.ByteLists.{bytes_joined, bytes_pushed, no_bytes}
@@ -74,14 +75,14 @@ row_bytes ec f (n ∷ ns) are =
     bytes_joined (f n ++ footer_of ec (f n)) (joined_of ec (map f ns)) (bytes_joined (f n) (footer_of ec (f n)) (are n) (footer_bytes ec (f n))) (row_bytes ec f ns are)
 
 -- the frame of a picture
-pub record Coded (a : Accepted) (said : Said) (planes : Planes) : Type 0 where
+pub record CodesOne (a : Accepted) (said : Said) (planes : Planes) : Type 0 where
   pub codes : CodesPicture a (frame_of a planes said) planes said
   pub bytes : AreBytes (frame_of a planes said)
   pub some : 0 < length (frame_of a planes said)
 
 abbrev pub AllCoded : Accepted → Said → List Planes → Type 0
 AllCoded a said [] = Unit {0}
-AllCoded a said (p ∷ ps) = Coded a said p × AllCoded a said ps
+AllCoded a said (p ∷ ps) = CodesOne a said p × AllCoded a said ps
 
 -- what was decided in slices
 both_saturated : (x y : ℕ) → saturated (saturated x + saturated y) ≡ saturated (x + y)
@@ -100,17 +101,18 @@ ones_and_zeros counts (q ∷ qs) =
 
 -- frames that code these pictures
 pub record Made (a : Accepted) (said : Said) (ps : List Planes) : Type 0 where
-  pub frames : List Frame
-  pub payloads_are : payloads frames ≡ map (λ planes. frame_of a planes said) ps
-  pub are : AreFrames a frames
+  pub frames : List CodedFrame
+  pub payloads_are : payloads (map Coded frames) ≡ map (λ planes. frame_of a planes said) ps
+  pub are : AreFrames a (map Coded frames)
   pub pictures_are : pictures frames ≡ ps
   pub say : AllSay said frames
 
--- frames of which some are these, and the others are those of the other pictures
+-- frames of which some are these, all of them coded, and the others are those of the other pictures
 pub record Same (a : Accepted) (said : Said) (frames : List Frame) (more : List (List ℕ)) (ps : List Planes) : Type 0 where
   pub others : List Planes
-  pub parts : ps ≡ pictures frames ++ others
-  pub say : AllSay said frames
+  pub parts : ps ≡ pictures (shown_frames frames) ++ others
+  pub say : AllSay said (shown_frames frames)
+  pub long : length (shown_frames frames) ≡ length frames
   pub more_are : map (λ planes. frame_of a planes said) others ≡ more
   pub coded : AllCoded a said others
 
@@ -149,7 +151,7 @@ module _ (laws : FrameLaws) (a : Accepted) (accepted : IsAccepted a.configuratio
 
   module _ (said : Said) where
     -- a frame is decoded to its end, and has no fault
-    decided : (planes : Planes) → Coded a said planes → (tally : Tally) × CountOf a (frame_of a planes said) tally
+    decided : (planes : Planes) → CodesOne a said planes → (tally : Tally) × CountOf a (frame_of a planes said) tally
     decided planes coded =
         let payload = frame_of a planes said in
         let cut = laws.cut a.configuration payload coded.codes.spans coded.codes.cuts in
@@ -174,7 +176,7 @@ module _ (laws : FrameLaws) (a : Accepted) (accepted : IsAccepted a.configuratio
         let same : cut.0 ≡ os = same_ok cut.0 os (laws.one_cut a.configuration payload (Ok cut.0) (Ok os) cut.1 is) in
         λ s inside. ap (λ xs. slice_index xs s) (sym same) ∙ cut.2 s inside
 
-    pub no_fault : (planes : Planes) (fault : FrameFault) (tally : Tally) → Coded a said planes → FaultsOf a (frame_of a planes said) fault tally → ⊥
+    pub no_fault : (planes : Planes) (fault : FrameFault) (tally : Tally) → CodesOne a said planes → FaultsOf a (frame_of a planes said) fault tally → ⊥
     no_fault planes fault tally coded (inl h) = laws.uncut a.configuration (frame_of a planes said) coded.codes.spans h.0 h.1 coded.codes.cuts
     no_fault planes fault tally coded (inr h) =
         let payload = frame_of a planes said in
@@ -188,7 +190,7 @@ module _ (laws : FrameLaws) (a : Accepted) (accepted : IsAccepted a.configuratio
     made (p ∷ ps) coded =
         let rest = made ps coded.1 in
         let one = decided p coded.0 in
-        let frame : Frame = record { payload = frame_of a p said; planes = p; said = said; tally = one.0 } in record {
+        let frame : CodedFrame = record { payload = frame_of a p said; planes = p; said = said; tally = one.0 } in record {
           frames = frame ∷ rest.frames;
           payloads_are = ap (λ z. frame_of a p said ∷ z) rest.payloads_are;
           are = (record { codes = coded.0.codes; decided = one.1 }, rest.are);
@@ -199,16 +201,40 @@ module _ (laws : FrameLaws) (a : Accepted) (accepted : IsAccepted a.configuratio
     first_of : {X : Type 0} (x y : X) (xs ys : List X) → x ∷ xs ≡ y ∷ ys → (x ≡ y) × (xs ≡ ys)
     first_of x y xs ys e = (cc, cc)
 
-    pub same : (frames : List Frame) (more : List (List ℕ)) (ps : List Planes) → AreFrames a frames → AllCoded a said ps → map (λ planes. frame_of a planes said) ps ≡ payloads frames ++ more → Same a said frames more ps
-    same [] more ps are coded e = record { others = ps; parts = refl; say = tt; more_are = e; coded = coded }
-    same (f ∷ fs) more [] are coded e = absurd (cc)
-    same (f ∷ fs) more (p ∷ ps) are coded e =
+    -- no frame of them has no bytes
+    coded_some : (planes : Planes) → CodesOne a said planes → frame_of a planes said ≡ [] → ⊥
+    coded_some planes coded none =
+        let long : length (frame_of a planes said) ≡ 0 = ap (λ (bytes : List ℕ). length bytes) none in
+        absurd (let some = coded.some in omega (arith, long, some))
+
+    -- frames that are all coded, after one or after none
+    record SameAfter (last : Option CodedFrame) (frames : List Frame) (more : List (List ℕ)) (ps : List Planes) : Type 0 where
+      others : List Planes
+      parts : ps ≡ pictures (shown_after last frames) ++ others
+      say : AllSay said (shown_after last frames)
+      long : length (shown_after last frames) ≡ length frames
+      more_are : map (λ planes. frame_of a planes said) others ≡ more
+      coded : AllCoded a said others
+
+    same_after : (last : Option CodedFrame) (frames : List Frame) (more : List (List ℕ)) (ps : List Planes) → AreFrames a frames → AllCoded a said ps → map (λ planes. frame_of a planes said) ps ≡ payloads frames ++ more →
+        SameAfter last frames more ps
+    same_after last [] more ps are coded e = record { others = ps; parts = refl; say = tt; long = refl; more_are = e; coded = coded }
+    same_after last (f ∷ fs) more [] are coded e = absurd (cc)
+    same_after last (Again ∷ fs) more (p ∷ ps) are coded e =
+        absurd (coded_some p coded.0 (first_of (frame_of a p said) [] (map (λ planes. frame_of a planes said) ps) (payloads fs ++ more) e).0)
+    same_after last (Coded f ∷ fs) more (p ∷ ps) are coded e =
         let parts = first_of (frame_of a p said) f.payload (map (λ planes. frame_of a planes said) ps) (payloads fs ++ more) e in
-        let rest = same fs more ps are.1 coded.1 parts.1 in
+        let rest = same_after (Some f) fs more ps are.1 coded.1 parts.1 in
         let one = laws.one a f.payload f.planes p f.said said accepted (subst AreBytes parts.0 coded.0.bytes) are.0.codes (subst (λ b. CodesPicture a b p said) parts.0 coded.0.codes) in record {
           others = rest.others;
           parts = ap (λ z. z ∷ ps) (sym one.0) ∙ ap (λ z. f.planes ∷ z) rest.parts;
           say = (one.1, rest.say);
+          long = ap suc rest.long;
           more_are = rest.more_are;
           coded = rest.coded;
         }
+
+    pub same : (frames : List Frame) (more : List (List ℕ)) (ps : List Planes) → AreFrames a frames → AllCoded a said ps → map (λ planes. frame_of a planes said) ps ≡ payloads frames ++ more → Same a said frames more ps
+    same frames more ps are coded e =
+        let all = same_after None frames more ps are coded e in
+        record { others = all.others; parts = all.parts; say = all.say; long = all.long; more_are = all.more_are; coded = all.coded }

@@ -55,11 +55,11 @@ use Rattle.ffv1_unpack.specs.Play.{End, EndsWith, FaultsRead, IsFaulty, LacksStr
 use Rattle.ffv1_unpack.specs.Plays.{FileThen, GoesBy, NextEnds, NextHasFault, NextStays, PlayStopsBy, ReadsFile}
 use Rattle.ffv1_unpack.specs.Play.End.{File, Payload, Over}
 use Rattle.ffv1_engine.specs.RoundTrip.{accepted_in, HoldsBy, IsFileIn, IsNoContent, IsReadIn, IsUnpacked, WasPacked, canonical_of, text_video, video_in}
-use Rattle.ffv1_unpack.specs.Stream.{AreFrames, Frame, HoldsPayloads, IsFrame, IsStream, ReadsFrames, Stream, frame_payload, payloads}
+use Rattle.ffv1_unpack.specs.Stream.{AreFrames, Coded, CodedFrame, Frame, HoldsPayloads, IsFrame, IsRefusedPayload, IsStream, ReadsFrames, Stream, frame_payload, payloads, shown_frames}
 use Rattle.ffv1_codec.specs.Outcome.{FaultsOf}
 use Rattle.ffv1_unpack.specs.Unpack.{LacksTextIn, UnpackDone, UnpackStops}
 use Rattle.ffv1_unpack.specs.Unpacking.{UnpackingStopsBy}
-use Rattle.ffv1_unpack.specs.Unpacked.{AllSay, AreAlike, HasTextBy, LacksText, LacksTextBy, is_ppm_stream, pictures, text_of}
+use Rattle.ffv1_unpack.specs.Unpacked.{AllSay, AreAlike, HasTextBy, LacksText, LacksTextBy, is_ppm_stream, pictures, shown_text}
 use Rattle.ffv1_video.specs.Video.{IsReadVideo, IsVideo, ReadsVideo, Video}
 use Rattle.ffv1_pack.specs.VideoReads.{IsHeadBy}
 use Rattle.ffv1_video.specs.Colours.{plain, plain_choice, shown}
@@ -215,13 +215,13 @@ module _ (profile : Profile) (files : FileLaws profile) (frame_laws : FrameLaws)
 
     -- all of them, and nothing is left after them
     all_frames : (s : Stream) (frames : List Frame) (rest : List ℕ) → Played profile s frames → file_read (scope_in profile) file ≡ Ok ((s.head, payloads frames), rest) →
-        (s ≡ stream) × AllSay (said_for v.head) frames × (pictures frames ≡ v.pictures) × (rest ≡ [])
+        (s ≡ stream) × AllSay (said_for v.head) (shown_frames frames) × (pictures (shown_frames frames) ≡ v.pictures) × (rest ≡ []) × (length (shown_frames frames) ≡ length frames)
     all_frames s frames rest played is =
         let both : ((s.head, payloads frames), rest) ≡ ((packed_head choice v a, packed_frames v a), []) = same_ok (file_read (scope_in profile) file) _ _ is reads_whole in
         let e = the_stream s played.stream (ap (λ (z : (Head × List (List ℕ)) × List ℕ). z.0.0) both) in
         let same_of = the_frames s frames [] e played.decoded (sym (ap (λ (z : (Head × List (List ℕ)) × List ℕ). z.0.1) both) ∙ sym (append-nil (payloads frames))) in
         let none : same_of.others ≡ [] = no_others same_of.others same_of.more_are in
-        (e, same_of.say, sym (same_of.parts ∙ ap (λ ps. pictures frames ++ ps) none ∙ append-nil (pictures frames)), ap (λ (z : (Head × List (List ℕ)) × List ℕ). z.1) both)
+        (e, same_of.say, sym (same_of.parts ∙ ap (λ ps. pictures (shown_frames frames) ++ ps) none ∙ append-nil (pictures (shown_frames frames))), ap (λ (z : (Head × List (List ℕ)) × List ℕ). z.1) both, same_of.long)
       where
         no_others : (ps : List Planes) → map (λ planes. frame_of a planes (said_for v.head)) ps ≡ [] → ps ≡ []
         no_others [] e = refl
@@ -235,9 +235,9 @@ module _ (profile : Profile) (files : FileLaws profile) (frame_laws : FrameLaws)
         let read = whole_of profile files file input.new notes done.stream done.frames reads in
         let all = all_frames done.stream done.frames read.behind done.played read.is in
         let none = nothing_left read.reader read.behind notes read.rest all.3 read.noted in
-        let bytes : text_of done.stream done.frames ≡ canonical_of (shown choice v) =
-        ap (λ s. text_of s done.frames) all.0 ∙ canonical_given choice v.ppm v.head named a for done.frames v.pictures all.1 all.2 g.some in
-        let long : length done.frames ≡ length v.pictures = sym (many (λ (f : Frame). f.planes) done.frames) ∙ ap (λ ps. length ps) all.2 in record {
+        let bytes : shown_text done.stream done.frames ≡ canonical_of (shown choice v) =
+        ap (λ s. shown_text s done.frames) all.0 ∙ canonical_given choice v.ppm v.head named a for (shown_frames done.frames) v.pictures all.1 all.2 g.some in
+        let long : length done.frames ≡ length v.pictures = sym all.4 ∙ sym (many (λ (f : CodedFrame). f.planes) (shown_frames done.frames)) ∙ ap (λ ps. length ps) all.2 in record {
           left = read.left ∙ ap (λ t. Some t) none;
           counted = done.counted ∙ ap saturated long;
           writes = subst (λ text. Appends output.old output.new text) bytes done.writes;
@@ -300,12 +300,12 @@ module _ (profile : Profile) (files : FileLaws profile) (frame_laws : FrameLaws)
           some_in (λ planes. frame_of a planes (said_for v.head)) v.pictures (sym all) g.some
 
       -- the next payload has none
-      never_faulty : Played profile s frames → (payload rest : List ℕ) (to : Place) (f : FrameFault) (tally : Tally) → frame_read b.to b.at ≡ Ok (Some (payload, to), rest) → FaultsOf s.accepted payload f tally → ⊥
+      never_faulty : Played profile s frames → (payload rest : List ℕ) (to : Place) (f : FrameFault) (tally : Tally) → frame_read b.to b.at ≡ Ok (Some (payload, to), rest) → IsRefusedPayload s.accepted payload f tally → ⊥
       unfolding stream
       never_faulty played payload rest to f tally h faulty =
           let turn = one_more files.next b.to to b.at rest payload first.1.more [] h first.1.read in
           let of = same_frames played in
-          not_next of.others payload turn.0 f tally of.coded (of.more_are ∙ turn.1) (subst (λ (t : Stream). FaultsOf t.accepted payload f tally) (the_stream s played.stream first.0) faulty)
+          not_next of.others payload turn.0 f tally of.coded (of.more_are ∙ turn.1) (subst (λ (t : Stream). FaultsOf t.accepted payload f tally) (the_stream s played.stream first.0) faulty.faulty)
 
     -- so the file has a stream
     lacks_stream : (new : Option (List ℕ)) (f : Fault) → LacksStream profile (Some file) new f → ⊥
@@ -333,12 +333,12 @@ module _ (profile : Profile) (files : FileLaws profile) (frame_laws : FrameLaws)
     ends_never (Some rest) s frames (Over notes) f played h faulty is = never_empty s frames (begun profile file rest s frames (NextEnds (Over notes)) h) h.3.3.0 h.3.3.1.0 is.0
 
     -- and its frames say the same
-    alike : (new : Option (List ℕ)) (s : Stream) (frames : List Frame) → Played profile s frames → Known (Some file) new (FileThen profile s.head (payloads frames) NextStays) → AreAlike s frames
+    alike : (new : Option (List ℕ)) (s : Stream) (frames : List Frame) → Played profile s frames → Known (Some file) new (FileThen profile s.head (payloads frames) NextStays) → AreAlike s (shown_frames frames)
     unfolding stream
     alike new s frames played h =
         let b = begins_in profile file new s frames NextStays h in
         let e = the_stream s played.stream (first s frames b).0 in
-        subst (λ t. AreAlike t frames) (sym e) (alike_given choice v.ppm v.head a for frames (same_frames s frames b played).say)
+        subst (λ t. AreAlike t (shown_frames frames)) (sym e) (alike_given choice v.ppm v.head a for (shown_frames frames) (same_frames s frames b played).say)
 
     module _ (input output : Passage) (known : input.old ≡ Some file) where
       stream_lacks : (f : Fault) → LacksStream profile input.old input.new f → ⊥
@@ -356,7 +356,7 @@ module _ (profile : Profile) (files : FileLaws profile) (frame_laws : FrameLaws)
       no_goes s f is (kept, inl (frames, h)) = no_end s frames (File f) f (record { stream = is; decoded = h.plays.goes.are }) h.plays.goes.has tt refl
       no_goes s f is (kept, inr (inl h)) = no_end s h.frames (Payload h.payload h.fault h.tally) f (record { stream = is; decoded = h.goes.are }) h.goes.has h.faulty h.is
       no_goes s f is (kept, inr (inr h)) =
-          let all = h.frames ++ (h.last ∷ []) in
+          let all = h.frames ++ (Coded h.last ∷ []) in
           h.changed (alike input.new s all (record { stream = is; decoded = h.goes.are }) (subst (λ o. Known o input.new (FileThen profile s.head (payloads all) NextStays)) known h.goes.has))
 
       pub unpack_refused : (f : Fault) → UnpackStops profile input output f → IsNoContent f

@@ -26,7 +26,7 @@ use Rattle.ffv1_video.specs.Profiles.{greatest_depth, record_profile, scope_in}
 use Rattle.ffv1_video.specs.declared.profile.Profile.TheVariants.{Strict, Wide}
 use Rattle.ffv1_pack.specs.Packing.{AreReadable, configuration_for, head_for, most_frame, said_for}
 use Rattle.ffv1_engine.specs.RoundTrip.{canonical_by}
-use Rattle.ffv1_unpack.specs.Stream.{Frame, IsStream, Stream}
+use Rattle.ffv1_unpack.specs.Stream.{CodedFrame, IsStream, Stream}
 use Rattle.ffv1_unpack.specs.Unpacked.{AllSay, AreAlike, HasText, pictures, text_of, video_of}
 use Rattle.ffv1_pack.specs.VideoReads.{IsHeadBy}
 use Rattle.ffv1_video.specs.Colours.{shown_head}
@@ -133,12 +133,12 @@ text_with choice false h is named t p = named.name
 pub text_given : (choice : Choice) (ppm : Bool) (h : SaidHead) (a : Accepted) → a.configuration ≡ configuration_for choice ppm h → IsHeadBy ppm h.head → IsNamed h.depth h.head → HasText (stream_for choice ppm h a)
 text_given choice ppm h a for is named = subst (λ c. HasText (stream_for choice ppm h (with_table c a.table a.profile))) (sym for) (text_with choice ppm h is named a.table a.profile)
 
-alike_with : (choice : Choice) (ppm : Bool) (h : SaidHead) (t : Table) (p : RecordProfile) (frames : List Frame) → AllSay (said_for h) frames → AreAlike (stream_for choice ppm h (with_table (configuration_for choice ppm h) t p)) frames
+alike_with : (choice : Choice) (ppm : Bool) (h : SaidHead) (t : Table) (p : RecordProfile) (frames : List CodedFrame) → AllSay (said_for h) frames → AreAlike (stream_for choice ppm h (with_table (configuration_for choice ppm h) t p)) frames
 alike_with choice true h t p frames say = tt
 alike_with choice false h t p [] say = tt
 alike_with choice false h t p (f ∷ fs) say = subst (λ s. AllSay s fs) (sym say.0) say.1
 
-pub alike_given : (choice : Choice) (ppm : Bool) (h : SaidHead) (a : Accepted) → a.configuration ≡ configuration_for choice ppm h → (frames : List Frame) → AllSay (said_for h) frames → AreAlike (stream_for choice ppm h a) frames
+pub alike_given : (choice : Choice) (ppm : Bool) (h : SaidHead) (a : Accepted) → a.configuration ≡ configuration_for choice ppm h → (frames : List CodedFrame) → AllSay (said_for h) frames → AreAlike (stream_for choice ppm h a) frames
 alike_given choice ppm h a for frames say = subst (λ c. AreAlike (stream_for choice ppm h (with_table c a.table a.profile)) frames) (sym for) (alike_with choice ppm h a.table a.profile frames say)
 
 video_with : (choice : Choice) (h : SaidHead) (t : Table) (p : RecordProfile) → IsNamed h.depth h.head → video_of (stream_for choice false h (with_table (configuration_for choice false h) t p)) (said_for h) ≡ (shown_head choice.colour false h).head
@@ -147,7 +147,7 @@ video_with choice h t p named =
     (siting_shown_back choice.colour.siting (has_siting h.depth h.head.chroma_planes h.head.log2_h h.head.log2_v) h.head.siting named.sited)
     (range_shown_back choice.colour.range h.head.range)
 
-canonical_with : (choice : Choice) (ppm : Bool) (h : SaidHead) → IsNamed h.depth h.head → (t : Table) (p : RecordProfile) (frames : List Frame) → AllSay (said_for h) frames → 0 < length (pictures frames) →
+canonical_with : (choice : Choice) (ppm : Bool) (h : SaidHead) → IsNamed h.depth h.head → (t : Table) (p : RecordProfile) (frames : List CodedFrame) → AllSay (said_for h) frames → 0 < length (pictures frames) →
     text_of (stream_for choice ppm h (with_table (configuration_for choice ppm h) t p)) frames ≡ canonical_by ppm (shown_head choice.colour ppm h) (pictures frames)
 canonical_with choice true h named t p frames say some = refl
 canonical_with choice false h named t p [] say some = absurd (omega (arith, some))
@@ -155,7 +155,7 @@ canonical_with choice false h named t p (f ∷ fs) say some =
     ap (λ s. canonical_text h.depth (video_of (stream_for choice false h (with_table (configuration_for choice false h) t p)) s) (pictures (f ∷ fs))) say.0
     ∙ ap (λ v. canonical_text h.depth v (pictures (f ∷ fs))) (video_with choice h t p named)
 
-pub canonical_given : (choice : Choice) (ppm : Bool) (h : SaidHead) → IsNamed h.depth h.head → (a : Accepted) → a.configuration ≡ configuration_for choice ppm h → (frames : List Frame) (ps : List Planes) → AllSay (said_for h) frames → pictures frames ≡ ps →
+pub canonical_given : (choice : Choice) (ppm : Bool) (h : SaidHead) → IsNamed h.depth h.head → (a : Accepted) → a.configuration ≡ configuration_for choice ppm h → (frames : List CodedFrame) (ps : List Planes) → AllSay (said_for h) frames → pictures frames ≡ ps →
     0 < length ps → text_of (stream_for choice ppm h a) frames ≡ canonical_by ppm (shown_head choice.colour ppm h) ps
 canonical_given choice ppm h named a for frames ps say are some =
     subst (λ c. text_of (stream_for choice ppm h (with_table c a.table a.profile)) frames ≡ canonical_by ppm (shown_head choice.colour ppm h) ps) (sym for)

@@ -1,6 +1,6 @@
 -- What is packed is unpacked: of a text that was packed, what its file holds, and the text that is
 -- written of the file.
-use Rattle.std.specs.Prelude.{◌≡◌, ◌⊎◌, ℕ, ◌≤◌, Bool, true, false, List, [], length, flat_map}
+use Rattle.std.specs.Prelude.{◌≡◌, ◌⊎◌, ℕ, ◌≤◌, Bool, true, false, List, [], length, map, flat_map}
 use Rattle.std.specs.Prelude.{Some}
 use Rattle.std.specs.Io.KnownBytes.{Appends}
 use Rattle.ffv1_wire.specs.Passage.{Passage}
@@ -26,7 +26,7 @@ use Rattle.ffv1_pack.specs.Pack.{Packs}
 use Rattle.ffv1_pack.specs.Packing.{AreReadable, packed_file, packed_frames, said_for}
 use Rattle.ffv1_unpack.specs.Play.{Played}
 use Rattle.ffv1_video.specs.Profiles.{greatest_depth, record_profile}
-use Rattle.ffv1_unpack.specs.Stream.{Frame, Stream, payloads}
+use Rattle.ffv1_unpack.specs.Stream.{Coded, CodedFrame, Stream, payloads}
 use Rattle.ffv1_unpack.specs.Unpacked.{AllSay, AreAlike, HasText, pictures, text_of}
 use Rattle.ffv1_video.specs.Video.{Video}
 
@@ -96,15 +96,15 @@ abbrev pub IsFileIn : Profile → List ℕ → Head → List (List ℕ) → Type
 IsFileIn Strict file head frames = AviFile file head frames
 IsFileIn Wide file head frames = RiffFile file head frames
 
--- a file, of whatever kind, is a stream of frames, one for each picture of a video, which code
+-- a file, of whatever kind, is a stream of coded frames, one for each picture of a video: they code
 -- those pictures and say what the video's head says; and their text is the canonical text of the
 -- video
 pub record HoldsBy (IsFile : List ℕ → Head → List (List ℕ) → Type 0) (profile : Profile)
     (file : List ℕ) (v : Video) : Type 0 where
   pub stream : Stream
-  pub frames : List Frame
-  pub is : IsFile file stream.head (payloads frames)
-  pub played : Played profile stream frames
+  pub frames : List CodedFrame
+  pub is : IsFile file stream.head (payloads (map Coded frames))
+  pub played : Played profile stream (map Coded frames)
   pub pictures_are : pictures frames ≡ v.pictures
   pub say : AllSay (said_for v.head) frames
   pub text : HasText stream

@@ -1,4 +1,4 @@
--- What stands behind the end of a file, as notes.
+-- What stands after the end of a file, as notes.
 use Rattle.std.proofs.Common.{◌≡◌, if◌then◌else◌, Bool, false, ℕ, List, [], ◌++◌, Option, Some, None, Result, Ok, Err, IfOk, true, refl, ap, sym, subst, ◌∙◌, inl, inr, length, take, drop, nat_lt}
 use Rattle.ffv1_reads.specs.Behind.{begins_file, behind_read}
 use Rattle.ffv1_reads.proofs.Results.{ok_is, read_on_ok}
@@ -26,12 +26,12 @@ use Rattle.ffv1_files.specs.declared.notes.Notes.{Notes}
 use Rattle.ffv1_files.proofs.Answering.{ends_known, ends_stops, made_reads, made_stops}
 
 -- an AVI tells where they stand
-pub lists_noted : (place : AviPlace) (end : ℕ) (cued : Bool) (after : Option ℕ) (p : Passage) → p.new ≡ p.old → p.after ≡ p.before → ReadsAs (notes_read (InAvi place) end cued after) p (record { is_open = false; after = after })
+pub lists_noted : (place : AviPlace) (end : ℕ) (cued : Bool) (after : Option ℕ) (repeated : ℕ) (p : Passage) → p.new ≡ p.old → p.after ≡ p.before → ReadsAs (notes_read (InAvi place) end cued after repeated) p (record { is_open = false; repeated = repeated; after = after })
 unfolding notes_read
-lists_noted place end cued after p same counted = (counted, rw same (itself p.old))
+lists_noted place end cued after repeated p same counted = (counted, rw same (itself p.old))
   where
     told : Notes
-    told = record { is_open = false; after = after }
+    told = record { is_open = false; repeated = repeated; after = after }
 
     itself : (text : Option (List ℕ)) → Known text text (λ text rest. given told text ≡ Ok (told, rest))
     itself None = tt
@@ -41,13 +41,13 @@ pub lists_end : (r : Result Bool FileFault) → IfOk r (λ more. more ≡ true �
 lists_end (Ok more) = λ is. tt
 lists_end (Err f) = tt
 
-pub segment_noted : (r : matroska.Standing) (p : Passage) (some : Bool) → AnswersOrEnds (λ (b : Bool). b) (segment_behind r.segment) p (Ok some) → ReadsAs (notes_read (InMatroska r.segment r.track.numbers r.place) r.end r.cued None) p (noted r.segment r.cued r.end some)
+pub segment_noted : (r : matroska.Standing) (cued : Bool) (p : Passage) (some : Bool) → AnswersOrEnds (λ (b : Bool). b) (segment_behind r.segment) p (Ok some) → ReadsAs (notes_read (InMatroska r.segment r.track.numbers r.place) r.end cued None 0) p (noted r.segment cued r.end some)
 unfolding notes_read
-segment_noted r p some h = made_reads (segment_behind r.segment) (noted r.segment r.cued r.end) p some (h.0, ends_known (segment_behind r.segment) p some h.1)
+segment_noted r cued p some h = made_reads (segment_behind r.segment) (noted r.segment cued r.end) p some (h.0, ends_known (segment_behind r.segment) p some h.1)
 
-pub segment_refused : (r : matroska.Standing) (p : Passage) (f : FileFault) → AnswersOrEnds (λ (b : Bool). b) (segment_behind r.segment) p (Err f) → StopsReading any_value (notes_read (InMatroska r.segment r.track.numbers r.place) r.end r.cued None) p f
+pub segment_refused : (r : matroska.Standing) (cued : Bool) (p : Passage) (f : FileFault) → AnswersOrEnds (λ (b : Bool). b) (segment_behind r.segment) p (Err f) → StopsReading any_value (notes_read (InMatroska r.segment r.track.numbers r.place) r.end cued None 0) p f
 unfolding notes_read
-segment_refused r p f h = made_stops (segment_behind r.segment) (noted r.segment r.cued r.end) p any_value any_value (λ x over. tt) (λ e over. over) f (ends_stops (segment_behind r.segment) p f h)
+segment_refused r cued p f h = made_stops (segment_behind r.segment) (noted r.segment cued r.end) p any_value any_value (λ x over. tt) (λ e over. over) f (ends_stops (segment_behind r.segment) p f h)
 
 -- if no bytes are noted, none stand there
 pub lists_bare : ((from : AviPlace) (text : List ℕ) (new : Option (List ℕ)) (before : ℕ) → EndsBehind from (Some text) new before None → (new ≡ Some []) × (to : AviPlace) × (end : ℕ) × (to.movi ≡ 0) × (to.riff ≡ 0) × ReadsUpTo from (Some text) (Some []) to before end) →
@@ -60,7 +60,7 @@ no_some : {X : Type 0} (x : X) → ◌≡◌ {A = Option X} (Some x) None → �
 no_some x e = absurd (cc)
 
 pub segment_bare : ((text rest : List ℕ) → behind_read text ≡ Ok (false, rest) → text ≡ []) →
-    (size end : ℕ) (track : TrackNumbers) (place : MatroskaPlace) (cued : Bool) (text rest : List ℕ) (notes : Notes) → notes_read (InMatroska (Some size) track place) end cued None text ≡ Ok (notes, rest) → notes.after ≡ None → text ≡ []
+    (size end : ℕ) (track : TrackNumbers) (place : MatroskaPlace) (cued : Bool) (text rest : List ℕ) (notes : Notes) → notes_read (InMatroska (Some size) track place) end cued None 0 text ≡ Ok (notes, rest) → notes.after ≡ None → text ≡ []
 unfolding notes_read segment_behind
 segment_bare nothing size end track place cued text rest notes h none =
     let first = read_on_ok (behind_read text) (λ some. given (noted (Some size) cued end some)) (notes, rest) h in
@@ -129,14 +129,14 @@ module _ (r : matroska.Standing) (p : Passage) where
   segment_own fault.Rate h = absurd h
   segment_own fault.Another h = refl
 
--- ---- where nothing stands behind
+-- ---- where nothing stands after
 
-nothing_at : (place : Place) (end : ℕ) (cued : Bool) (after : Option ℕ) → (notes : Notes) × (notes_read place end cued after [] ≡ Ok (notes, [])) × (after ≡ None → notes.after ≡ None)
+nothing_at : (place : Place) (end : ℕ) (cued : Bool) (after : Option ℕ) (repeated : ℕ) → (notes : Notes) × (notes_read place end cued after repeated [] ≡ Ok (notes, [])) × (after ≡ None → notes.after ≡ None)
 unfolding notes_read segment_behind behind_read begins_file
-nothing_at (InAvi place) end cued after = (record { is_open = false; after = after }, refl, λ none. none)
-nothing_at (InMatroska None track place) end cued after = (noted None cued end false, refl, λ none. refl)
-nothing_at (InMatroska (Some size) track place) end cued after = (noted (Some size) cued end false, refl, λ none. refl)
+nothing_at (InAvi place) end cued after repeated = (record { is_open = false; repeated = repeated; after = after }, refl, λ none. none)
+nothing_at (InMatroska None track place) end cued after repeated = (noted None cued end false, refl, λ none. refl)
+nothing_at (InMatroska (Some size) track place) end cued after repeated = (noted (Some size) cued end false, refl, λ none. refl)
 
 -- nothing is met, and no bytes are noted
 pub nothing_behind : (r : Standing) → (notes : Notes) × (notes_of r [] ≡ Ok (notes, [])) × (r.after ≡ None → notes.after ≡ None)
-nothing_behind r = nothing_at r.place r.end r.cued r.after
+nothing_behind r = nothing_at r.place r.end r.cued r.after r.repeated

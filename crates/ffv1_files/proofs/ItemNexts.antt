@@ -1,5 +1,5 @@
 -- The next item of a file, of either container.
-use Rattle.std.proofs.Common.{◌≡◌, refl, ℕ, Bool, true, false, Option, Some, None, Result, Ok, Err, List, [], ap}
+use Rattle.std.proofs.Common.{◌≡◌, refl, ℕ, Bool, true, false, Option, Some, None, Result, Ok, Err, IfOk, List, [], ap}
 use Rattle.ffv1_wire.specs.Passage.{Passage}
 use Rattle.ffv1_reads.specs.Ends.{Stops}
 use Rattle.ffv1_reads.specs.Known.{Known}
@@ -11,6 +11,7 @@ use Rattle.ffv1_avi.specs.Files as avi
 use Rattle.ffv1_avi.specs.Places.{extent_of}
 use Rattle.ffv1_avi.specs.Readers as avi_reader
 use Rattle.ffv1_avi.specs.declared.place.Place.{Place as AviPlace}
+use Rattle.ffv1_matroska.specs.CuedItems.{CuedBy}
 use Rattle.ffv1_matroska.specs.Items as matroska
 use Rattle.ffv1_matroska.specs.declared.course.Course.{Course}
 use Rattle.ffv1_matroska.specs.declared.items.Item.{Item}
@@ -30,6 +31,18 @@ unfolding item_read
 avi_items place after bytes c p (Ok true) h = made_reads (avi.frame_read place) (avi_item c) p (Some (bytes, after)) (by_reads (avi.frame_read place) (λ (more : Bool). avi_reader.next_of more bytes after) p (extent_of place) true h)
 avi_items place after bytes c p (Ok false) h = made_reads (avi.frame_read place) (avi_item c) p None (by_reads (avi.frame_read place) (λ (more : Bool). avi_reader.next_of more bytes after) p (extent_of place) false h)
 avi_items place after bytes c p (Err f) h = made_stops (avi.frame_read place) (avi_item c) p (avi_endings (extent_of place)) (avi_endings (extent_of place)) (avi_over (avi_item c) refl (extent_of place)) (avi_no_fault (avi_item c) refl (extent_of place)) f (by_stops (avi.frame_read place) (λ (more : Bool). avi_reader.next_of more bytes after) p (extent_of place) f h)
+
+-- no Cues came
+uncued : (cued : Bool) (old new : Option (List ℕ)) (P : List ℕ → List ℕ → Type 0) → Known old new P → CuedBy (λ text. cued) old new cued
+uncued cued None new P h = tt
+uncued cued (Some text) None P h = absurd h
+uncued cued (Some text) (Some rest) P h = refl
+
+pub avi_uncued : (place : AviPlace) (cued : Bool) (p : Passage) (bytes : List ℕ) (after : AviPlace) (r : Result Bool FileFault) → AnswersFrom place (λ more. avi_reader.next_of more bytes after) (avi.frame_read place) p r →
+    IfOk (avi_answer r) (λ i. CuedBy (λ text. cued) p.old p.new cued)
+avi_uncued place cued p bytes after (Ok true) h = uncued cued p.old p.new _ (by_reads (avi.frame_read place) (λ (more : Bool). avi_reader.next_of more bytes after) p (extent_of place) true h).1
+avi_uncued place cued p bytes after (Ok false) h = uncued cued p.old p.new _ (by_reads (avi.frame_read place) (λ (more : Bool). avi_reader.next_of more bytes after) p (extent_of place) false h).1
+avi_uncued place cued p bytes after (Err f) h = tt
 
 module _ {X Y : Type 0} (r : Reading X) (g : X → Y) where
   stops_made : (old new : Option (List ℕ)) (x : X) → Stops r old new x → Known old new (λ text rest. SoFar (r >>= λ x. given (g x)) (Ok (g x, [])) text rest)

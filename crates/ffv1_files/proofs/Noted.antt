@@ -1,26 +1,31 @@
 -- What is noted of a file, by what a reader knows of it.
-use Rattle.std.proofs.Common.{◌≡◌, ◌≤◌, ◌+◌, ◌-◌, ◌^◌, ◌++◌, min, ℕ, Bool, true, false, Option, Some, None, Result, Ok, Err, IfOk, List, [], ◌∷◌, length, refl, sym, ap, ◌∙◌, subst, arith, inl, inr}
+use Rattle.std.proofs.Common.{◌≡◌, ◌≤◌, ◌+◌, ◌-◌, ◌^◌, ◌++◌, ◌==◌, suc, min, ℕ, Bool, true, false, Option, Some, None, Result, Ok, Err, IfOk, List, [], ◌∷◌, length, refl, sym, ap, ◌∙◌, subst, arith, inl, inr, append_assoc, append-nil}
+use Rattle.std.proofs.lemmas.Bool.{ne_eqb}
 use Rattle.std.proofs.lemmas.List.{length-append}
 use Rattle.ffv1_wire.specs.Passage.{Passage}
 use Rattle.ffv1_reads.specs.Ends.{ReadOrNone}
 use Rattle.ffv1_reads.specs.Head.{Head}
 use Rattle.ffv1_reads.specs.Known.{Known}
 use Rattle.ffv1_reads.specs.Offsets.{ReadsWhole, all_bytes, offset_after}
-use Rattle.ffv1_reads.specs.Reads.{Reading, given}
+use Rattle.ffv1_reads.specs.Reads.{Reading, given, read_on, ◌>>=◌}
 use Rattle.ffv1_reads.specs.declared.fault.FileFault.{FileFault}
 use Rattle.ffv1_reads.proofs.OffsetLaws.{reads_none, reads_then}
 use Rattle.ffv1_reads.proofs.Results.{ok_is, read_on_ok}
 use Rattle.ffv1_avi.specs.Behind.{BehindEnd, EndsBehind, StandAfter}
 use Rattle.ffv1_avi.specs.Behind as avi_behind
 use Rattle.ffv1_avi.specs.Files as avi
+use Rattle.ffv1_avi.specs.Extents.{AnswersFrom}
 use Rattle.ffv1_avi.specs.Files.{riff_begun}
+use Rattle.ffv1_avi.specs.Names as names
 use Rattle.ffv1_avi.specs.Offsets.{ReadsUpTo}
 use Rattle.ffv1_avi.specs.Places.{extent_of, first_place}
 use Rattle.ffv1_avi.specs.Readers as avi_reader
+use Rattle.ffv1_avi.specs.Readers.{with_repeated}
 use Rattle.ffv1_avi.specs.declared.place.Extent.{Extent}
 use Rattle.ffv1_avi.specs.declared.place.Extent.TheVariants.{FirstMovi, EveryRiff}
 use Rattle.ffv1_avi.specs.declared.place.Names.{Names}
 use Rattle.ffv1_avi.specs.declared.place.Place.{Place as AviPlace}
+use Rattle.ffv1_avi.proofs.FrameTurns.{frames_step}
 use Rattle.ffv1_avi.proofs.OpenLaws.{open_sound}
 use Rattle.ffv1_matroska.specs.Cues.{CuedNext, cued_taken}
 use Rattle.ffv1_matroska.specs.Offsets.{InSegment, Start, spot_taken}
@@ -35,18 +40,19 @@ use Rattle.ffv1_matroska.specs.declared.place.Place.{Place as MatroskaPlace}
 use Rattle.ffv1_matroska.specs.declared.track.TrackNumbers.{TrackNumbers}
 use Rattle.ffv1_matroska.proofs.LastSteps.{IsLast, last_nothing, opened_sized, read_to_end, step_last}
 use Rattle.ffv1_matroska.proofs.ReadSegments.{headed_sound}
-use Rattle.ffv1_files.specs.Answers.{Endings, FileAnswers}
+use Rattle.ffv1_files.specs.Answers.{FileAnswers}
 use Rattle.ffv1_files.specs.Behind.{EndsThere, any_value, ends_there, notes_of, notes_read}
-use Rattle.ffv1_files.specs.Files.{avi_opened, is_matroska, matroska_opened, open_read}
-use Rattle.ffv1_files.specs.Noted.{IsNotedOf, NotedOf, NotesEnd, NotesNext, NotesReached, RiffsEnd, SegmentRead, SegmentReached, bytes_before, notes_reached, stands_after}
+use Rattle.ffv1_files.specs.Files.{avi_opened, file_read, frames_read, is_matroska, matroska_opened, open_read}
+use Rattle.ffv1_files.specs.Noted.{FramesBefore, IsNotedOf, NotedOf, NotesEnd, NotesNext, NotesReached, RiffsEnd, SegmentRead, SegmentReached, bytes_before, frames_reached, notes_reached, repeated_in, repeats, stands_after}
 use Rattle.ffv1_files.specs.Offsets.{AviReached, EndsEarly, Layout, MatroskaReached, PlaceReached, Reached, ReadsThrough}
-use Rattle.ffv1_files.specs.Places.{InAvi, InMatroska, Place}
+use Rattle.ffv1_files.specs.Places.{InAvi, InMatroska, Place, least_bytes, least_in}
 use Rattle.ffv1_files.specs.Readers.{Standing, opened_at}
 use Rattle.ffv1_files.specs.declared.container.Scope.{Scope}
 use Rattle.ffv1_files.specs.declared.container.Scope.TheVariants as scope
 use Rattle.ffv1_files.specs.declared.notes.Notes.{Notes}
 use Rattle.ffv1_files.proofs.Answering.{known_map, none_known}
 use Rattle.ffv1_files.proofs.Locations.{counts_on, in_avi, in_matroska, through_on}
+use Rattle.ffv1_files.proofs.Nexts.{by_reads}
 
 -- what is known from one position to the next, and from there on
 known_then : (text old new : Option (List ℕ)) (P Q R : List ℕ → List ℕ → Type 0) → ((file a b : List ℕ) → P file a → Q a b → R file b) → Known text old P → Known old new Q → Known text new R
@@ -57,9 +63,6 @@ known_then (Some file) (Some a) (Some b) P Q R f h k = f file a b h k
 
 abbrev Goes : Option (List ℕ) → Option (List ℕ) → Type 0
 Goes old new = Known old new (λ a b. Unit {0})
-
-goes_by : {X Y : Type 0} (ends : Endings X) (view : Y → X) (reading : Reading X) (p : Passage) (y : Y) → FileAnswers ends view reading p (Ok y) → Goes p.old p.new
-goes_by ends view reading p y h = known_map p.old p.new (λ text rest. reading text ≡ Ok (view y, rest)) (λ a b. Unit {0}) (λ text rest is. tt) h.1
 
 -- notes that are read at the end are those of the file
 pub noted_answer : (s : Scope) (text : Option (List ℕ)) (r : Standing) (p : Passage) (result : Result Notes FileFault) → FileAnswers any_value (λ (n : Notes). n) (notes_of r) p result → NotesEnd s text p.old r → IfOk result (NotedOf s text p.new)
@@ -178,24 +181,106 @@ module _ (file left : List ℕ) (end offset : ℕ) (cued : Bool) (after : Option
               let same : InAvi first.0.0.1 ≡ InMatroska segment track place = ap (λ (z : (Head × Place) × List ℕ). z.0.1) (ok_is ((first.0.0.0, InAvi first.0.0.1), first.0.1) ((head, InMatroska segment track place), left) first.2) in
               cc
 
-pub opens_noted : (s : Scope) (text left : Option (List ℕ)) (r : Standing) → Known text left (λ file rest. open_read s file ≡ Ok (opened_at r, rest)) → Reached s text left r → EndsThere r → r.cued ≡ false → r.after ≡ None → NotesReached s text left r
-opens_noted s None left r h reached there uncued untold = record { known = tt }
-opens_noted s (Some file) None r h reached there uncued untold = absurd h
-opens_noted s (Some file) (Some left) r h reached there uncued untold = record { known = opened_at_once file left r.end r.offset r.cued r.after uncued untold s r.head r.place h reached.whole there }
+-- no frame comes before
+opened_frames : (s : Scope) (file left : List ℕ) (head : Head) (place : Place) (repeated : ℕ) → open_read s file ≡ Ok ((head, place), left) → least_in s ≤ least_bytes place → repeated ≡ 0 → frames_reached s head place repeated file left
+unfolding frames_read
+opened_frames scope.FirstMovi file left head place repeated is least none = (least, none)
+opened_frames scope.Whole file left head (InMatroska segment track place) repeated is least none = tt
+opened_frames scope.Whole file left head (InAvi place) repeated is least none = (
+  [],
+  λ more rest reads.
+      ap (λ z. read_on z (λ p. frames_read p.1 >>= λ frames. given (p.0, frames))) is
+      ∙ ap (λ z. read_on z (λ frames. given (head, frames))) reads,
+  omega (arith, none),
+)
+
+pub opens_noted : (s : Scope) (text left : Option (List ℕ)) (r : Standing) → Known text left (λ file rest. open_read s file ≡ Ok (opened_at r, rest)) → Reached s text left r → EndsThere r → r.cued ≡ false → r.after ≡ None → least_in s ≤ least_bytes r.place → r.repeated ≡ 0 → NotesReached s text left r
+opens_noted s None left r h reached there uncued untold least none = record { known = tt; frames = tt }
+opens_noted s (Some file) None r h reached there uncued untold least none = absurd h
+opens_noted s (Some file) (Some left) r h reached there uncued untold least none = record {
+  known = opened_at_once file left r.end r.offset r.cued r.after uncued untold s r.head r.place h reached.whole there;
+  frames = opened_frames s file left r.head r.place r.repeated h least none;
+}
+
+-- ---- how many frames have no bytes
+
+-- one more
+repeats_empty : (before : List (List ℕ)) → repeats (before ++ ([] ∷ [])) ≡ suc (repeats before)
+repeats_empty [] = refl
+repeats_empty ([] ∷ frames) = ap suc (repeats_empty frames)
+repeats_empty ((b ∷ bs) ∷ frames) = repeats_empty frames
+
+repeats_some : (before : List (List ℕ)) (c : ℕ) (cs : List ℕ) → repeats (before ++ ((c ∷ cs) ∷ [])) ≡ repeats before
+repeats_some [] c cs = refl
+repeats_some ([] ∷ frames) c cs = ap suc (repeats_some frames c cs)
+repeats_some ((b ∷ bs) ∷ frames) c cs = repeats_some frames c cs
+
+capped_more : (n m most : ℕ) → m ≡ suc n → min (min n most + 1) most ≡ min m most
+capped_more n m most h = omega (arith, h)
+
+-- a frame that has bytes is not counted
+some_bytes : (b : ℕ) (bs : List ℕ) (n : ℕ) → with_repeated (b ∷ bs) n ≡ n
+some_bytes b bs n = let some : (length (b ∷ bs) == 0) ≡ false = ne_eqb _ _ (λ z. omega (arith, z)) in rw some refl
+
+with_one : (before : List (List ℕ)) (bytes : List ℕ) → with_repeated bytes (repeated_in before) ≡ repeated_in (before ++ (bytes ∷ []))
+with_one before [] = capped_more (repeats before) (repeats (before ++ ([] ∷ []))) (2 ^ 64 - 1) (repeats_empty before)
+with_one before (b ∷ bs) = some_bytes b bs (repeated_in before) ∙ ap (λ n. min n (2 ^ 64 - 1)) (sym (repeats_some before b bs))
+
+not_repeated : (bytes : List ℕ) (n : ℕ) → 1 ≤ length bytes → with_repeated bytes n ≡ n
+not_repeated [] n some = absurd (omega (arith, some))
+not_repeated (b ∷ bs) n some = some_bytes b bs n
+
+-- the frames from a place on are the next one and those after it
+goes_on : (place to : AviPlace) (bytes a b : List ℕ) (more : List (List ℕ)) (rest : List ℕ) → avi.frame_read place a ≡ Ok (Some (bytes, to), b) → avi.frames_read to b ≡ Ok (more, rest) → avi.frames_read place a ≡ Ok (bytes ∷ more, rest)
+goes_on place to bytes a b more rest is reads =
+    frames_step place a ∙ ap (λ z. read_on z (avi.more_frames avi.frames_read)) is ∙ ap (λ z. read_on z (λ frames. given (bytes ∷ frames))) reads
+
+goes_no_more : (place : AviPlace) (a b : List ℕ) → avi.frame_read place a ≡ Ok (None, b) → avi.frames_read place a ≡ Ok ([], b)
+goes_no_more place a b is = frames_step place a ∙ ap (λ z. read_on z (avi.more_frames avi.frames_read)) is
+
+turned : (file a b : List ℕ) (head next : Head) (place to : AviPlace) (bytes : List ℕ) (before : List (List ℕ)) → next ≡ head → FramesBefore file a head place before → avi.frame_read place a ≡ Ok (Some (bytes, to), b) → FramesBefore file b next to (before ++ (bytes ∷ []))
+turned file a b head next place to bytes before same leads is = λ more rest reads.
+    leads (bytes ∷ more) rest (goes_on place to bytes a b more rest is reads)
+    ∙ ap (λ (z : Head). Ok ((z, before ++ (bytes ∷ more)), rest)) (sym same)
+    ∙ ap (λ (z : List (List ℕ)). Ok ((next, z), rest)) (sym (append_assoc before (bytes ∷ []) more))
+
+avi_frames : (s : Scope) (text old new : Option (List ℕ)) (from to : avi_reader.Standing) (bytes : List ℕ) → Known old new (λ a b. avi.frame_read from.place a ≡ Ok (Some (bytes, to.place), b)) → to.head ≡ from.head → names.least_bytes from.place.names ≤ names.least_bytes to.place.names → names.least_bytes from.place.names ≤ length bytes →
+    to.repeated ≡ with_repeated bytes from.repeated → Known text old (frames_reached s from.head (InAvi from.place) from.repeated) → Known text new (frames_reached s to.head (InAvi to.place) to.repeated)
+avi_frames s text old new from to bytes reads head least sized counted h = known_then text old new (frames_reached s from.head (InAvi from.place) from.repeated) (λ a b. avi.frame_read from.place a ≡ Ok (Some (bytes, to.place), b)) (frames_reached s to.head (InAvi to.place) to.repeated) (on s) h reads
+  where
+    on : (s : Scope) (file a b : List ℕ) → frames_reached s from.head (InAvi from.place) from.repeated file a → avi.frame_read from.place a ≡ Ok (Some (bytes, to.place), b) → frames_reached s to.head (InAvi to.place) to.repeated file b
+    on scope.FirstMovi file a b (some, none) is = (omega (arith, some, least), counted ∙ not_repeated bytes from.repeated (omega (arith, some, sized)) ∙ none)
+    on scope.Whole file a b (before, leads, are) is = (before ++ (bytes ∷ []), turned file a b from.head to.head from.place to.place bytes before head leads is, counted ∙ ap (with_repeated bytes) are ∙ with_one before bytes)
+
+-- all frames of an AVI, and how many of them have no bytes
+pub record AllFrames (file rest : List ℕ) (head : Head) (repeated : ℕ) : Type 0 where
+  pub frames : List (List ℕ)
+  pub gives : file_read scope.Whole file ≡ Ok ((head, frames), rest)
+  pub counted : repeated ≡ repeated_in frames
+
+all_frames : (file a b : List ℕ) (head : Head) (place : AviPlace) (repeated : ℕ) → avi.frame_read place a ≡ Ok (None, b) → frames_reached scope.Whole head (InAvi place) repeated file a → AllFrames file b head repeated
+all_frames file a b head place repeated is (before, leads, are) = record {
+  frames = before;
+  gives = leads [] b (goes_no_more place a b is) ∙ ap (λ (z : List (List ℕ)). Ok ((head, z), b)) (append-nil before);
+  counted = are;
+}
 
 -- after a frame of an AVI
-avi_goes : (s : Scope) (text old new : Option (List ℕ)) (from to : avi_reader.Standing) → Goes old new → extent_of to.place ≡ extent_of from.place → to.after ≡ from.after → NotesReached s text old (in_avi from) → NotesReached s text new (in_avi to)
-avi_goes s text old new from to goes same kept h = record { known = known_then text old new (notes_reached s (InAvi from.place) 0 false from.after) (λ a b. Unit {0}) (notes_reached s (InAvi to.place) 0 false to.after) (on s) h.known goes }
+avi_goes : (s : Scope) (text old new : Option (List ℕ)) (from to : avi_reader.Standing) → Goes old new → extent_of to.place ≡ extent_of from.place → to.after ≡ from.after → NotesReached s text old (in_avi from) → Known text new (notes_reached s (InAvi to.place) 0 false to.after)
+avi_goes s text old new from to goes same kept h = known_then text old new (notes_reached s (InAvi from.place) 0 false from.after) (λ a b. Unit {0}) (notes_reached s (InAvi to.place) 0 false to.after) (on s) h.known goes
   where
     on : (s : Scope) (file a b : List ℕ) → notes_reached s (InAvi from.place) 0 false from.after file a → Unit {0} → notes_reached s (InAvi to.place) 0 false to.after file b
     on scope.FirstMovi file a b (e, none) u = (same ∙ e, kept ∙ none)
     on scope.Whole file a b e u = same ∙ e
 
 -- what an AVI tells
-avi_told : (place : AviPlace) (after : Option ℕ) (behind rest : List ℕ) (notes : Notes) → notes_read (InAvi place) 0 false after behind ≡ Ok (notes, rest) → (notes ≡ record { is_open = false; after = after }) × (rest ≡ behind)
+abbrev avi_notes : ℕ → Option ℕ → Notes
+avi_notes repeated after = record { is_open = false; repeated = repeated; after = after }
+
+avi_told : (place : AviPlace) (after : Option ℕ) (repeated : ℕ) (behind rest : List ℕ) (notes : Notes) → notes_read (InAvi place) 0 false after repeated behind ≡ Ok (notes, rest) → (notes ≡ avi_notes repeated after) × (rest ≡ behind)
 unfolding notes_read
-avi_told place after behind rest notes h =
-    let told : Notes = record { is_open = false; after = after } in
+avi_told place after repeated behind rest notes h =
+    let told : Notes = avi_notes repeated after in
     let both = ok_is (told, behind) (notes, rest) h in
     (sym (ap (λ (z : Notes × List ℕ). z.0) both), sym (ap (λ (z : Notes × List ℕ). z.1) both))
 
@@ -211,8 +296,8 @@ told_after file behind rest end (Some n) is (same, (bytes, some, taken)) = other
     others [] none at = let long : 0 ≡ length bytes + length rest = ap length none ∙ length-append bytes rest in absurd (omega (arith, long, some))
     others (b ∷ bs) is at = ap Some at
 
-riffs_end : (file a b : List ℕ) (from : avi_reader.Standing) (after : Option ℕ) (notes : Notes) → AviReached EveryRiff (Some file) (Some a) from.head from.place from.offset → EndsBehind from.place (Some a) (Some b) from.offset after → notes ≡ record { is_open = false; after = after } → RiffsEnd file b notes
-riffs_end file a b from after notes h ends are = on_between ends.between ends.chunks ends.over ends.told
+riffs_end : (file a b : List ℕ) (from : avi_reader.Standing) (after : Option ℕ) (repeated : ℕ) (notes : Notes) → AviReached EveryRiff (Some file) (Some a) from.head from.place from.offset → EndsBehind from.place (Some a) (Some b) from.offset after → AllFrames file b from.head repeated → notes ≡ avi_notes repeated after → RiffsEnd file b notes
+riffs_end file a b from after repeated notes h ends all are = on_between ends.between ends.chunks ends.over ends.told
   where
     on_between : (between : Option (List ℕ)) → ReadsUpTo from.place (Some a) between ends.to from.offset ends.end → ReadOrNone (riff_begun ends.to) between (Some b) None → StandAfter between (Some b) ends.end after → RiffsEnd file b notes
     on_between None chunks over told = absurd chunks.1.consumed
@@ -229,34 +314,60 @@ riffs_end file a b from after notes h ends are = on_between ends.between ends.ch
           riff = ends.riff;
           every = ends.every;
           over = none_known (riff_begun ends.to) (record { old = Some behind; new = Some b; before = 0; after = 0 }) None over;
-          notes_are = are ∙ ap (λ (z : Option ℕ). record { is_open = false; after = z }) where_from;
+          frames = all.frames;
+          gives = all.gives;
+          notes_are = are ∙ ap (avi_notes repeated) where_from ∙ ap (λ (n : ℕ). avi_notes n (stands_after file behind)) all.counted;
         }
 
 -- at the end of an AVI
-avi_over : (s : Scope) (text old new : Option (List ℕ)) (before failed : ℕ) (from to : avi_reader.Standing) → Goes old new → BehindEnd (extent_of from.place) from.place from.offset from.after (record { old = old; new = new; before = before; after = failed }) to.after → Reached s text old (in_avi from) →
+avi_over : (s : Scope) (text old new : Option (List ℕ)) (before failed : ℕ) (from to : avi_reader.Standing) → Known old new (λ a b. avi.frame_read from.place a ≡ Ok (None, b)) → to.repeated ≡ from.repeated → BehindEnd (extent_of from.place) from.place from.offset from.after (record { old = old; new = new; before = before; after = failed }) to.after → Reached s text old (in_avi from) →
     NotesReached s text old (in_avi from) → NotesEnd s text new (in_avi to)
-avi_over s None old new before failed from to goes ends reached h = record { known = tt }
-avi_over s (Some file) None new before failed from to goes ends reached h = absurd h.known
-avi_over s (Some file) (Some a) None before failed from to goes ends reached h = absurd goes
-avi_over scope.FirstMovi (Some file) (Some a) (Some b) before failed from to goes ends reached h =
+avi_over s None old new before failed from to goes counted ends reached h = record { known = tt }
+avi_over s (Some file) None new before failed from to goes counted ends reached h = absurd h.known
+avi_over s (Some file) (Some a) None before failed from to goes counted ends reached h = absurd goes
+avi_over scope.FirstMovi (Some file) (Some a) (Some b) before failed from to goes counted ends reached h =
     let P : Extent → Type 0 = λ z. BehindEnd z from.place from.offset from.after (record { old = Some a; new = Some b; before = before; after = failed }) to.after in
     let none : to.after ≡ None = (subst P h.known.0 ends) h.known.1 in
-    record { known = λ notes rest read. (avi_told to.place to.after b rest notes read).0 ∙ ap (λ (z : Option ℕ). record { is_open = false; after = z }) none }
-avi_over scope.Whole (Some file) (Some a) (Some b) before failed from to goes ends reached h =
+    record {
+      known = λ notes rest read.
+          (avi_told to.place to.after to.repeated b rest notes read).0 ∙ ap (avi_notes to.repeated) none
+          ∙ ap (λ (n : ℕ). avi_notes n None) (counted ∙ h.frames.1);
+    }
+avi_over scope.Whole (Some file) (Some a) (Some b) before failed from to goes counted ends reached h =
     let P : Extent → Type 0 = λ z. BehindEnd z from.place from.offset from.after (record { old = Some a; new = Some b; before = before; after = failed }) to.after in
     let there : EndsBehind from.place (Some a) (Some b) from.offset to.after = subst P h.known ends in
-    record { known = λ notes rest read. (let told = avi_told to.place to.after b rest notes read in inl (rw told.1 (riffs_end file a b from to.after notes reached.whole there told.0))) }
+    let all : AllFrames file b from.head from.repeated = all_frames file a b from.head from.place from.repeated goes h.frames in
+    record {
+      known = λ notes rest read.
+          (let told = avi_told to.place to.after to.repeated b rest notes read in
+          inl (rw told.1 (riffs_end file a b from to.after from.repeated notes reached.whole there all (told.0 ∙ ap (λ (n : ℕ). avi_notes n to.after) counted))));
+    }
 
-pub avi_noted : {X : Type 0} (ends : Endings X) (view : Bool → X) (reading : Reading X) (s : Scope) (text : Option (List ℕ)) (from to : avi_reader.Standing) (p : Passage) (r : Result Bool FileFault) → FileAnswers ends view reading p r → IfOk r (λ more. more ≡ true → extent_of to.place ≡ extent_of from.place) →
+-- what a call for a frame of an AVI has read, and how large frames are
+pub record AviCalled (from to : avi_reader.Standing) (bytes : List ℕ) (p : Passage) (r : Result Bool FileFault) : Type 0 where
+  pub answer : AnswersFrom from.place (λ (more : Bool). avi_reader.next_of more bytes to.place) (avi.frame_read from.place) p r
+  pub stands : avi_reader.StandsAfter from r to
+  pub least : names.least_bytes from.place.names ≤ names.least_bytes to.place.names
+  pub sized : IfOk r (λ more. more ≡ true → (names.least_bytes from.place.names ≤ length bytes) × (length bytes ≤ names.most_bytes from.place.names))
+  pub counted : to.repeated ≡ avi_reader.repeated_after r bytes from.repeated
+
+pub avi_noted : (s : Scope) (text : Option (List ℕ)) (from to : avi_reader.Standing) (bytes : List ℕ) (p : Passage) (r : Result Bool FileFault) → AviCalled from to bytes p r → IfOk r (λ more. more ≡ true → extent_of to.place ≡ extent_of from.place) →
     avi_behind.BehindAfter from.place from.offset from.after p r to.after → Reached s text p.old (in_avi from) → NotesReached s text p.old (in_avi from) → NotesNext s text p r (in_avi to)
-avi_noted ends view reading s text from to p (Ok true) answer same behind reached h = avi_goes s text p.old p.new from to (goes_by ends view reading p true answer) (same refl) behind h
-avi_noted ends view reading s text from to p (Ok false) answer same behind reached h = avi_over s text p.old p.new p.before p.after from to (goes_by ends view reading p false answer) behind reached h
-avi_noted ends view reading s text from to p (Err f) answer same behind reached h = tt
+avi_noted s text from to bytes p (Ok true) called same behind reached h =
+    let reads = by_reads (avi.frame_read from.place) (λ (more : Bool). avi_reader.next_of more bytes to.place) p (extent_of from.place) true called.answer in
+    record {
+      known = avi_goes s text p.old p.new from to (known_map p.old p.new (λ a b. avi.frame_read from.place a ≡ Ok (Some (bytes, to.place), b)) (λ a b. Unit {0}) (λ a b is. tt) reads.1) (same refl) behind h;
+      frames = avi_frames s text p.old p.new from to bytes reads.1 called.stands.2 called.least (called.sized refl).0 called.counted h.frames;
+    }
+avi_noted s text from to bytes p (Ok false) called same behind reached h =
+    let reads = by_reads (avi.frame_read from.place) (λ (more : Bool). avi_reader.next_of more bytes to.place) p (extent_of from.place) false called.answer in
+    avi_over s text p.old p.new p.before p.after from to reads.1 called.counted behind reached h
+avi_noted s text from to bytes p (Err f) called same behind reached h = tt
 
 -- after a frame of a Segment
 segment_goes : (s : Scope) (text old new : Option (List ℕ)) (from to : matroska_reader.Standing) (count : ℕ) → to.track ≡ from.track → to.segment ≡ from.segment → to.end ≡ from.end → ReadsWhole (cued_taken from.track.numbers) (from.place, from.cued) old new (to.place, to.cued) count →
     NotesReached s text old (in_matroska from) → NotesReached s text new (in_matroska to)
-segment_goes s None old new from to count track segment same whole h = record { known = tt }
+segment_goes s None old new from to count track segment same whole h = record { known = tt; frames = tt }
 segment_goes s (Some file) None new from to count track segment same whole h = absurd h.known
 segment_goes s (Some file) (Some a) None from to count track segment same whole h = absurd whole.consumed
 segment_goes scope.FirstMovi (Some file) (Some a) (Some b) from to count track segment same whole h = absurd h.known
@@ -274,15 +385,16 @@ segment_goes scope.Whole (Some file) (Some a) (Some b) from to count track segme
         numbers ∙ ap (λ (t : Track). t.numbers) (sym track),
         record { read = read; fits = there.fits; end_is = same ∙ there.end_is },
       );
+      frames = tt;
     }
 
 -- notes are read of a Segment by its size, and if that is known by where it ends
-notes_same : (s : Option ℕ) (track numbers : TrackNumbers) (here there : MatroskaPlace) (end other : ℕ) (cued : Bool) (text : List ℕ) → ((size : ℕ) → s ≡ Some size → end ≡ other) → notes_read (InMatroska s track here) end cued None text ≡ notes_read (InMatroska s numbers there) other cued None text
+notes_same : (s : Option ℕ) (track numbers : TrackNumbers) (here there : MatroskaPlace) (end other : ℕ) (cued : Bool) (text : List ℕ) → ((size : ℕ) → s ≡ Some size → end ≡ other) → notes_read (InMatroska s track here) end cued None 0 text ≡ notes_read (InMatroska s numbers there) other cued None 0 text
 unfolding notes_read segment_behind
 notes_same None track numbers here there end other cued text same = refl
 notes_same (Some size) track numbers here there end other cued text same = rw (same size refl) refl
 
--- which is behind as many bytes as it has
+-- which is after as many bytes as it has
 ends_behind : (file begun left amount most : ℕ) → begun ≡ amount + left → begun ≤ file → min (min (0 + (file - begun)) most + amount) most ≡ min (0 + (file - left)) most
 ends_behind file begun left amount most long fits = grind (arith, long, fits)
 
@@ -334,7 +446,7 @@ segment_over scope.Whole (Some file) (Some a) new from to place (Some mid) count
           read = read;
           over = ap (λ (t : TrackNumbers). step_read t place mid) numbers ∙ over ∙ ap (λ z. Ok (None, z)) (sym nothing);
           noted = sym (notes_same opened.segment to.track.numbers opened.track.numbers to.place place to.end (bytes_before file mid) to.cued mid (λ size has. at_end size (same ∙ there.end_is) has))
-              ∙ ap (λ (z : Option ℕ). notes_read (InMatroska z to.track.numbers to.place) to.end to.cued None mid) (h.known.1 ∙ sym segment)
+              ∙ ap (λ (z : Option ℕ). notes_read (InMatroska z to.track.numbers to.place) to.end to.cued None 0 mid) (h.known.1 ∙ sym segment)
               ∙ ap (notes_of (in_matroska to)) nothing ∙ looked;
         })
 

@@ -8,13 +8,19 @@ use Rattle.ffv1_matroska.specs.Readers.{is_open, segment_behind}
 use Rattle.ffv1_matroska.specs.declared.place.Place.{Place as MatroskaPlace}
 use Rattle.ffv1_matroska.specs.declared.track.TrackNumbers.{TrackNumbers}
 use Rattle.ffv1_files.specs.Behind.{noted, notes_read}
-use Rattle.ffv1_files.specs.Noted.{RiffsEnd, SegmentEnds, bytes_before, no_notes, stands_after}
+use Rattle.ffv1_files.specs.Noted.{RiffsEnd, SegmentEnds, bytes_before, no_notes, repeated_in, stands_after}
 use Rattle.ffv1_files.specs.Places.{InMatroska}
 use Rattle.ffv1_files.specs.declared.notes.Notes.{Notes}
 
 -- of an AVI
-pub avi_bare : (file rest : List ℕ) (notes : Notes) (is : RiffsEnd file rest notes) → is.behind ≡ [] → notes ≡ no_notes
-avi_bare file rest notes is none = is.notes_are ∙ ap (λ (z : List ℕ). record { is_open = false; after = stands_after file z }) none
+abbrev avi_with : List ℕ → List (List ℕ) → List ℕ → Notes
+avi_with file frames behind = record { is_open = false; repeated = repeated_in frames; after = stands_after file behind }
+
+pub avi_bare : (file rest : List ℕ) (notes : Notes) (is : RiffsEnd file rest notes) → is.behind ≡ [] → notes ≡ record no_notes { repeated = repeated_in is.frames }
+avi_bare file rest notes is none = is.notes_are ∙ ap (avi_with file is.frames) none
+
+pub avi_repeated : (file rest : List ℕ) (notes : Notes) (is : RiffsEnd file rest notes) → notes.repeated ≡ repeated_in is.frames
+avi_repeated file rest notes is = ap (λ (n : Notes). n.repeated) is.notes_are
 
 pub avi_others : (file rest : List ℕ) (notes : Notes) (is : RiffsEnd file rest notes) → 0 < length is.behind → (notes.is_open ≡ false) × (notes.after ≡ Some (bytes_before file is.behind))
 avi_others file rest notes is some = (ap (λ (n : Notes). n.is_open) is.notes_are, ap (λ (n : Notes). n.after) is.notes_are ∙ stand is.behind some)
@@ -27,7 +33,7 @@ avi_others file rest notes is some = (ap (λ (n : Notes). n.is_open) is.notes_ar
 abbrev Told : ℕ → Bool → ℕ → List ℕ → List ℕ → Notes → Type 0
 Told size cued end behind rest notes = (some : Bool) × (behind_read behind ≡ Ok (some, rest)) × (notes ≡ noted (Some size) cued end some)
 
-size_told : (size : ℕ) (track : TrackNumbers) (to : MatroskaPlace) (end : ℕ) (cued : Bool) (behind rest : List ℕ) (notes : Notes) → notes_read (InMatroska (Some size) track to) end cued None behind ≡ Ok (notes, rest) → Told size cued end behind rest notes
+size_told : (size : ℕ) (track : TrackNumbers) (to : MatroskaPlace) (end : ℕ) (cued : Bool) (behind rest : List ℕ) (notes : Notes) → notes_read (InMatroska (Some size) track to) end cued None 0 behind ≡ Ok (notes, rest) → Told size cued end behind rest notes
 unfolding notes_read segment_behind
 size_told size track to end cued behind rest notes h =
     let first = read_on_ok (behind_read behind) (λ some. given (noted (Some size) cued end some)) (notes, rest) h in
@@ -38,7 +44,7 @@ size_told size track to end cued behind rest notes h =
 module _ (file rest : List ℕ) (notes : Notes) (is : SegmentEnds file rest notes) where
   segment_told : (size : ℕ) → is.opened.segment ≡ Some size → Told size is.cued (bytes_before file is.behind) is.behind rest notes
   segment_told size has = size_told size is.opened.track.numbers is.to (bytes_before file is.behind) is.cued is.behind rest notes
-      (sym (ap (λ (z : Option ℕ). notes_read (InMatroska z is.opened.track.numbers is.to) (bytes_before file is.behind) is.cued None is.behind) has) ∙ is.noted)
+      (sym (ap (λ (z : Option ℕ). notes_read (InMatroska z is.opened.track.numbers is.to) (bytes_before file is.behind) is.cued None 0 is.behind) has) ∙ is.noted)
 
   pub segment_bare : (size : ℕ) → is.opened.segment ≡ Some size → is.behind ≡ [] → notes ≡ no_notes
   unfolding is_open
@@ -60,7 +66,7 @@ module _ (file rest : List ℕ) (notes : Notes) (is : SegmentEnds file rest note
       on_told (false, read, are) = absurd (omega (arith, some, ap length (nothing is.behind rest read)))
 
 -- of one whose size is unknown
-open_told : (track : TrackNumbers) (to : MatroskaPlace) (end : ℕ) (cued : Bool) (behind rest : List ℕ) (notes : Notes) → notes_read (InMatroska None track to) end cued None behind ≡ Ok (notes, rest) → (notes.is_open ≡ not cued) × (notes.after ≡ None) × (rest ≡ behind)
+open_told : (track : TrackNumbers) (to : MatroskaPlace) (end : ℕ) (cued : Bool) (behind rest : List ℕ) (notes : Notes) → notes_read (InMatroska None track to) end cued None 0 behind ≡ Ok (notes, rest) → (notes.is_open ≡ not cued) × (notes.after ≡ None) × (rest ≡ behind)
 unfolding notes_read segment_behind is_open
 open_told track to end cued behind rest notes h =
     let both = ok_is (noted None cued end false, behind) (notes, rest) h in
@@ -69,4 +75,14 @@ open_told track to end cued behind rest notes h =
 
 pub segment_unknown : (file rest : List ℕ) (notes : Notes) (is : SegmentEnds file rest notes) → is.opened.segment ≡ None → (notes.is_open ≡ not is.cued) × (notes.after ≡ None) × (rest ≡ is.behind)
 segment_unknown file rest notes is none = open_told is.opened.track.numbers is.to (bytes_before file is.behind) is.cued is.behind rest notes
-    (sym (ap (λ (z : Option ℕ). notes_read (InMatroska z is.opened.track.numbers is.to) (bytes_before file is.behind) is.cued None is.behind) none) ∙ is.noted)
+    (sym (ap (λ (z : Option ℕ). notes_read (InMatroska z is.opened.track.numbers is.to) (bytes_before file is.behind) is.cued None 0 is.behind) none) ∙ is.noted)
+
+-- of any, no frame repeats another
+any_repeated : (size : Option ℕ) (track : TrackNumbers) (to : MatroskaPlace) (end : ℕ) (cued : Bool) (behind rest : List ℕ) (notes : Notes) → notes_read (InMatroska size track to) end cued None 0 behind ≡ Ok (notes, rest) → notes.repeated ≡ 0
+unfolding notes_read
+any_repeated size track to end cued behind rest notes h =
+    let first = read_on_ok (segment_behind size behind) (λ some. given (noted size cued end some)) (notes, rest) h in
+    sym (ap (λ (z : Notes × List ℕ). z.0.repeated) (ok_is (noted size cued end first.0.0, first.0.1) (notes, rest) first.2))
+
+pub segment_repeated : (file rest : List ℕ) (notes : Notes) → SegmentEnds file rest notes → notes.repeated ≡ 0
+segment_repeated file rest notes is = any_repeated is.opened.segment is.opened.track.numbers is.to (bytes_before file is.behind) is.cued is.behind rest notes is.noted

@@ -1,5 +1,6 @@
 -- What is noted of an AVI is told by its bytes: its chunks end in one place.
 use Rattle.std.proofs.Common.{◌≡◌, ◌⊎◌, ◌==◌, ◌++◌, ℕ, Bool, true, false, Option, Some, None, Ok, List, [], ◌∷◌, inl, inr, refl, sym, ap, ◌∙◌, subst, append_assoc}
+use Rattle.ffv1_reads.specs.Head.{Head}
 use Rattle.ffv1_reads.specs.Offsets.{Leads, ReadsWhole, all_bytes}
 use Rattle.ffv1_reads.specs.Reads.{Reading}
 use Rattle.ffv1_reads.proofs.Results.{ok_is}
@@ -10,10 +11,10 @@ use Rattle.ffv1_avi.specs.Walk.{entry_in}
 use Rattle.ffv1_avi.specs.declared.place.Extent.{Extent}
 use Rattle.ffv1_avi.specs.declared.place.Extent.TheVariants.{FirstMovi, EveryRiff}
 use Rattle.ffv1_avi.specs.declared.place.Place.{Place as AviPlace}
-use Rattle.ffv1_files.specs.Noted.{RiffsEnd, stands_after}
+use Rattle.ffv1_files.specs.Noted.{RiffsEnd, repeated_in, stands_after}
 use Rattle.ffv1_files.specs.declared.notes.Notes.{Notes}
 
--- elements are read up to where they stop, behind which none of them comes to another such place
+-- elements are read up to where they stop, after which none of them comes to another such place
 module _ {S : Type 0} (element : S → Reading S) (Stop : S → List ℕ → Type 0) (Dead : S → Type 0)
     (stops : (s next : S) (text more : List ℕ) → Stop s text → element s text ≡ Ok (next, more) → ((next ≡ s) × (more ≡ text)) ⊎ Dead next)
     (stays : (s next : S) (text more : List ℕ) → Dead s → element s text ≡ Ok (next, more) → Dead next)
@@ -126,7 +127,12 @@ riffs_once file rest left notes others h k = on_between h.chunks.between k.chunk
         let place : h.chunks.first ≡ k.chunks.first = ap (same_place h.chunks.first) begins.0 in
         let moved : ReadsWhole chunk_taken h.chunks.first (Some a) (Some k.behind) k.to k.chunks.after = rw (place, begins.1) second in
         let end = reads_once chunk_taken Over Ended over_stops ended_stays ended_never a h.behind k.behind first there moved here in
-        let over : riff_begun h.to h.behind ≡ riff_begun k.to k.behind = rw (end.0, end.1) refl in (
-          h.notes_are ∙ ap (λ (z : List ℕ). record { is_open = false; after = stands_after file z }) end.1 ∙ sym k.notes_are,
+        let over : riff_begun h.to h.behind ≡ riff_begun k.to k.behind = rw (end.0, end.1) refl in
+        let gives = ok_is ((h.head, h.frames), rest) ((k.head, k.frames), left) (sym h.gives ∙ k.gives) in
+        let frames : h.frames ≡ k.frames = ap (λ (z : (Head × List (List ℕ)) × List ℕ). z.0.1) gives in (
+          h.notes_are
+              ∙ ap (λ (z : List (List ℕ)). record { is_open = false; repeated = repeated_in z; after = stands_after file h.behind }) frames
+              ∙ ap (λ (z : List ℕ). record { is_open = false; repeated = repeated_in k.frames; after = stands_after file z }) end.1
+              ∙ sym k.notes_are,
           ap (λ (z : Option AviPlace × List ℕ). z.1) (ok_is (None, rest) (None, left) (sym h.over ∙ over ∙ k.over)),
         )

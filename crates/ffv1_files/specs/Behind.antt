@@ -1,12 +1,13 @@
--- What stands behind the end of a file, and what its end leaves to be noted.
+-- What stands after the end of a file, and what its end leaves to be noted.
 use Rattle.std.specs.Prelude.{◌≡◌, ℕ, Bool, true, false, if◌then◌else◌, Option, Some, None, Result}
-use Rattle.std.specs.Prelude.{⊤}
+use Rattle.std.specs.Prelude.{List, ⊤}
 use Rattle.ffv1_wire.specs.Passage.{Passage}
 use Rattle.ffv1_reads.specs.Offsets.{offset_after}
 use Rattle.ffv1_reads.specs.Reads.{Reading, given, ◌>>=◌}
 use Rattle.ffv1_reads.specs.declared.fault.FileFault.{FileFault}
 use Rattle.ffv1_reads.specs.declared.fault.FileFault.TheVariants as fault
 use Rattle.ffv1_avi.specs.Behind as avi
+use Rattle.ffv1_avi.specs.Readers as avi_reader
 use Rattle.ffv1_matroska.specs.Cues.{CuedNext}
 use Rattle.ffv1_matroska.specs.Places as matroska
 use Rattle.ffv1_matroska.specs.Readers.{is_open, segment_behind}
@@ -15,20 +16,30 @@ use Rattle.ffv1_files.specs.Places.{InAvi, InMatroska, Place}
 use Rattle.ffv1_files.specs.Readers.{Standing}
 use Rattle.ffv1_files.specs.declared.notes.Notes.{Notes}
 
--- a Segment of this size, with Cues behind its last Cluster or without, ends after so many bytes of
+-- a Segment of this size, with Cues after its last Cluster or without, ends after so many bytes of
 -- the file; others stand there or not
 abbrev pub noted : Option ℕ → Bool → ℕ → Bool → Notes
 noted segment cued end some =
-    record { is_open = is_open segment cued; after = if some then Some end else None }
+    record {
+      is_open = is_open segment cued;
+      repeated = 0;
+      after = if some then Some end else None;
+    }
 
--- what stands behind the end, as notes; behind an AVI it was looked at before
-unfoldable pub notes_read : Place → ℕ → Bool → Option ℕ → Reading Notes
-notes_read (InAvi place) end cued after = given (record { is_open = false; after = after })
-notes_read (InMatroska segment track place) end cued after =
+-- what stands after the end, as notes; after an AVI it was looked at before, and so many of its
+-- frames had no bytes
+unfoldable pub notes_read : Place → ℕ → Bool → Option ℕ → ℕ → Reading Notes
+notes_read (InAvi place) end cued after repeated =
+    given (record { is_open = false; repeated = repeated; after = after })
+notes_read (InMatroska segment track place) end cued after repeated =
     segment_behind segment >>= λ some. given (noted segment cued end some)
 
 abbrev pub notes_of : Standing → Reading Notes
-notes_of r = notes_read r.place r.end r.cued r.after
+notes_of r = notes_read r.place r.end r.cued r.after r.repeated
+
+-- the same where Cues came after the last Cluster, or did not, as the items of the file say
+abbrev pub items_noted : Standing → Bool → Reading Notes
+items_noted r cued = notes_read r.place r.end cued r.after r.repeated
 
 -- the end of the input may be any answer
 abbrev pub any_value : {X : Type 0} → Endings X
@@ -51,7 +62,7 @@ end_stays (InMatroska segment track place) before after = after ≡ before
 abbrev pub EndStays : Standing → Standing → Type 0
 EndStays old new = end_stays old.place old.end new.end
 
--- the faults that looking behind a file has
+-- the faults of a look at what stands after a file
 abbrev pub is_behind_fault : Place → FileFault → Bool
 is_behind_fault (InAvi place) f = false
 is_behind_fault (InMatroska segment track place) fault.Read = true
@@ -67,7 +78,7 @@ cued_after from before p result to after = ⊤
 abbrev pub CuedAfter : Standing → Passage → Result Bool FileFault → Standing → Type 0
 CuedAfter old p result new = cued_after old.place old.cued p result new.place new.cued
 
--- where bytes stand behind the last RIFF of an AVI, after a call for a frame
+-- where bytes stand after the last RIFF of an AVI, after a call for a frame
 abbrev pub behind_after : Place → ℕ → Option ℕ → Passage → Result Bool FileFault → Option ℕ →
     Type 0
 behind_after (InAvi from) before was p result after = avi.BehindAfter from before was p result after
@@ -75,3 +86,9 @@ behind_after (InMatroska size track from) before was p result after = after ≡ 
 
 abbrev pub BehindAfter : Standing → Passage → Result Bool FileFault → Standing → Type 0
 BehindAfter old p result new = behind_after old.place old.offset old.after p result new.after
+
+-- how many frames of an AVI had no bytes, after a call for one; no frame of a Segment has none
+abbrev pub repeated_after : Place → Result Bool FileFault → List ℕ → ℕ → ℕ
+repeated_after (InAvi place) result bytes repeated =
+    avi_reader.repeated_after result bytes repeated
+repeated_after (InMatroska segment track place) result bytes repeated = repeated

@@ -11,6 +11,7 @@ use Rattle.ffv1_reads.specs.declared.fault.FileFault.TheVariants as fault
 use Rattle.ffv1_avi.specs.Files as avi
 use Rattle.ffv1_avi.specs.Places.{extent_of}
 use Rattle.ffv1_avi.specs.declared.place.Place.{Place as AviPlace}
+use Rattle.ffv1_matroska.specs.CuedItems as cued
 use Rattle.ffv1_matroska.specs.Items as matroska
 use Rattle.ffv1_matroska.specs.Items.{Given, GivesFrame, Tells, ended_course}
 use Rattle.ffv1_matroska.specs.declared.course.Course.{Course}
@@ -39,6 +40,11 @@ unfoldable pub item_read : Place → Course → Reading Next
 item_read (InAvi place) c = avi.frame_read place >>= λ o. given (avi_item c o)
 item_read (InMatroska segment track place) c =
     matroska.item_read track c >>= λ o. given (matroska_item (InMatroska segment track place) o)
+
+-- whether Cues came after the last Cluster, after the next item or the end; an AVI has none
+unfoldable pub cued_item : Place → Course → Bool → List ℕ → Bool
+cued_item (InAvi place) c was text = was
+cued_item (InMatroska segment track place) c was text = cued.cued_item track c was text
 
 -- where it goes on from where a reader stands; an AVI needs no course
 abbrev pub course_by : Place → ℕ → Course

@@ -1,12 +1,14 @@
 -- What is noted of a file, by its bytes alone: what the end of its frames leaves in doubt.
-use Rattle.std.specs.Prelude.{◌≡◌, ◌≤◌, ◌⊎◌, ◌-◌, ℕ, Bool, true, false, List, [], ◌∷◌, length}
+use Rattle.std.specs.Prelude.{◌≡◌, ◌≤◌, ◌⊎◌, ◌-◌, ◌^◌, min, ℕ, Bool, true, false, List, [], ◌∷◌}
+use Rattle.std.specs.Prelude.{◌++◌, length}
 use Rattle.std.specs.Prelude.{Option, Some, None, Result, Ok, Err, ⊤}
+use Rattle.std.proofs.Common.{suc}
 use Rattle.ffv1_wire.specs.Passage.{Passage}
 use Rattle.ffv1_reads.specs.Head.{Head}
 use Rattle.ffv1_reads.specs.Known.{Known}
 use Rattle.ffv1_reads.specs.Offsets.{ReadsWhole, offset_after}
 use Rattle.ffv1_reads.specs.declared.fault.FileFault.{FileFault}
-use Rattle.ffv1_avi.specs.Files.{riff_begun}
+use Rattle.ffv1_avi.specs.Files.{frames_read, riff_begun}
 use Rattle.ffv1_avi.specs.Places.{extent_of}
 use Rattle.ffv1_avi.specs.declared.place.Extent.TheVariants.{FirstMovi, EveryRiff}
 use Rattle.ffv1_avi.specs.declared.place.Place.{Place as AviPlace}
@@ -16,8 +18,9 @@ use Rattle.ffv1_matroska.specs.Places.{amount}
 use Rattle.ffv1_matroska.specs.Segments.{step_read}
 use Rattle.ffv1_matroska.specs.declared.place.Place.{Place as MatroskaPlace}
 use Rattle.ffv1_files.specs.Behind.{notes_of, notes_read}
+use Rattle.ffv1_files.specs.Files.{file_read}
 use Rattle.ffv1_files.specs.Offsets.{AviReached}
-use Rattle.ffv1_files.specs.Places.{InAvi, InMatroska, Place}
+use Rattle.ffv1_files.specs.Places.{InAvi, InMatroska, Place, least_bytes}
 use Rattle.ffv1_files.specs.Readers.{Standing}
 use Rattle.ffv1_files.specs.declared.container.Scope.{Scope}
 use Rattle.ffv1_files.specs.declared.container.Scope.TheVariants as scope
@@ -25,19 +28,30 @@ use Rattle.ffv1_files.specs.declared.notes.Notes.{Notes}
 
 -- nothing is noted
 abbrev pub no_notes : Notes
-no_notes = record { is_open = false; after = None }
+no_notes = record { is_open = false; repeated = 0; after = None }
 
 -- how many bytes of a file come before those that are left of it; it is held in 8 bytes
 abbrev pub bytes_before : List ℕ → List ℕ → ℕ
 bytes_before file left = offset_after 0 (length file - length left)
 
--- the same of bytes that stand behind its end, if any do
+-- the same of bytes that stand after its end, if any do
 abbrev pub stands_after : List ℕ → List ℕ → Option ℕ
 stands_after file [] = None
 stands_after file (b ∷ bs) = Some (bytes_before file (b ∷ bs))
 
--- an AVI: its chunks are read whole up to the end of an RIFF, behind which no further one begins,
--- nor another file, and no frame is owed. What stands there is noted, and is no chunk
+-- how many frames have no bytes, each of which repeats the one before it
+abbrev pub repeats : List (List ℕ) → ℕ
+repeats [] = 0
+repeats ([] ∷ frames) = suc (repeats frames)
+repeats ((b ∷ bs) ∷ frames) = repeats frames
+
+-- that number; it is held in 8 bytes
+abbrev pub repeated_in : List (List ℕ) → ℕ
+repeated_in frames = min (repeats frames) (2 ^ 64 - 1)
+
+-- an AVI: its chunks are read whole up to the end of an RIFF, after which no further one begins,
+-- nor another file, and no frame is owed. What stands there is noted, and is no chunk; and it is
+-- noted how many of its frames have no bytes
 pub record RiffsEnd (file rest : List ℕ) (notes : Notes) : Type 0 where
   pub head : Head
   pub to : AviPlace
@@ -48,7 +62,13 @@ pub record RiffsEnd (file rest : List ℕ) (notes : Notes) : Type 0 where
   pub riff : to.riff ≡ 0
   pub every : extent_of to ≡ EveryRiff
   pub over : riff_begun to behind ≡ Ok (None, rest)
-  pub notes_are : notes ≡ record { is_open = false; after = stands_after file behind }
+  pub frames : List (List ℕ)
+  pub gives : file_read scope.Whole file ≡ Ok ((head, frames), rest)
+  pub notes_are : notes ≡ record {
+    is_open = false;
+    repeated = repeated_in frames;
+    after = stands_after file behind;
+  }
 
 -- a Segment: from where its frames begin its elements are read whole up to a place, and Cues came
 -- after the last Cluster of them or not
@@ -60,7 +80,7 @@ pub record SegmentRead (file left : List ℕ) (opened : Opened) (place : Matrosk
   pub elements : ReadsWhole (cued_taken opened.track.numbers) (opened.place, false) (Some begun)
       (Some left) (place, cued) count
 
--- up to its end, where no further element comes. What stands behind it is noted, if its size is
+-- up to its end, where no further element comes. What stands after it is noted, if its size is
 -- known; and if it is not, that no Cues came after its last Cluster
 pub record SegmentEnds (file rest : List ℕ) (notes : Notes) : Type 0 where
   pub opened : Opened
@@ -70,9 +90,9 @@ pub record SegmentEnds (file rest : List ℕ) (notes : Notes) : Type 0 where
   pub read : SegmentRead file behind opened to cued
   pub over : step_read opened.track.numbers to behind ≡ Ok (None, behind)
   pub noted : notes_read (InMatroska opened.segment opened.track.numbers to)
-      (bytes_before file behind) cued None behind ≡ Ok (notes, rest)
+      (bytes_before file behind) cued None 0 behind ≡ Ok (notes, rest)
 
--- what is noted of a file, and what is left behind the bytes that were looked at for that. Up to
+-- what is noted of a file, and what is left after the bytes that were looked at for that. Up to
 -- its first movi alone nothing is looked at, and nothing is noted
 abbrev pub IsNotedOf : Scope → List ℕ → List ℕ → Notes → Type 0
 IsNotedOf scope.FirstMovi file rest notes = notes ≡ no_notes
@@ -95,9 +115,26 @@ notes_reached scope.Whole (InMatroska segment track place) end cued after file l
     (opened : Opened) × (opened.segment ≡ segment) × (opened.track.numbers ≡ track)
     × SegmentReached file left opened place cued end
 
+-- these frames of an AVI come before a place in it: whatever frames are read from there on, the
+-- file has these and then those
+abbrev pub FramesBefore : List ℕ → List ℕ → Head → AviPlace → List (List ℕ) → Type 0
+FramesBefore file left head place before =
+    (more : List (List ℕ)) (rest : List ℕ) → frames_read place left ≡ Ok (more, rest) →
+    file_read scope.Whole file ≡ Ok ((head, before ++ more), rest)
+
+-- so many frames before a place have no bytes; none has, if the first movi is read alone
+abbrev pub frames_reached : Scope → Head → Place → ℕ → List ℕ → List ℕ → Type 0
+frames_reached scope.FirstMovi head place repeated file left =
+    (1 ≤ least_bytes place) × (repeated ≡ 0)
+frames_reached scope.Whole head (InAvi place) repeated file left =
+    (before : List (List ℕ)) × FramesBefore file left head place before
+    × (repeated ≡ repeated_in before)
+frames_reached scope.Whole head (InMatroska segment track place) repeated file left = ⊤
+
 -- if the bytes of the file are known
 pub record NotesReached (scope : Scope) (text left : Option (List ℕ)) (r : Standing) : Type 0 where
   pub known : Known text left (notes_reached scope r.place r.end r.cued r.after)
+  pub frames : Known text left (frames_reached scope r.head r.place r.repeated)
 
 -- the notes that a reader reads, once the frames have ended, are those of its file
 pub record NotesEnd (scope : Scope) (text left : Option (List ℕ)) (r : Standing) : Type 0 where

@@ -39,5 +39,13 @@ abbrev pub most_bytes : Place → ℕ
 most_bytes (InAvi place) = names.most_bytes place.names
 most_bytes (InMatroska segment track place) = frame_limit
 
+-- and the fewest; one of none repeats the frame before it
+abbrev pub least_bytes : Place → ℕ
+least_bytes (InAvi place) = names.least_bytes place.names
+least_bytes (InMatroska segment track place) = 1
+
+abbrev pub least_in : Scope → ℕ
+least_in scope = names.least_in (extent_in scope)
+
 abbrev pub most_in : Scope → ℕ
 most_in scope = names.most_in (extent_in scope)

@@ -14,8 +14,8 @@ use Rattle.ffv1_files.specs.Places.{InAvi, InMatroska, Place}
 
 -- the head of its file, where it stands in that, how many bytes come before, the fault that it has
 -- met, for how many bytes its record has room; of a Segment how many bytes come before its end, and
--- whether Cues came after the last Cluster so far; and of an AVI, after its end, how many bytes
--- come before others that stand behind its last RIFF
+-- whether Cues came after the last Cluster so far; of an AVI, after its end, how many bytes come
+-- before others that stand after its last RIFF, and how many frames so far had no bytes
 pub record Standing : Type 0 where
   pub head : Head
   pub place : Place
@@ -25,6 +25,7 @@ pub record Standing : Type 0 where
   pub end : ℕ
   pub cued : Bool
   pub after : Option ℕ
+  pub repeated : ℕ
 
 abbrev pub opened_at : Standing → Head × Place
 opened_at r = (r.head, r.place)
@@ -66,6 +67,7 @@ standing_of (inner.Avi r) = record {
   end = 0;
   cued = false;
   after = r.after;
+  repeated = r.repeated;
 }
 standing_of (inner.Matroska r) = record {
   head = r.track.head;
@@ -76,4 +78,5 @@ standing_of (inner.Matroska r) = record {
   end = r.end;
   cued = r.cued;
   after = None;
+  repeated = 0;
 }

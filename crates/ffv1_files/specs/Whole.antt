@@ -5,7 +5,7 @@ use Rattle.ffv1_matroska.specs.MatroskaFiles.{MatroskaFile}
 use Rattle.ffv1_reads.specs.Head.{Head}
 use Rattle.ffv1_files.specs.Files.{is_matroska}
 
--- an AVI with these frames in every RIFF, behind which no other file begins, and of what stands
+-- an AVI with these frames in every RIFF, after which no other file begins, and of what stands
 -- there this was not looked at; or a Matroska file with them, which begins with its first byte, and
 -- after whose Segment this stands
 abbrev pub IsWhole : List ℕ → Head → List (List ℕ) → List ℕ → Type 0

@@ -18,6 +18,7 @@ ghost use Rattle.ffv1_files.specs.Behind.{behind_after, notes_read};
 ghost use Rattle.ffv1_files.specs.declared.notes.Notes.{Notes};
 ghost use Rattle.ffv1_files.specs.Files.{file_read, frame_read, frames_read, more_frames};
 ghost use Rattle.ffv1_files.specs.Noted.{RiffsEnd, SegmentEnds, bytes_before, no_notes};
+ghost use Rattle.ffv1_files.specs.Noted.{repeated_in};
 ghost use Rattle.ffv1_files.specs.Whole.{IsWhole};
 ghost use Rattle.ffv1_files.specs.Places.{InAvi, InMatroska, Place, extent_in};
 
@@ -36,7 +37,7 @@ pub fn frames_come_in_turn()
 
 /// What is read is a file of that head and those frames: up to the end of the first `movi` an AVI
 /// by its chunks, after which this is left; and all of it an AVI by the chunks of every RIFF,
-/// behind which no other file begins, and of what stands there this was not looked at, or a
+/// after which no other file begins, and of what stands there this was not looked at, or a
 /// Matroska file by its elements, after whose Segment this is left.
 pub fn what_is_read_is_a_file()
     ensures first { (file : List ℕ) (head : Head) (frames : List (List ℕ)) (rest : List ℕ) →
@@ -63,8 +64,8 @@ pub fn file_is_read_as_its_frames()
     matroska_laws::file_is_read_as_its_frames();
 }
 
-/// If no bytes are noted behind a file, and no other file was met there, none stand there: the
-/// input has ended where the frames of an AVI did, and behind a Segment that has a size nothing
+/// If no bytes are noted after a file, and no other file was met there, none stand there: the
+/// input has ended where the frames of an AVI did, and after a Segment that has a size nothing
 /// comes.
 pub fn no_bytes_noted_are_none()
     ensures avi { (from : AviPlace) (text : List ℕ) (new : Option (List ℕ))
@@ -77,20 +78,25 @@ pub fn no_bytes_noted_are_none()
         }) (Ok false) None → new ≡ Some [] }
     ensures matroska { (size end : ℕ) (track : TrackNumbers) (place : MatroskaPlace) (cued : Bool)
         (text rest : List ℕ) (notes : Notes) →
-        notes_read (InMatroska (Some size) track place) end cued None text ≡ Ok (notes, rest) →
+        notes_read (InMatroska (Some size) track place) end cued None 0 text ≡ Ok (notes, rest) →
         notes.after ≡ None → text ≡ [] }
 {
     avi_laws::no_bytes_told_are_none();
     read_laws::what_stands_behind_is_known();
 }
 
-/// What is noted of a whole file says no more than its end does: nothing of an AVI behind which no
-/// bytes stand, nor of a Segment of known size behind which none do. Of one of unknown size it is
-/// whether Cues came after its last Cluster, and never bytes behind it. If bytes stand behind an
-/// AVI, it is noted how many come before them.
+/// What is noted of a whole file says no more than its end does, and how many of its frames repeat
+/// the one before them. Of an AVI after which no bytes stand it is that number alone, and of a
+/// Segment of known size after which none stand nothing. Of a Segment of unknown size it is whether
+/// Cues came after its last Cluster, and never bytes after it. If bytes stand after an AVI, it is
+/// noted how many come before them. No frame of a Segment repeats another.
 pub fn notes_say_what_the_end_leaves()
     ensures avi { (file rest : List ℕ) (notes : Notes) (is : RiffsEnd file rest notes) →
-        is.behind ≡ [] → notes ≡ no_notes }
+        is.behind ≡ [] → notes ≡ record no_notes { repeated = repeated_in is.frames } }
+    ensures repeated { (file rest : List ℕ) (notes : Notes) (is : RiffsEnd file rest notes) →
+        notes.repeated ≡ repeated_in is.frames }
+    ensures none { (file rest : List ℕ) (notes : Notes) → SegmentEnds file rest notes →
+        notes.repeated ≡ 0 }
     ensures others { (file rest : List ℕ) (notes : Notes) (is : RiffsEnd file rest notes) →
         0 < length is.behind → (notes.is_open ≡ false)
         × (notes.after ≡ Some (bytes_before file is.behind)) }
@@ -107,7 +113,7 @@ pub fn notes_say_what_the_end_leaves()
     read_laws::what_stands_behind_is_known();
 }
 
-/// What is noted of a file is told by its bytes, and so is what is left behind those that were
+/// What is noted of a file is told by its bytes, and so is what is left after those that were
 /// looked at.
 pub fn a_file_is_noted_in_one_way()
     ensures avi { (file rest left : List ℕ) (notes others : Notes) → RiffsEnd file rest notes →

@@ -4,7 +4,7 @@
 //! `FileReader::open` looks at the first byte of a file, and reads it up to where its frames begin;
 //! then `FileReader::head` tells its head, `FileReader::container` what it is, and each
 //! `FileReader::next_frame` gives the next frame, until it answers false. A reader holds no input,
-//! each call is lent the same one. Then `FileReader::look_behind` says what stands behind its end,
+//! each call is lent the same one. Then `FileReader::look_behind` says what stands after its end,
 //! and what that leaves in doubt. `laws` says that what is read is a file by its chunks or its
 //! elements, and that such a file is read.
 //!

@@ -4,9 +4,12 @@
 #[derive(Clone, Copy, Debug, PartialEq, Eq)]
 pub struct Notes {
     /// Nothing says that the file is whole: its Segment is of unknown size, and no Cues stand
-    /// behind its last Cluster.
+    /// after its last Cluster.
     pub is_open: bool,
-    /// The number of bytes of the file before others that stand behind its end, if any do.
+    /// How many frames of an AVI have no bytes: each repeats the one before it. A count of 64 bits
+    /// stays at its greatest value.
+    pub repeated: u64,
+    /// The number of bytes of the file before others that stand after its end, if any do.
     pub after: Option<u64>,
 }
 
@@ -14,6 +17,7 @@ impl Notes {
     /// Nothing is noted.
     pub const NONE: Notes = Notes {
         is_open: false,
+        repeated: 0,
         after: None,
     };
 }

@@ -14,14 +14,17 @@ ghost use Rattle.ffv1_files.specs.declared.container.Scope.TheVariants.{FirstMov
 ghost use Rattle.ffv1_files.specs.Answers.{FileAnswers};
 ghost use Rattle.std.specs.Prelude.{if◌then◌else◌};
 ghost use Rattle.ffv1_files.specs.Behind.{BehindAfter, CuedAfter, EndStays, EndsThere, any_value};
-ghost use Rattle.ffv1_files.specs.Behind.{is_behind_fault, notes_of, notes_read};
+ghost use Rattle.ffv1_files.specs.Behind.{is_behind_fault, items_noted, notes_of, notes_read};
+ghost use Rattle.ffv1_files.specs.Behind.{repeated_after};
 ghost use Rattle.ffv1_files.specs.Noted.{NotedOf, NotesEnd, NotesNext, NotesReached};
 ghost use Rattle.ffv1_files.specs.declared.notes.Notes.{Notes};
 ghost use Rattle.ffv1_files.specs.Files.{frame_read, open_read};
-ghost use Rattle.ffv1_files.specs.Items.{ItemAnswers, avi_answer, course_of, item_read};
+ghost use Rattle.ffv1_files.specs.Items.{ItemAnswers, avi_answer, course_of, cued_item, item_read};
+ghost use Rattle.ffv1_matroska.specs.CuedItems.{CuedBy};
 ghost use Rattle.ffv1_files.specs.Offsets.{LocatedNext, Reached, StopsAt};
 ghost use Rattle.ffv1_files.specs.Endings.{endings_from, opening_endings};
-ghost use Rattle.ffv1_files.specs.Places.{InMatroska, amount, container_of, most_bytes, most_in};
+ghost use Rattle.ffv1_files.specs.Places.{InMatroska, amount, container_of, least_bytes, least_in};
+ghost use Rattle.ffv1_files.specs.Places.{most_bytes, most_in};
 ghost use Rattle.ffv1_files.specs.Readers.{StandsAfter, is_frame_fault, is_opening_fault, next_of};
 ghost use Rattle.ffv1_files.specs.Readers.{Leaves, opened_at};
 
@@ -76,10 +79,12 @@ impl<A: Allocator + Copy> FileReader<A> {
         ensures avi { scope ≡ FirstMovi →
             IfOk result (λ r. container_of r.place ≡ container.Avi) }
         ensures most { IfOk result (λ r. most_bytes r.place ≡ most_in scope) }
+        ensures least { IfOk result (λ r. least_in scope ≤ least_bytes r.place) }
         ensures own { IfErr result (λ f. is_opening_fault scope f ≡ true) }
         ensures room { IfOk result (λ r. RoomRead (R.remaining input.old) (R.remaining input.new) 0
             r.room) }
         ensures untold { IfOk result (λ r. r.after ≡ None) }
+        ensures uncounted { IfOk result (λ r. r.repeated ≡ 0) }
     {
         let mut offset = 0;
         FileReader::open_located(alloc, scope, input, &mut offset)
@@ -101,6 +106,7 @@ impl<A: Allocator + Copy> FileReader<A> {
         ensures avi { scope ≡ FirstMovi →
             IfOk result (λ r. container_of r.place ≡ container.Avi) }
         ensures most { IfOk result (λ r. most_bytes r.place ≡ most_in scope) }
+        ensures least { IfOk result (λ r. least_in scope ≤ least_bytes r.place) }
         ensures own { IfErr result (λ f. is_opening_fault scope f ≡ true) }
         ensures room { IfOk result (λ r. RoomRead (R.remaining input.old) (R.remaining input.new) 0
             r.room) }
@@ -111,6 +117,7 @@ impl<A: Allocator + Copy> FileReader<A> {
         ensures ends { IfOk result EndsThere }
         ensures uncued { IfOk result (λ r. r.cued ≡ false) }
         ensures untold { IfOk result (λ r. r.after ≡ None) }
+        ensures uncounted { IfOk result (λ r. r.repeated ≡ 0) }
         ensures noted { IfOk result (NotesReached scope (R.remaining input.old)
             (R.remaining input.new)) }
     {
@@ -147,6 +154,7 @@ fn open_whole<R: ByteIn, A: Allocator + Copy>(
         (passage R.remaining R.failures input.old input.new) result }
     ensures sound { IfOk result (λ r. r.fault ≡ None) }
     ensures most { IfOk result (λ r. most_bytes r.place ≡ most_in Whole) }
+    ensures least { IfOk result (λ r. least_in Whole ≤ least_bytes r.place) }
     ensures own { IfErr result (λ f. is_opening_fault Whole f ≡ true) }
     ensures room { IfOk result (λ r. RoomRead (R.remaining input.old) (R.remaining input.new) 0
         r.room) }
@@ -156,6 +164,7 @@ fn open_whole<R: ByteIn, A: Allocator + Copy>(
     ensures ends { IfOk result EndsThere }
     ensures uncued { IfOk result (λ r. r.cued ≡ false) }
     ensures untold { IfOk result (λ r. r.after ≡ None) }
+    ensures uncounted { IfOk result (λ r. r.repeated ≡ 0) }
 {
     *offset = 0;
     let Ok(first) = read_byte(input) else {
@@ -223,9 +232,9 @@ impl<A: Allocator> FileReader<A> {
 
     /// Reads the next frame in place of what the vector has, and answers true; or false at the end,
     /// where the vector is then empty, as `AviReader::next_frame` and `MatroskaReader::next_frame`
-    /// do, with their faults and their room. The input has to be the one that the reader was opened
-    /// on. After a fault `offset` says how many bytes of the file come before the element or chunk
-    /// at fault.
+    /// do, with their faults and their room. A frame of an AVI that has no bytes repeats the one
+    /// before it. The input has to be the one that the reader was opened on. After a fault `offset`
+    /// says how many bytes of the file come before the element or chunk at fault.
     pub fn next_frame<R: ByteIn>(
         &mut self,
         input: &mut R,
@@ -236,13 +245,15 @@ impl<A: Allocator> FileReader<A> {
             (frame_read self.old.place)
             (passage R.remaining R.failures input.old input.new) result }
         ensures stands { StandsAfter self.old result self.new }
-        ensures sized { IfOk result (λ more. more ≡ true → (0 < length frame.new.items)
+        ensures sized { IfOk result (λ more. more ≡ true →
+            (least_bytes self.old.place ≤ length frame.new.items)
             × (length frame.new.items ≤ most_bytes self.old.place)) }
         ensures end { IfOk result (λ more. more ≡ false → frame.new.items ≡ []) }
         ensures less { IfOk result
             (λ more. more ≡ true → amount self.new.place < amount self.old.place) }
         ensures same { container_of self.new.place ≡ container_of self.old.place }
         ensures most { most_bytes self.new.place ≤ most_bytes self.old.place }
+        ensures least { least_bytes self.old.place ≤ least_bytes self.new.place }
         ensures own { self.old.fault ≡ None →
             IfErr result (λ f. is_frame_fault self.old.place f ≡ true) }
         ensures err { OnErr result (Leaves self.old.place (R.remaining input.old)
@@ -264,6 +275,8 @@ impl<A: Allocator> FileReader<A> {
             (passage R.remaining R.failures input.old input.new) result self.new }
         ensures behind { self.old.fault ≡ None → BehindAfter self.old
             (passage R.remaining R.failures input.old input.new) result self.new }
+        ensures repeats { self.new.repeated
+            ≡ repeated_after self.old.place result frame.new.items self.old.repeated }
         ensures noted { self.old.fault ≡ None → (scope : Scope) (text : Option (List ℕ)) →
             Reached scope text (R.remaining input.old) self.old →
             NotesReached scope text (R.remaining input.old) self.old →
@@ -276,10 +289,11 @@ impl<A: Allocator> FileReader<A> {
         }
     }
 
-    /// Looks at what stands behind the file, once `next_frame` has answered false, and tells what
-    /// its end leaves in doubt. Behind a Segment of known size four bytes are read, or as many as
-    /// there are; behind one of unknown size nothing stands, and nothing is read. What stands
-    /// behind an AVI was found by that call, and nothing is read.
+    /// Looks at what stands after the file, once `next_frame` has answered false, and tells what
+    /// its end leaves in doubt, and how many frames of an AVI had no bytes. After a Segment of
+    /// known size four bytes are read, or as many as there are; after one of unknown size nothing
+    /// stands, and nothing is read. What stands after an AVI was found by that call, and nothing
+    /// is read.
     ///
     /// `Another` if another file begins there: these four bytes are the ID of EBML, or RIFF. `Read`
     /// if a read failed. The input has to be the one that the reader was opened on.
@@ -292,11 +306,8 @@ impl<A: Allocator> FileReader<A> {
             IfOk result (NotedOf scope text (R.remaining input.new)) }
     {
         match &self.inner {
-            Inner::Avi(reader) => Ok(Notes {
-                is_open: false,
-                after: reader.after(),
-            }),
-            Inner::Matroska(reader) => look_behind_segment(reader, input),
+            Inner::Avi(reader) => Ok(avi_notes(reader)),
+            Inner::Matroska(reader) => look_behind_segment(reader, reader.cued(), input),
         }
     }
 
@@ -315,10 +326,15 @@ impl<A: Allocator> FileReader<A> {
     /// course that begins as `course` says, and the reader stays where it is; an AVI gives what
     /// `next_frame` gives, and its first fault is answered. The input has to be the one that the
     /// reader was opened on, and the reader not to have met a fault.
+    ///
+    /// `cued` is lent to each call, and is false before the first one. It is then whether Cues came
+    /// after the last Cluster of a Segment, by the elements that were read so far; an AVI leaves it
+    /// as it was. After a fault it says nothing.
     pub fn next_item<R: ByteIn>(
         &mut self,
         input: &mut R,
         course: &mut Course,
+        cued: &mut bool,
         frame: &mut Vec<u8, A>,
     ) -> Result<Item, FileFault>
         ensures answer { self.old.fault ≡ None → ItemAnswers self.old.place
@@ -329,45 +345,101 @@ impl<A: Allocator> FileReader<A> {
         ensures stays { (size : Option ℕ) →
             container_of self.old.place ≡ container.Matroska size → self.new ≡ self.old }
         ensures kept { self.new.room ≡ self.old.room }
+        ensures cued { self.old.fault ≡ None → IfOk result (λ i. CuedBy
+            (cued_item self.old.place course.old cued.old)
+            (R.remaining input.old) (R.remaining input.new) cued.new) }
     {
         match &mut self.inner {
             Inner::Avi(reader) => avi_answer(reader.next_frame(input, frame)),
-            Inner::Matroska(reader) => reader.next_item(input, course, frame),
+            Inner::Matroska(reader) => reader.next_item(input, course, cued, frame),
+        }
+    }
+
+    /// Looks at what stands after a file that may be damaged, once `next_item` has answered that
+    /// nothing more comes, or `next_frame` of an AVI false, and tells what its end leaves in doubt,
+    /// as `look_behind` does. But whether Cues came after the last Cluster of a Segment is `cued`,
+    /// as the calls of `next_item` say; of an AVI it does not count.
+    ///
+    /// If the size of the Segment is known, four bytes are read, or as many as there are, also if
+    /// the input ended before that size, or a Cluster was sought up to it. If an element passed the
+    /// end of the Segment, that was read to the end of the input, after which nothing stands.
+    ///
+    /// `Another` if another file begins there: these four bytes are the ID of EBML, or RIFF. `Read`
+    /// if a read failed. The input has to be the one that the reader was opened on.
+    pub fn look_behind_items<R: ByteIn>(
+        &self,
+        cued: bool,
+        input: &mut R,
+    ) -> Result<Notes, FileFault>
+        ensures answer { FileAnswers any_value (λ (n : Notes). n) (items_noted self.now cued)
+            (passage R.remaining R.failures input.old input.new) result }
+        ensures own { IfErr result (λ f. is_behind_fault self.now.place f ≡ true) }
+        ensures noted { container_of self.now.place ≡ container.Avi →
+            (scope : Scope) (text : Option (List ℕ)) →
+            NotesEnd scope text (R.remaining input.old) self.now →
+            IfOk result (NotedOf scope text (R.remaining input.new)) }
+    {
+        match &self.inner {
+            Inner::Avi(reader) => Ok(avi_notes(reader)),
+            Inner::Matroska(reader) => look_behind_segment(reader, cued, input),
         }
     }
 }
 
-/// What is noted if other bytes stand behind the end or not, and if nothing says that the file is
-/// whole.
+/// What is noted of an AVI: how many of its frames have no bytes, and where other bytes stand after
+/// its last RIFF, if any do.
+fn avi_notes<A: Allocator>(reader: &AviReader<A>) -> Notes
+    ensures { result ≡ record {
+      is_open = false;
+      repeated = reader.now.repeated;
+      after = reader.now.after;
+    } }
+{
+    Notes {
+        is_open: false,
+        repeated: reader.repeated(),
+        after: reader.after(),
+    }
+}
+
+/// What is noted of a Segment if other bytes stand after its end or not, and if nothing says that
+/// it is whole.
 fn noted(some: bool, is_open: bool, end: u64) -> Notes
-    ensures { result ≡ record { is_open = is_open; after = if some then Some end else None } }
+    ensures { result ≡ record {
+      is_open = is_open;
+      repeated = 0;
+      after = if some then Some end else None;
+    } }
 {
     if some {
         return Notes {
             is_open,
+            repeated: 0,
             after: Some(end),
         };
     }
     Notes {
         is_open,
+        repeated: 0,
         after: None,
     }
 }
 
-/// What stands behind a Segment, as notes.
+/// What stands after a Segment, as notes; if Cues came after its last Cluster, or not.
 fn look_behind_segment<R: ByteIn, A: Allocator>(
     reader: &MatroskaReader<A>,
+    cued: bool,
     input: &mut R,
 ) -> Result<Notes, FileFault>
     ensures answer { FileAnswers any_value (λ (n : Notes). n)
         (notes_read (InMatroska reader.now.segment reader.now.track.numbers reader.now.place)
-        reader.now.end reader.now.cued None)
+        reader.now.end cued None 0)
         (passage R.remaining R.failures input.old input.new) result }
     ensures own { IfErr result (λ f. is_behind_fault (InMatroska reader.now.segment
         reader.now.track.numbers reader.now.place) f ≡ true) }
 {
     match reader.look_behind(input) {
-        Ok(some) => Ok(noted(some, reader.is_open(), reader.end())),
+        Ok(some) => Ok(noted(some, reader.is_left_open(cued), reader.end())),
         Err(fault) => Err(fault),
     }
 }

@@ -13,13 +13,25 @@ use Rattle.ffv1_video.specs.Faults.{Cause, cause_of}
 use Rattle.ffv1_video.specs.Faults.Cause.{Reading, Writing, Memory, Content}
 use Rattle.ffv1_outline.specs.declared.facts.Form.{Form}
 use Rattle.ffv1_unpack.specs.Internal.Told.{WritesFrame}
-use Rattle.ffv1_unpack.specs.Plays.{FrameHasFault, FrameReadFails, HasThen, NextIsPayload, NextPayloadLacks, NextStays}
-use Rattle.ffv1_unpack.specs.Stream.{Frame, Stream}
+use Rattle.ffv1_unpack.specs.Plays.{HasThen, NextHasFault, NextIsPayload, NextPayloadLacks, NextReadFails, NextStays}
+use Rattle.ffv1_unpack.specs.Stream.{Again, Coded, Frame, Stream}
 use Rattle.ffv1_info.specs.StreamInfo.{CountStops, CountedStops, EndsBehind, EndsBy, FirstStops, FramesDone, FramesStop, PictureStops, ReadsMost, Wrote, first_facts, said_of}
 use Rattle.ffv1_info.specs.StreamFacts.{counted_facts, picture_facts}
-use Rattle.ffv1_info.specs.Internal.Frames.{ReadsFirst, ReadsOthers, has_some, with_others}
+use Rattle.ffv1_info.specs.Internal.Frames.{ReadsFirst, ReadsOthers, has_some, is_frame, next_of, said_in, with_others}
+use Rattle.ffv1_unpack.specs.declared.player.NextFrame.{NextFrame}
 use Rattle.ffv1_info.proofs.FramesRead.{all_counted, all_read, one_read, others_end}
 use Rattle.ffv1_info.proofs.Groups.{group_stops, stops_after, stops_behind, wrote_behind, wrote_still}
+
+-- what was answered of the first frame
+pub is_some : (first : Option Frame) (next : NextFrame Said) → next ≡ next_of first → is_frame next ≡ has_some first
+is_some None next is = ap is_frame is
+is_some (Some Again) next is = ap is_frame is
+is_some (Some (Coded f)) next is = ap is_frame is
+
+pub said_some : (first : Option Frame) (next : NextFrame Said) → next ≡ next_of first → said_in next ≡ said_of first
+said_some None next is = ap said_in is
+said_some (Some Again) next is = ap said_in is
+said_some (Some (Coded f)) next is = ap said_in is
 
 -- the facts of a picture of that size are those of the stream's
 pub picture_told : (form : Form) (s : Stream) (first : Option Frame) (said : Option Said) (w h : ℕ) (p : Passage) (r : Result (Unit {0}) Fault) → said ≡ said_of first → w ≡ s.accepted.configuration.width →
@@ -56,13 +68,13 @@ module _ (form : Form) (s : Stream) (from mid : Place) (i0 i1 : Option (List ℕ
     frames_told = record { first = first; reads = one_read s.accepted from mid i0 i1 i1 ib im im first reads; wrote = wrote }
 
     -- the others are not read to their end
-    pub count_stops : (i2 : Option (List ℕ)) (ia : ℕ) (others : List (List ℕ)) (f : Fault) → has_some (said_of first) ≡ true → EndsBy (HasThen mid) (between i1 i2 im ia) others f (cause_of f) →
+    pub count_stops : (i2 : Option (List ℕ)) (ia : ℕ) (others : List (List ℕ)) (f : Fault) → has_some first ≡ true → EndsBy (HasThen mid) (between i1 i2 im ia) others f (cause_of f) →
         FramesStop (HasThen from) form s [] (between i0 i2 ib ia) (between o0 o1 ob om) true f
     count_stops i2 ia others f some h =
         let ends = others_end s.accepted from mid i0 i1 i2 ib im ia first reads some others f (cause_of f) h in
         inr (inr (inl (record { first = first; held = ends.0; begins = ends.1; ends = ends.2; wrote = wrote })))
 
-    module _ (i2 : Option (List ℕ)) (ia : ℕ) (others : List (List ℕ)) (more : ReadsOthers (has_some (said_of first)) mid (between i1 i2 im ia) others) (n : ℕ) (is : n ≡ saturated (with_others (has_some (said_of first)) others)) where
+    module _ (i2 : Option (List ℕ)) (ia : ℕ) (others : List (List ℕ)) (more : ReadsOthers (has_some first) mid (between i1 i2 im ia) others) (n : ℕ) (is : n ≡ saturated (with_others (has_some first) others)) where
       abbrev all : ReadsMost (HasThen from) (between i0 i2 ib ia) s.accepted None first
       all = all_read s.accepted from mid i0 i1 i2 ib im ia first reads others more
 
@@ -97,10 +109,10 @@ module _ (Here There : List (List ℕ) → (Place → List ℕ → List ℕ → 
   reads_there a most first h = record { held = h.held; begins = h.begins; few = h.few; has = leads h.held (EndsBehind most (length h.held)) h.has; kept = h.kept ∙ kept }
 
   ends_there : (held : List (List ℕ)) (f : Fault) (why : Cause) → EndsBy Here (between i1 i2 im ia) held f why → EndsBy There (between i0 i2 ib ia) held f why
-  ends_there held f Reading h = (h.0 ∙ ap one_more kept, leads held FrameReadFails h.1)
+  ends_there held f Reading h = (h.0 ∙ ap one_more kept, leads held NextReadFails h.1)
   ends_there held f Writing h = h
   ends_there held f Memory h = (h.0 ∙ kept, leads held NextPayloadLacks h.1)
-  ends_there held f Content h = (h.0 ∙ kept, leads held (FrameHasFault f) h.1)
+  ends_there held f Content h = (h.0 ∙ kept, leads held (NextHasFault f) h.1)
 
   first_there : (a : Accepted) (f : Fault) → FirstStops Here (between i1 i2 im ia) a f → FirstStops There (between i0 i2 ib ia) a f
   first_there a f h = elim h [

@@ -10,7 +10,6 @@ use Rattle.ffv1_record.specs.declared.config.Coder.TheVariants as coder
 use Rattle.ffv1_frame.specs.SliceList.{Said}
 use Rattle.ffv1_matroska.specs.Rates.{common_up_to}
 use Rattle.ffv1_outline.specs.declared.facts.Form.{Form}
-use Rattle.ffv1_outline.specs.declared.facts.Form.TheVariants as form
 use Rattle.ffv1_outline.specs.Durations.{frames_last, seconds}
 use Rattle.ffv1_outline.specs.Facts.{fact, named_fact, number_fact, pair_fact, truth_fact}
 use Rattle.ffv1_outline.specs.Facts.{unknown_fact, word_fact}

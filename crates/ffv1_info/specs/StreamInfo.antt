@@ -10,12 +10,12 @@ use Rattle.ffv1_record.specs.Accepted.{Accepted}
 use Rattle.ffv1_record.specs.Reading.{IsRefused, ReachesSets}
 use Rattle.ffv1_record.specs.declared.fault.RecordFault.{RecordFault}
 use Rattle.ffv1_record.specs.declared.fault.RecordFault.TheVariants as record_fault
-use Rattle.ffv1_frame.specs.Outcome.{FaultsOf}
 use Rattle.ffv1_frame.specs.SliceList.{Said}
 use Rattle.ffv1_frame.specs.declared.fault.FrameFault.{FrameFault}
 use Rattle.ffv1_files.specs.Answers.{WantsMore}
 use Rattle.ffv1_files.specs.Files.{open_read}
 use Rattle.ffv1_files.specs.Places.{Place}
+use Rattle.ffv1_files.specs.declared.notes.Notes.{Notes}
 use Rattle.ffv1_reads.specs.Head.{Head}
 use Rattle.ffv1_reads.specs.Known.{Known}
 use Rattle.ffv1_reads.specs.Reads.{Kept}
@@ -29,10 +29,12 @@ use Rattle.ffv1_video.specs.declared.profile.Profile.{Profile}
 use Rattle.ffv1_outline.specs.declared.facts.Form.{Form}
 use Rattle.ffv1_unpack.specs.Opens.{HasSoundRecord, OpeningWants, OpensKnown}
 use Rattle.ffv1_unpack.specs.Play.{FaultsRead}
-use Rattle.ffv1_unpack.specs.Plays.{AtMost, FileThen, FrameHasFault, FrameReadFails, FramesEnd}
-use Rattle.ffv1_unpack.specs.Plays.{NextIsPayload, NextPayloadLacks, NextStays, has_more}
+use Rattle.ffv1_unpack.specs.Behind.{EndsThen, IsNoted, Looks}
+use Rattle.ffv1_unpack.specs.Plays.{AtMost, FileThen, NextHasFault, NextIsPayload}
+use Rattle.ffv1_unpack.specs.Plays.{NextPayloadLacks, NextReadFails, NextStays, has_more}
 use Rattle.ffv1_unpack.specs.Show.{IsShowFault}
-use Rattle.ffv1_unpack.specs.Stream.{Frame, IsFrame, IsStream, Stream}
+use Rattle.ffv1_unpack.specs.Stream.{Again, Coded, Frame, IsFrame, IsRefusedPayload, IsStream}
+use Rattle.ffv1_unpack.specs.Stream.{Stream, frame_payload}
 use Rattle.ffv1_info.specs.StreamFacts.{counted_facts, head_facts, picture_facts, record_facts}
 
 -- ---- what is written
@@ -54,10 +56,11 @@ GroupStops text facts p f =
 abbrev pub stream_facts : Form → Stream → List ℕ
 stream_facts form s = head_facts form s.head ++ record_facts form s.accepted.configuration
 
--- those of its first picture
+-- those of its first picture; a first frame that repeats another has none
 abbrev pub said_of : Option Frame → Option Said
 said_of None = None
-said_of (Some f) = Some f.said
+said_of (Some (Coded f)) = Some f.said
+said_of (Some Again) = None
 
 abbrev pub first_facts : Form → Stream → Option Frame → List ℕ
 first_facts form s first = picture_facts form s.accepted.configuration.width
@@ -78,17 +81,25 @@ with_count true form s text first n =
 -- the first of these payloads is that of this frame; there are none if there is no frame
 abbrev pub BeginsWith : Accepted → Option Frame → List (List ℕ) → Type 0
 BeginsWith a None held = held ≡ []
-BeginsWith a (Some f) held = IsFrame a f × (others : List (List ℕ)) × (held ≡ f.payload ∷ others)
+BeginsWith a (Some f) held =
+    IsFrame a f × (others : List (List ℕ)) × (held ≡ frame_payload f ∷ others)
 
 -- how many are read: the first, or all of them
 abbrev pub most_read : Bool → Option ℕ
 most_read false = Some 1
 most_read true = None
 
+-- there is no further frame, and no fault behind the end: something is noted of it, or nothing
+abbrev pub IsLookedAt : Looks
+IsLookedAt reading text rest = (notes : Notes) × IsNoted notes reading text rest
+
+abbrev pub FramesOver : Place → List ℕ → List ℕ → Type 0
+FramesOver = EndsThen IsLookedAt
+
 -- what comes after so many of at most so many: if one more may come, there is none; else nothing
 -- more was read
 abbrev pub EndsBehindBy : Bool → Place → List ℕ → List ℕ → Type 0
-EndsBehindBy true = FramesEnd
+EndsBehindBy true = FramesOver
 EndsBehindBy false = NextStays
 
 abbrev pub EndsBehind : Option ℕ → ℕ → Place → List ℕ → List ℕ → Type 0
@@ -106,16 +117,17 @@ module _ (Has : List (List ℕ) → (Place → List ℕ → List ℕ → Type 0)
     pub has : Known input.old input.new (Has held (EndsBehind most (length held)))
     pub kept : input.after ≡ input.before
 
-  -- why the file is not read on after these payloads, by the cause: a read of the next frame
-  -- failed, which was counted; memory was refused for its payload; or the file has this fault
+  -- why the file is not read on after these payloads, by the cause: a read of the next frame, or
+  -- behind the end, failed, which was counted; memory was refused for its payload; or the file has
+  -- this fault there
   abbrev pub EndsBy : List (List ℕ) → Fault → Cause → Type 0
   EndsBy held f Reading =
-      (input.after ≡ one_more input.before) × Known input.old input.new (Has held FrameReadFails)
+      (input.after ≡ one_more input.before) × Known input.old input.new (Has held NextReadFails)
   EndsBy held f Writing = ⊥
   EndsBy held f Memory =
       (input.after ≡ input.before) × Known input.old input.new (Has held NextPayloadLacks)
   EndsBy held f Content =
-      (input.after ≡ input.before) × Known input.old input.new (Has held (FrameHasFault f))
+      (input.after ≡ input.before) × Known input.old input.new (Has held (NextHasFault f))
 
   -- a decoder was refused its memory, and no frame was read
   pub record NoDecoder (f : Fault) : Type 0 where
@@ -129,7 +141,7 @@ module _ (Has : List (List ℕ) → (Place → List ℕ → List ℕ → Type 0)
     pub fault : FrameFault
     pub tally : Tally
     pub has : Known input.old input.new (Has [] (NextIsPayload payload))
-    pub faulty : FaultsOf a payload fault tally
+    pub faulty : IsRefusedPayload a payload fault tally
     pub is : f ≡ of_codec fault.fault
     pub kept : input.after ≡ input.before
 

@@ -6,27 +6,27 @@ ghost use Rattle.ffv1_wire.specs.Passage.{passage};
 ghost use Rattle.ffv1_range.specs.Counts.{saturated};
 ghost use Rattle.ffv1_reads.specs.Head.{head_of};
 ghost use Rattle.ffv1_record.specs.Accepted.{IsAccepted};
-ghost use Rattle.ffv1_files.specs.Places.{container_of};
-ghost use Rattle.ffv1_video.specs.Faults.{cause_of};
+ghost use Rattle.ffv1_files.specs.Places.{amount, container_of};
+ghost use Rattle.ffv1_video.specs.Faults.{cause_of, of_avi};
 ghost use Rattle.ffv1_unpack.specs.Internal.Located.{StaysReached};
 ghost use Rattle.ffv1_unpack.specs.Internal.Opens.{stream_of};
 ghost use Rattle.ffv1_unpack.specs.Internal.Told.{IsToldFault, WritesFrame};
 ghost use Rattle.ffv1_unpack.specs.Plays.{HasThen};
 ghost use Rattle.ffv1_unpack.specs.Stream.{Frame};
-ghost use Rattle.ffv1_info.specs.Internal.Frames.{ReadsFirst, ReadsOthers, has_some, with_others};
+ghost use Rattle.ffv1_info.specs.Internal.Frames.{NextAnswers, ReadsFirst, ReadsOthers};
+ghost use Rattle.ffv1_info.specs.Internal.Frames.{is_frame, next_of, said_in, with_others};
 ghost use Rattle.ffv1_info.specs.StreamFacts.{counted_facts, head_facts, picture_facts};
 ghost use Rattle.ffv1_info.specs.StreamFacts.{record_facts};
 ghost use Rattle.ffv1_info.specs.StreamInfo.{EndsBy, FirstStops, FramesDone, FramesStop};
 ghost use Rattle.ffv1_info.specs.StreamInfo.{IsStreamInfoFault, StreamInfoDone, StreamInfoStops};
-ghost use Rattle.ffv1_info.specs.StreamInfo.{said_of};
 
 use crate::stream_facts::{Size, counted_text, head_text, picture_text, record_text};
 use ffv1_codec::{DropLines, FrameDecoder, Info, laws as codec_laws};
 use ffv1_files::FileReader;
 use ffv1_outline::Form;
-use ffv1_reads::FileHead;
+use ffv1_reads::{FileFault, FileHead};
 use ffv1_record::{Checked, laws as record_laws};
-use ffv1_unpack::player::read_head;
+use ffv1_unpack::player::{NextFrame, read_head};
 use ffv1_video::{Fault, Profile};
 use ffv1_wire::{ByteIn, ByteOut, write_all};
 use std::alloc::Allocator;
@@ -112,17 +112,46 @@ fn write_counted<W: ByteOut, A: Allocator>(
     Ok(())
 }
 
-/// Reads the first frame and decodes it, and answers what it says of its picture; None if there is
-/// none.
+/// Reads the next payload. Answers false if there is none; then what stands behind the end was
+/// looked at.
+fn read_next<R: ByteIn, A: Allocator>(
+    reader: &mut FileReader<A>,
+    input: &mut R,
+    payload: &mut Vec<u8, A>,
+) -> Result<bool, FileFault>
+    requires sound { reader.old.fault ≡ None }
+    ensures answer { NextAnswers reader.old.place reader.new.place payload.new.items
+        (passage R.remaining R.failures input.old input.new) result }
+    ensures sound { OnOk result (reader.new.fault ≡ None) }
+    ensures less { IfOk result (λ more. more ≡ true →
+        amount reader.new.place < amount reader.old.place) }
+    ensures head { OnOk result (reader.new.head ≡ reader.old.head) }
+    ensures container { container_of reader.new.place ≡ container_of reader.old.place }
+    ensures stays { IfOk result (λ more. more ≡ true → StaysReached reader.old reader.new
+        (passage R.remaining R.failures input.old input.new)) }
+    ensures own { IfErr result (λ f. IsToldFault reader.old (R.remaining input.old) (of_avi f)) }
+{
+    match reader.next_frame(input, payload) {
+        Ok(true) => Ok(true),
+        Ok(false) => match reader.look_behind(input) {
+            Ok(_) => Ok(false),
+            Err(fault) => Err(fault),
+        },
+        Err(fault) => Err(fault),
+    }
+}
+
+/// Reads the first frame and decodes it, and answers what it says of its picture, or that it has no
+/// bytes, or that there is none.
 fn read_first<R: ByteIn, A: Allocator>(
     reader: &mut FileReader<A>,
     decoder: &mut FrameDecoder<A>,
     payload: &mut Vec<u8, A>,
     input: &mut R,
-) -> Result<Option<Info>, Fault>
+) -> Result<NextFrame<Info>, Fault>
     requires sound { reader.old.fault ≡ None }
     requires accepted { IsAccepted decoder.old.accepted.configuration decoder.old.accepted.table }
-    ensures ok { IfOk result (λ said. (first : Option Frame) × (said ≡ said_of first)
+    ensures ok { IfOk result (λ next. (first : Option Frame) × (next ≡ next_of first)
         × ReadsFirst decoder.old.accepted reader.old.place reader.new.place
         (passage R.remaining R.failures input.old input.new) first) }
     ensures err { IfErr result (FirstStops (HasThen reader.old.place)
@@ -130,7 +159,7 @@ fn read_first<R: ByteIn, A: Allocator>(
     ensures sound { OnOk result (reader.new.fault ≡ None) }
     ensures head { OnOk result (reader.new.head ≡ reader.old.head) }
     ensures container { container_of reader.new.place ≡ container_of reader.old.place }
-    ensures stays { IfOk result (λ said. has_some said ≡ true → StaysReached reader.old reader.new
+    ensures stays { IfOk result (λ next. is_frame next ≡ true → StaysReached reader.old reader.new
         (passage R.remaining R.failures input.old input.new)) }
     ensures own { IfErr result (IsToldFault reader.old (R.remaining input.old)) }
 {
@@ -138,12 +167,17 @@ fn read_first<R: ByteIn, A: Allocator>(
     codec_laws::answer::answered_fault_is_of_decoding::<DropLines>();
     codec_laws::sink::sinks_of_own_lines_refuse_none();
     let mut sink = DropLines::new(decoder.config());
-    match reader.next_frame(input, payload) {
-        Ok(false) => Ok(None),
-        Ok(true) => match decoder.decode(payload, &mut sink) {
-            Ok(info) => Ok(Some(info)),
-            Err(fault) => Err(Fault::from(fault.fault)),
-        },
+    match read_next(reader, input, payload) {
+        Ok(false) => Ok(NextFrame::End),
+        Ok(true) => {
+            if payload.is_empty() {
+                return Ok(NextFrame::Again);
+            }
+            match decoder.decode(payload, &mut sink) {
+                Ok(info) => Ok(NextFrame::Coded(info)),
+                Err(fault) => Err(Fault::from(fault.fault)),
+            }
+        }
         Err(fault) => Err(Fault::from(fault)),
     }
 }
@@ -154,10 +188,10 @@ fn read_picture<R: ByteIn, A: Allocator + Copy>(
     reader: &mut FileReader<A>,
     checked: Checked<A>,
     input: &mut R,
-) -> Result<Option<Info>, Fault>
+) -> Result<NextFrame<Info>, Fault>
     requires sound { reader.old.fault ≡ None }
     requires accepted { IsAccepted checked.configuration checked.table }
-    ensures ok { IfOk result (λ said. (first : Option Frame) × (said ≡ said_of first)
+    ensures ok { IfOk result (λ next. (first : Option Frame) × (next ≡ next_of first)
         × ReadsFirst checked reader.old.place reader.new.place
         (passage R.remaining R.failures input.old input.new) first) }
     ensures err { IfErr result (FirstStops (HasThen reader.old.place)
@@ -165,14 +199,14 @@ fn read_picture<R: ByteIn, A: Allocator + Copy>(
     ensures sound { OnOk result (reader.new.fault ≡ None) }
     ensures head { OnOk result (reader.new.head ≡ reader.old.head) }
     ensures container { container_of reader.new.place ≡ container_of reader.old.place }
-    ensures stays { IfOk result (λ said. has_some said ≡ true → StaysReached reader.old reader.new
+    ensures stays { IfOk result (λ next. is_frame next ≡ true → StaysReached reader.old reader.new
         (passage R.remaining R.failures input.old input.new)) }
     ensures own { IfErr result (IsToldFault reader.old (R.remaining input.old)) }
 {
     let mut decoder = FrameDecoder::new(alloc, checked)?;
     let mut payload = Vec::new(alloc);
-    let said = read_first(reader, &mut decoder, &mut payload, input)?;
-    Ok(said)
+    let next = read_first(reader, &mut decoder, &mut payload, input)?;
+    Ok(next)
 }
 
 /// Reads the frames that are left, and decodes none. Answers how many frames there are with the
@@ -198,19 +232,29 @@ fn count_frames<R: ByteIn, A: Allocator>(
     }
     let mut payload = Vec::new(alloc);
     let mut count = 1u64;
-    'frames: while reader.next_frame(input, &mut payload)? {
+    'frames: while read_next(reader, input, &mut payload)? {
         count = count.saturating_add(1);
     }
     Ok(count)
 }
 
-/// Whether there is a first picture.
-fn has_some(said: &Option<Info>) -> bool
-    ensures { result ≡ has_some said.now }
+/// Whether there is a first frame.
+fn is_frame(next: &NextFrame<Info>) -> bool
+    ensures { result ≡ is_frame next.now }
 {
-    match said {
-        Some(_) => true,
-        None => false,
+    match next {
+        NextFrame::Coded(_) | NextFrame::Again => true,
+        NextFrame::End => false,
+    }
+}
+
+/// What is said of the picture of the first frame, if it has one.
+fn said_in(next: &NextFrame<Info>) -> Option<Info>
+    ensures { result ≡ said_in next.now }
+{
+    match next {
+        NextFrame::Coded(info) => Some(*info),
+        NextFrame::Again | NextFrame::End => None,
     }
 }
 
@@ -251,8 +295,9 @@ fn tell_frames<R: ByteIn, W: ByteOut, A: Allocator + Copy>(
     let mut reader = reader;
     let count = asked.count;
     let size = size_of(&checked);
-    let said = read_picture(alloc, &mut reader, checked, input)?;
-    let some = has_some(&said);
+    let next = read_picture(alloc, &mut reader, checked, input)?;
+    let some = is_frame(&next);
+    let said = said_in(&next);
     write_picture(alloc, output, asked.form, size, said)?;
     if !count {
         return Ok(());
@@ -292,17 +337,18 @@ fn tell_frames<R: ByteIn, W: ByteOut, A: Allocator + Copy>(
 /// The first seven are of the file's head, the next nine of its configuration record, and three of
 /// its first picture, which is decoded for that; the last two come with `count`, which reads the
 /// payloads of all frames and decodes no further one. A value that the file does not say is
-/// `unknown`, in JSON `null`; so are the three of the first picture if there is no frame. A number
-/// that has no name is itself; chroma of another size is how many times it is narrower and lower.
-/// In JSON numbers and pairs are numbers and arrays, and truths `true` and `false`; `contexts` are
-/// numbers, and their names an array `context_names`, `null` if there is none. Which stream of
-/// the file counts, and where its record ends, is by the profile. A count of 64 bits stays at its
-/// greatest value; the duration is to the nearest millisecond, and unknown if the rate is, or if it
-/// has no room in 64 bits.
+/// `unknown`, in JSON `null`; so are the three of the first picture if there is no frame, or the
+/// first one, of an AVI, has no bytes. A number that has no name is itself; chroma of another size
+/// is how many times it is narrower and lower. In JSON numbers and pairs are numbers and arrays,
+/// and truths `true` and `false`; `contexts` are numbers, and their names an array `context_names`,
+/// `null` if there is none. Which stream of the file counts, and where its record ends, is by the
+/// profile. A count of 64 bits stays at its greatest value; the duration is to the nearest
+/// millisecond, and unknown if the rate is, or if it has no room in 64 bits.
 ///
 /// The faults are those of `show` with costs, but what was read up to there is told before: the
 /// facts of the head if the record is refused, and those of the record if the first frame is. A
-/// file without frames is no fault. Without `count` nothing after the first frame is read. `Read`,
+/// file without frames is no fault. Without `count` nothing after the first frame is read; behind
+/// the last one it is looked whether another file stands there, which is `Another`. `Read`,
 /// `OutOfMemory` and `Write` come as they come; if a write failed, a beginning of a group is
 /// written, else whole groups are.
 pub fn stream_info<R: ByteIn, W: ByteOut, A: Allocator + Copy>(

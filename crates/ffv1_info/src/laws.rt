@@ -4,18 +4,19 @@ ghost use Rattle.std.specs.Prelude.{◌≡◌, ℕ, ◌%◌, ◌<◌, ◌≤◌,
 ghost use Rattle.ffv1_matroska.specs.Rates.{common_up_to};
 ghost use Rattle.ffv1_reads.specs.Head.{Head};
 ghost use Rattle.ffv1_video.specs.declared.profile.Profile.{Profile};
-ghost use Rattle.ffv1_unpack.specs.Plays.{FileThen, FramesEnd};
+ghost use Rattle.ffv1_unpack.specs.Plays.{FileThen};
 ghost use Rattle.ffv1_unpack.specs.Stream.{HoldsPayloads};
+ghost use Rattle.ffv1_info.specs.StreamInfo.{FramesOver};
 
 use ffv1_files::laws as files_laws;
 
 /// Payloads that come after a head, and after which there is none, are those of the file: of an AVI
 /// up to the end of its first `movi`, or where a file is read whole of every RIFF, or those of a
-/// Matroska file. So many are counted.
+/// Matroska file; what stands behind its end was looked at. So many are counted.
 pub fn counted_frames_are_those_of_the_file()
     ensures { (profile : Profile) (head : Head) (held : List (List ℕ)) (file rest : List ℕ) →
-        FileThen profile head held FramesEnd file rest →
-        HoldsPayloads profile file rest head held }
+        FileThen profile head held FramesOver file rest →
+        (behind : List ℕ) × HoldsPayloads profile file behind head held }
 {
     files_laws::frames_come_in_turn();
     files_laws::what_is_read_is_a_file();

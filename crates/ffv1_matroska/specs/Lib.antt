@@ -23,4 +23,5 @@ pub mod WrittenFiles
 pub mod Given
 pub mod Turns
 pub mod Items
+pub mod CuedItems
 pub mod Damaged

@@ -3,6 +3,7 @@
 ghost use Rattle.std.specs.Prelude.{◌≡◌, ◌<◌, ◌≤◌, ◌+◌, ◌*◌, ◌^◌, IfOk, length, max};
 ghost use Rattle.std.specs.Vec.{vec_capacity};
 ghost use Rattle.ffv1_wire.specs.Passage.{passage};
+ghost use Rattle.ffv1_matroska.specs.CuedItems.{CuedBy, cued_item};
 ghost use Rattle.ffv1_matroska.specs.Items.{ItemAnswers, begun_by, frame_given, item_read, moved};
 ghost use Rattle.ffv1_matroska.specs.Items.{StopsBy, end_item, is_end, left_by, over, weight};
 ghost use Rattle.ffv1_matroska.specs.Places.{amount, ended};
@@ -172,16 +173,20 @@ fn take_frame<R: ByteIn, A: Allocator>(
     }
 }
 
-/// The next item: a frame, in place of what the vector has, or a fault; or the end.
+/// The next item: a frame, in place of what the vector has, or a fault; or the end. `cued` is then
+/// whether Cues came after the last Cluster.
 pub(crate) fn read_item<R: ByteIn, A: Allocator>(
     input: &mut R,
     track: TrackNumbers,
     course: &mut Course,
+    cued: &mut bool,
     frame: &mut Vec<u8, A>,
 ) -> Result<Item, FileFault>
     ensures answer { ItemAnswers (item_read track course.old)
         (passage R.remaining R.failures input.old input.new) result frame.new.items course.new }
     ensures end { IfOk result (λ i. i ≡ item.End → course.new.place ≡ ended) }
+    ensures cued { IfOk result (λ i. CuedBy (cued_item track course.old cued.old)
+        (R.remaining input.old) (R.remaining input.new) cued.new) }
     ensures room { vec_capacity frame.new
         ≤ max (vec_capacity frame.old) (2 * length frame.new.items + 65536) }
     ensures held { IfOk result (λ i. i ≡ item.Frame →
@@ -189,13 +194,15 @@ pub(crate) fn read_item<R: ByteIn, A: Allocator>(
 {
     frame.clear();
     for _turn in 0..u64::MAX {
-        let turn = match take_turn(input, track, course.pending, course.place) {
+        let mut came = *cued;
+        let turn = match take_turn(input, track, course.pending, course.place, &mut came) {
             Ok(turn) => turn,
             Err(fault) => {
                 let end = end_item(*course);
                 return stop(course, fault, end);
             }
         };
+        *cued = came;
         let Some(turn) = turn else {
             *course = over(*course);
             return Ok(Item::End);

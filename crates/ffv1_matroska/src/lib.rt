@@ -31,6 +31,7 @@ mod outer_turn;
 mod place;
 mod rate;
 mod reader;
+mod seeking;
 mod segment;
 mod track;
 pub mod track_entry;

@@ -1,22 +1,26 @@
-//! Elements of a Segment in damaged bytes, outside of Clusters, and the next Cluster.
+//! Elements of a Segment in damaged bytes, outside of Clusters.
 
-ghost use Rattle.std.specs.Prelude.{◌≡◌, ◌≤◌, ℕ, Option, Some, IfOk, length, take};
+ghost use Rattle.std.specs.Prelude.{◌≡◌, ◌≤◌, ◌∷◌, [], Option, Some, IfOk, length, take};
 ghost use Rattle.ffv1_wire.specs.Passage.{passage};
 ghost use Rattle.ffv1_reads.specs.Ends.{AnswersOrNone};
 ghost use Rattle.ffv1_reads.specs.Reads.{Answers};
-ghost use Rattle.ffv1_matroska.specs.Turns.{byte_matched, cluster_found, element_turn, found_turn};
+ghost use Rattle.ffv1_matroska.specs.CuedItems.{CuedBy, cued_element, cued_named, cued_open};
+ghost use Rattle.ffv1_matroska.specs.CuedItems.{cued_outer, cued_read, cued_turn};
+ghost use Rattle.ffv1_matroska.specs.Turns.{element_turn};
 ghost use Rattle.ffv1_matroska.specs.Turns.{named_turn, open_turn, outer_turn, passes_segment};
-ghost use Rattle.ffv1_matroska.specs.Turns.{scanned, section_headed, section_turn};
-ghost use Rattle.ffv1_matroska.specs.Turns.{seek_turn, segment_named, segment_turn, sized_turn};
+ghost use Rattle.ffv1_matroska.specs.Turns.{section_headed, section_turn};
+ghost use Rattle.ffv1_matroska.specs.Turns.{segment_named, segment_turn, sized_turn};
 ghost use Rattle.ffv1_matroska.specs.Turns.{open_at, plain_section, summed_section, turn_after};
 ghost use Rattle.ffv1_matroska.specs.Turns.{turn_of};
 ghost use Rattle.ffv1_matroska.specs.Turns.{turn_or_end, turn_read};
 ghost use Rattle.ffv1_matroska.specs.declared.course.Turn.{Turn};
-ghost use Rattle.ffv1_ebml.specs.Tried.{vint_bytes};
+ghost use Rattle.ffv1_ebml.specs.Tried.{tried, vint_bytes};
+ghost use Rattle.ffv1_ebml.specs.Vints.{vint_rest};
 
 use crate::course::{Pending, Turn};
 use crate::place::{Place, cluster_entered, is_sound, segment_at, summed_at};
-use crate::segment::{CLUSTER, CRC_32, is_filler, is_loose, is_section};
+use crate::seeking::seek_cluster;
+use crate::segment::{CLUSTER, CRC_32, cued_by, is_filler, is_loose, is_section};
 use crate::track::TrackNumbers;
 use crate::turn::{lost, pass_turn, read_child, read_cluster, read_group, read_grouped};
 use ffv1_ebml::{
@@ -26,7 +30,7 @@ use ffv1_reads::{FileFault, pass, take};
 use ffv1_wire::{ByteIn, read_byte};
 
 /// A turn, which is not the end.
-fn turn_of(turn: Result<Turn, FileFault>) -> Result<Option<Turn>, FileFault>
+pub(crate) fn turn_of(turn: Result<Turn, FileFault>) -> Result<Option<Turn>, FileFault>
     ensures { result ≡ turn_of turn }
 {
     match turn {
@@ -245,17 +249,20 @@ fn read_named<R: ByteIn>(
     }
 }
 
-/// An element of the Segment after its ID, or the fault of that.
+/// An element of the Segment after its ID, or the fault of that. `cued` is then whether Cues came
+/// after the last Cluster.
 fn name_element<R: ByteIn>(
     input: &mut R,
     track: TrackNumbers,
     ident: Result<Vint, FileFault>,
     place: Place,
+    cued: &mut bool,
 ) -> Result<Turn, FileFault>
     requires len { IfOk ident (λ v. length (take v.len v.bytes) ≡ v.len) }
     requires most { IfOk ident (λ v. v.len ≤ 4) }
-    ensures { Answers (λ (t : Turn). t) (segment_named track place (vint_bytes ident))
+    ensures answer { Answers (λ (t : Turn). t) (segment_named track place (vint_bytes ident))
         (passage R.remaining R.failures input.old input.new) result }
+    ensures cued { cued.new ≡ cued_named cued.old (vint_bytes ident) }
 {
     match ident {
         Err(fault) => Ok(Turn::Told {
@@ -265,6 +272,7 @@ fn name_element<R: ByteIn>(
         }),
         Ok(ident) => {
             let number = number_of(&ident.bytes[..ident.len]) as u32;
+            *cued = cued_by(number, *cued);
             read_named(input, track, number, ident.len as u64, place)
         }
     }
@@ -276,12 +284,15 @@ fn read_element<R: ByteIn>(
     input: &mut R,
     track: TrackNumbers,
     place: Place,
+    cued: &mut bool,
 ) -> Result<Turn, FileFault>
-    ensures { Answers (λ (t : Turn). t) (segment_turn track place)
+    ensures answer { Answers (λ (t : Turn). t) (segment_turn track place)
         (passage R.remaining R.failures input.old input.new) result }
+    ensures cued { IfOk result (λ t. CuedBy (cued_outer cued.old)
+        (R.remaining input.old) (R.remaining input.new) cued.new) }
 {
     let ident = try_vint(input, 4, 4)?;
-    name_element(input, track, ident, place)
+    name_element(input, track, ident, place, cued)
 }
 
 /// The next element of a Segment of unknown size; None if the input has ended before it.
@@ -289,9 +300,12 @@ fn read_or_end<R: ByteIn>(
     input: &mut R,
     track: TrackNumbers,
     place: Place,
+    cued: &mut bool,
 ) -> Result<Option<Turn>, FileFault>
-    ensures { AnswersOrNone (λ (t : Option Turn). t) (turn_or_end track place)
+    ensures answer { AnswersOrNone (λ (t : Option Turn). t) (turn_or_end track place)
         (passage R.remaining R.failures input.old input.new) result }
+    ensures cued { IfOk result (λ t. CuedBy (cued_outer cued.old)
+        (R.remaining input.old) (R.remaining input.new) cued.new) }
 {
     let next = match read_byte(input) {
         Ok(next) => next,
@@ -300,7 +314,7 @@ fn read_or_end<R: ByteIn>(
     let Some(first) = next else {
         return Ok(None);
     };
-    turn_of(element_after(input, track, first, place))
+    turn_of(element_after(input, track, first, place, cued))
 }
 
 /// An element of a Segment whose first byte was read.
@@ -309,115 +323,38 @@ fn element_after<R: ByteIn>(
     track: TrackNumbers,
     first: u8,
     place: Place,
+    cued: &mut bool,
 ) -> Result<Turn, FileFault>
-    ensures { Answers (λ (t : Turn). t) (turn_after track first place)
+    ensures answer { Answers (λ (t : Turn). t) (turn_after track first place)
         (passage R.remaining R.failures input.old input.new) result }
+    ensures cued { IfOk result (λ t. CuedBy
+        (λ text. cued_read cued.old (tried (vint_rest 4 4 (first ∷ [])) text))
+        (R.remaining input.old) (R.remaining input.new) cued.new) }
 {
     let ident = try_vint_after(input, first, 4, 4)?;
-    name_element(input, track, ident, place)
+    name_element(input, track, ident, place, cued)
 }
 
 /// The next element of a Segment; None at its end.
-#[tactic(auto, unfolding(crate::specs::Turns::open_turn))]
+#[tactic(auto, unfolding(crate::specs::Turns::open_turn, crate::specs::CuedItems::cued_open))]
 fn read_open<R: ByteIn>(
     input: &mut R,
     track: TrackNumbers,
     place: Place,
+    cued: &mut bool,
 ) -> Result<Option<Turn>, FileFault>
-    ensures { AnswersOrNone (λ (t : Option Turn). t) (open_turn track place)
+    ensures answer { AnswersOrNone (λ (t : Option Turn). t) (open_turn track place)
         (passage R.remaining R.failures input.old input.new) result }
+    ensures cued { IfOk result (λ t. CuedBy (cued_open place cued.old)
+        (R.remaining input.old) (R.remaining input.new) cued.new) }
 {
     if place.segment == 0 {
         return Ok(None);
     }
     if place.endless {
-        return read_or_end(input, track, place);
+        return read_or_end(input, track, place, cued);
     }
-    turn_of(read_element(input, track, place))
-}
-
-/// How many bytes of the ID of a Cluster the last bytes are, after one more.
-fn byte_matched(matched: u8, byte: u8) -> u8
-    ensures { result ≡ byte_matched matched byte }
-{
-    match (matched, byte) {
-        (_, 0x1F) => 1,
-        (1, 0x43) => 2,
-        (2, 0xB6) => 3,
-        (3, 0x75) => 4,
-        _ => 0,
-    }
-}
-
-/// Passes bytes up to the end of the next ID of a Cluster, and answers how many of so many are left
-/// after it; None if they, or the input, end before.
-fn scan<R: ByteIn>(input: &mut R, left: u64) -> Result<Option<u64>, FileFault>
-    ensures { AnswersOrNone (λ (n : Option ℕ). n) (scanned left 0)
-        (passage R.remaining R.failures input.old input.new) result }
-{
-    let mut matched = 0u8;
-    for passed in 0..left {
-        let byte = match read_byte(input) {
-            Ok(byte) => byte,
-            Err(_) => return Err(FileFault::Read),
-        };
-        let Some(byte) = byte else {
-            return Ok(None);
-        };
-        matched = byte_matched(matched, byte);
-        if matched == 4 {
-            return Ok(Some(left - passed - 1));
-        }
-    }
-    Ok(None)
-}
-
-/// A Cluster that was found, of so many bytes.
-fn cluster_found(place: Place, left: u64, size: Option<u64>) -> Turn
-    ensures { result ≡ cluster_found place left size }
-{
-    let (pending, place) = match size {
-        None => (Pending::Nothing, segment_at(place, true, left)),
-        Some(size) => {
-            if left < size {
-                (Pending::Seeking, segment_at(place, false, left))
-            } else {
-                let after = segment_at(place, false, left - size);
-                (Pending::Nothing, cluster_entered(after, size))
-            }
-        }
-    };
-    Turn::On { pending, place }
-}
-
-/// A Cluster whose ID was found, so many bytes before the end of the Segment.
-#[tactic(auto, unfolding(crate::specs::Turns::found_turn))]
-fn read_found<R: ByteIn>(input: &mut R, place: Place, left: u64) -> Result<Turn, FileFault>
-    ensures { Answers (λ (t : Turn). t) (found_turn place left)
-        (passage R.remaining R.failures input.old input.new) result }
-{
-    match try_vint(input, 8, left)? {
-        Err(_) => Ok(Turn::On {
-            pending: Pending::Seeking,
-            place: segment_at(place, false, left.saturating_sub(1)),
-        }),
-        Ok(size) => {
-            let said = size_of(&size.bytes[..size.len]);
-            Ok(cluster_found(place, left - size.len as u64, said))
-        }
-    }
-}
-
-/// Seeks the next Cluster.
-#[tactic(auto, unfolding(crate::specs::Turns::seek_turn))]
-fn seek_cluster<R: ByteIn>(input: &mut R, place: Place) -> Result<Option<Turn>, FileFault>
-    ensures { AnswersOrNone (λ (t : Option Turn). t) (seek_turn place)
-        (passage R.remaining R.failures input.old input.new) result }
-{
-    let Some(left) = scan(input, place.segment)? else {
-        return Ok(None);
-    };
-    turn_of(read_found(input, place, left))
+    turn_of(read_element(input, track, place, cued))
 }
 
 /// The place in a Segment that counts as open, before content of so many bytes.
@@ -436,14 +373,17 @@ pub(crate) fn open_at(size: u64, place: Place) -> Place
 
 /// The next element; a Cluster that was read to its end, and whose CRC-32 is not the sum, is told
 /// first.
-#[tactic(auto, unfolding(crate::specs::Turns::element_turn))]
+#[tactic(auto, unfolding(crate::specs::Turns::element_turn, crate::specs::CuedItems::cued_element))]
 fn next_element<R: ByteIn>(
     input: &mut R,
     track: TrackNumbers,
     place: Place,
+    cued: &mut bool,
 ) -> Result<Option<Turn>, FileFault>
-    ensures { AnswersOrNone (λ (t : Option Turn). t) (element_turn track place)
+    ensures answer { AnswersOrNone (λ (t : Option Turn). t) (element_turn track place)
         (passage R.remaining R.failures input.old input.new) result }
+    ensures cued { IfOk result (λ t. CuedBy (cued_element place cued.old)
+        (R.remaining input.old) (R.remaining input.new) cued.new) }
 {
     if !is_sound(place) {
         return Ok(Some(Turn::Told {
@@ -458,26 +398,33 @@ fn next_element<R: ByteIn>(
     if place.cluster > 0 {
         return turn_of(read_cluster(input, track, place));
     }
-    read_open(input, track, place)
+    read_open(input, track, place, cued)
 }
 
-/// What comes next, by what is pending; None at the end.
-#[tactic(auto, unfolding(crate::specs::Turns::turn_read))]
+/// What comes next, by what is pending; None at the end. `cued` is then whether Cues came after the
+/// last Cluster, by the IDs of elements of the Segment that were read.
+#[tactic(auto, unfolding(crate::specs::Turns::turn_read, crate::specs::CuedItems::cued_turn))]
 pub(crate) fn take_turn<R: ByteIn>(
     input: &mut R,
     track: TrackNumbers,
     pending: Pending,
     place: Place,
+    cued: &mut bool,
 ) -> Result<Option<Turn>, FileFault>
-    ensures { AnswersOrNone (λ (t : Option Turn). t) (turn_read track pending place)
+    ensures answer { AnswersOrNone (λ (t : Option Turn). t) (turn_read track pending place)
         (passage R.remaining R.failures input.old input.new) result }
+    ensures cued { IfOk result (λ t. CuedBy (cued_turn pending place cued.old)
+        (R.remaining input.old) (R.remaining input.new) cued.new) }
 {
     match pending {
-        Pending::Nothing => next_element(input, track, place),
-        Pending::Seeking => seek_cluster(input, place),
+        Pending::Nothing => next_element(input, track, place, cued),
+        Pending::Seeking => seek_cluster(input, place, cued),
         Pending::Grouped => turn_of(read_grouped(input, track, place)),
         Pending::Passing { count } => turn_of(pass_turn(input, count, Pending::Nothing, place)),
-        Pending::Named { ident } => turn_of(read_named(input, track, ident, 0, place)),
+        Pending::Named { ident } => {
+            *cued = cued_by(ident, *cued);
+            turn_of(read_named(input, track, ident, 0, place))
+        }
         Pending::Headed { ident, size } => {
             let after = open_at(size.unwrap_or(0), place);
             turn_of(read_outer(input, track, ident, size, after))

@@ -14,6 +14,7 @@ ghost use Rattle.ffv1_matroska.specs.Files.{frame_read};
 ghost use Rattle.ffv1_matroska.specs.Items.{ItemAnswers, course_at, item_read};
 ghost use Rattle.ffv1_matroska.specs.declared.items.Item.TheVariants as item;
 ghost use Rattle.ffv1_matroska.specs.Opened.{open_read};
+ghost use Rattle.ffv1_matroska.specs.CuedItems.{CuedBy, cued_item};
 ghost use Rattle.ffv1_matroska.specs.Cues.{CuedAfter};
 ghost use Rattle.ffv1_matroska.specs.Offsets.{OffsetAfter, OffsetOpened};
 ghost use Rattle.ffv1_matroska.specs.Places.{amount, ended};
@@ -193,6 +194,13 @@ impl<A: Allocator> MatroskaReader<A> {
         self.end
     }
 
+    /// Whether Cues came after the last Cluster before where the reader stands.
+    pub fn cued(&self) -> bool
+        ensures { result ≡ self.now.cued }
+    {
+        self.cued
+    }
+
     /// Whether nothing says that the Segment is whole, once `next_frame` has answered false: its
     /// size is unknown, and no Cues stand behind its last Cluster. A program that was broken off
     /// leaves such a file, and so do some that write to a pipe.
@@ -201,6 +209,15 @@ impl<A: Allocator> MatroskaReader<A> {
         ensures { result ≡ is_open self.now.segment self.now.cued }
     {
         self.segment.is_none() && !self.cued
+    }
+
+    /// The same of a file that may be damaged, once `next_item` has answered that nothing more
+    /// comes; `cued` is whether Cues came after the last Cluster, as those calls say.
+    #[tactic(auto, unfolding(crate::specs::Readers::is_open))]
+    pub fn is_left_open(&self, cued: bool) -> bool
+        ensures { result ≡ is_open self.now.segment cued }
+    {
+        self.segment.is_none() && !cued
     }
 
     /// Looks at what stands behind the Segment, once `next_frame` has answered false: whether there
@@ -333,6 +350,12 @@ impl<A: Allocator> MatroskaReader<A> {
     /// size is one and fits in the Segment; where none comes, there are no more frames. If the
     /// input ends inside an element, `Truncated` is told, and nothing more comes.
     ///
+    /// `cued` is lent to each call, and is false before the first one. It is then whether Cues came
+    /// after the last Cluster, by the IDs of the Segment's elements that were read, whatever else
+    /// of these is at fault; the ID of a Cluster that a search found counts, too. An element in
+    /// which the input ends does not count, unless a fault of it was told before. After a fault
+    /// `cued` says nothing.
+    ///
     /// `Read` if a read failed, `OutOfMemory`; no other fault is answered. The input has to be the
     /// one that the reader was opened on. After a frame the vector has room for as many bytes as it
     /// had, or as it holds, if that is more; else at most for as many as it had, or for twice those
@@ -341,16 +364,20 @@ impl<A: Allocator> MatroskaReader<A> {
         &self,
         input: &mut R,
         course: &mut Course,
+        cued: &mut bool,
         frame: &mut Vec<u8, A>,
     ) -> Result<Item, FileFault>
         ensures answer { ItemAnswers (item_read self.now.track.numbers course.old)
             (passage R.remaining R.failures input.old input.new) result frame.new.items course.new }
         ensures end { IfOk result (λ i. i ≡ item.End → course.new.place ≡ ended) }
+        ensures cued { IfOk result (λ i. CuedBy
+            (cued_item self.now.track.numbers course.old cued.old)
+            (R.remaining input.old) (R.remaining input.new) cued.new) }
         ensures room { vec_capacity frame.new
             ≤ max (vec_capacity frame.old) (2 * length frame.new.items + 65536) }
         ensures held { IfOk result (λ i. i ≡ item.Frame →
             vec_capacity frame.new ≤ max (vec_capacity frame.old) (length frame.new.items)) }
     {
-        read_item(input, self.track, course, frame)
+        read_item(input, self.track, course, cued, frame)
     }
 }

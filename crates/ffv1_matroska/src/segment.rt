@@ -426,7 +426,7 @@ pub(crate) fn next_header<R: ByteIn>(
 
 /// Whether Cues came after the last Cluster, behind an element of the Segment.
 #[tactic(auto, unfolding(crate::specs::Cues::cued_by))]
-fn cued_by(ident: u32, cued: bool) -> bool
+pub(crate) fn cued_by(ident: u32, cued: bool) -> bool
     ensures { result ≡ cued_by ident cued }
 {
     if ident == CLUSTER {

@@ -1,5 +1,6 @@
 -- What is noted of a file, and what comes of that.
-use Rattle.std.specs.Prelude.{◌≡◌, ◌&&◌, ◌||◌, Bool, if◌then◌else◌, is_some, Result, Ok, Err}
+use Rattle.std.specs.Prelude.{◌≡◌, ◌&&◌, ◌||◌, Bool, if◌then◌else◌, is_some, nat_lt, Result, Ok}
+use Rattle.std.specs.Prelude.{Err}
 use Rattle.ffv1_files.specs.Noted.{no_notes}
 use Rattle.ffv1_files.specs.declared.notes.Notes.{Notes}
 use Rattle.ffv1_orders.specs.declared.refusal.Refusal.{Refusal}
@@ -7,7 +8,7 @@ use Rattle.ffv1_orders.specs.declared.refusal.Refusal.TheVariants as refusal
 
 -- anything is
 abbrev pub is_noted : Notes → Bool
-is_noted notes = notes.is_open || is_some notes.after
+is_noted notes = (notes.is_open || nat_lt 0 notes.repeated) || is_some notes.after
 
 -- what comes of what was done of a file, if a note is a fault or if it is none
 abbrev pub noted : Bool → Result Notes Refusal → Result Notes Refusal

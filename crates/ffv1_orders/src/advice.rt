@@ -104,8 +104,8 @@ pub static ROWS: [&str; 70] = [
     "53 ChunkTooLong\n  A frame is longer than 1073741824 bytes, or the format of a stream, the \
      header of EBML or Tracks than 67108864. It may also come later. pack: a coded frame is \
      longer.\n  Give smaller pictures; of a file, damage.",
-    "54 EmptyFrame\n  A frame has no bytes: some programs write such a chunk for a frame that \
-     they dropped.\n  Not read. Use another program, such as FFmpeg.",
+    "54 EmptyFrame\n  A frame of Matroska has no bytes; of an AVI it repeats the one before \
+     it.\n  Not read. Use another program, such as FFmpeg.",
     "55 TooLarge\n  An AVI would pass 2147483655 bytes, or a Cluster of Matroska would end after \
      2^56 - 2^20. framemd5: there are 2^64 pictures.\n  Pack into Matroska (--container mkv).",
     "56 Read\n  IN could not be opened, or a read failed.\n  No such file: look at the path, and \

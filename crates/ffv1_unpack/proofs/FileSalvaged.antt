@@ -1,6 +1,5 @@
 -- All items of a file are salvaged.
-use Rattle.std.proofs.Common.{◌≡◌, refl, ℕ, Bool, true, false, Option, List, [], ◌∷◌, ◌++◌, length, inl, inr, ap, subst, ◌∙◌, arith}
-use Rattle.ffv1_range.specs.Counts.{saturated}
+use Rattle.std.proofs.Common.{◌≡◌, refl, ℕ, Bool, true, false, Option, List, [], ◌∷◌, ◌++◌, length, inl, inr, ap, ◌∙◌, arith}
 use Rattle.ffv1_wire.specs.Failures.{one_more}
 use Rattle.ffv1_wire.specs.Passage.{Passage, between}
 use Rattle.ffv1_record.specs.Accepted.{Accepted}
@@ -10,23 +9,19 @@ use Rattle.ffv1_files.specs.Readers.{Standing}
 use Rattle.ffv1_matroska.specs.Items.{Given}
 use Rattle.ffv1_video.specs.declared.profile.Profile.{Profile}
 use Rattle.ffv1_video.specs.declared.fault.Fault.{Fault}
-use Rattle.ffv1_video.specs.declared.fault.Fault.TheVariants as fault
 use Rattle.ffv1_video.specs.Faults.{Cause, cause_of}
 use Rattle.ffv1_video.specs.Faults.Cause.{Reading, Writing, Memory, Content}
 use Rattle.ffv1_video.specs.Profiles.{scope_in}
-use Rattle.ffv1_files.specs.Noted.{no_notes}
-use Rattle.ffv1_unpack.specs.declared.judging.JudgedCounts.{JudgedCounts}
 use Rattle.ffv1_unpack.specs.Internal.Opens.{OpensStream, stream_of}
-use Rattle.ffv1_unpack.specs.JudgedItems.{ItemIs, ItemsFrom, ItemsNext, ItemsOver, ItemsStay, ItemsThen, JudgedItem, OfFrame, ToldAt, frames_of, given_as}
+use Rattle.ffv1_unpack.specs.JudgedItems.{ItemIs, ItemsFrom, ItemsNext, ItemsStay, ItemsThen, JudgedItem, OfFrame, ToldAt, frames_of, given_as}
 use Rattle.ffv1_unpack.specs.Salvaged.{salvage_faults}
 use Rattle.ffv1_unpack.specs.Stream.{Stream}
-use Rattle.ffv1_unpack.specs.UnpackAll.{AreSalvageCounts, FaultNext, LacksNext, LineCut, LinesTold, PictureCut, PictureWritten, PicturesShown, ReadFailsNext, SalvageGoes, SalvageStopsBy, SalvagedThen, SalvagesAll, UnpackAllDone, UnpackAllStops}
+use Rattle.ffv1_unpack.specs.UnpackAll.{FaultNext, LacksNext, LineCut, LinesTold, PictureCut, PictureWritten, PicturesShown, ReadFailsNext, SalvageGoes, SalvageStopsBy, SalvagedThen, UnpackAllStops}
 use Rattle.ffv1_unpack.specs.Unpacked.{HasText, is_ppm_stream}
 use Rattle.ffv1_unpack.proofs.FileItems.{has_file}
-use Rattle.ffv1_unpack.proofs.FileRead.{no_items as nothing_in, positive}
 
 -- neither a frame nor a fault: no item
-none_came : (ppm : Bool) (xs : List JudgedItem) → length (frames_of xs) ≡ 0 → length (salvage_faults ppm xs) ≡ 0 → xs ≡ []
+pub none_came : (ppm : Bool) (xs : List JudgedItem) → length (frames_of xs) ≡ 0 → length (salvage_faults ppm xs) ≡ 0 → xs ≡ []
 none_came ppm [] no_frame no_fault = refl
 none_came ppm (OfFrame j ∷ xs) no_frame no_fault = absurd (omega (arith, no_frame))
 none_came ppm (ToldAt f offset ∷ xs) no_frame no_fault = absurd (omega (arith, no_fault))
@@ -97,33 +92,3 @@ module _ (profile : Profile) (i0 i1 i2 : Option (List ℕ)) (ib im ia : ℕ) (r 
 
   pub all_fails : (f : Fault) → SalvageStopsBy Here s Rest lines output f (cause_of f) → UnpackAllStops profile Whole lines output f
   all_fails f h = inr (inl (record { stream = s; is = opens.stream; text = text; stops = stops_file f (cause_of f) h }))
-
-  all_file : (xs : List JudgedItem) → SalvagesAll Here s Rest lines output xs → SalvagesAll File s Whole lines output xs
-  all_file xs h = record { goes = goes_file xs (ItemsOver (length xs)) h.goes; told = told_file xs h.told; showed = shown_file xs h.showed; kept = h.kept ∙ opens.kept }
-
-  module _ (counts : JudgedCounts) (xs : List JudgedItem) (counted : AreSalvageCounts (is_ppm_stream s) counts xs) (all : SalvagesAll Here s Rest lines output xs) where
-    pub all_none : counts.frames ≡ 0 → counts.faults ≡ 0 → UnpackAllStops profile Whole lines output fault.NoFrames
-    all_none no_frame no_fault =
-        let frames = counted.frames in
-        let faults = counted.faults in
-        let empty : xs ≡ [] = none_came (is_ppm_stream s) xs (omega (arith, frames, no_frame)) (omega (arith, faults, no_fault)) in
-        inr (inr (refl, record { stream = s; is = opens.stream; text = text; all = subst (SalvagesAll File s Whole lines output) empty (all_file xs all) }))
-
-    pub all_done : (counts.frames ≡ 0 → counts.faults ≡ 0 → ⊥) → UnpackAllDone profile Whole lines output counts no_notes
-    all_done some = record {
-      stream = s;
-      xs = xs;
-      some = positive xs (λ none. nothing none);
-      is = opens.stream;
-      text = text;
-      all = all_file xs all;
-      counted = counted;
-      noted = refl;
-    }
-      where
-        nothing : length xs ≡ 0 → ⊥
-        nothing none =
-            let empty : xs ≡ [] = nothing_in xs none in
-            let frames : counts.frames ≡ 0 = counted.frames ∙ ap (λ z. saturated (length (frames_of z))) empty in
-            let faults : counts.faults ≡ 0 = counted.faults ∙ ap (λ z. saturated (length (salvage_faults (is_ppm_stream s) z))) empty in
-            some frames faults

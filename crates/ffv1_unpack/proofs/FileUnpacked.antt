@@ -20,9 +20,9 @@ use Rattle.ffv1_unpack.specs.Behind.{NotedIn}
 use Rattle.ffv1_unpack.specs.Internal.Opens.{OpensRange, OpensStream, stream_of}
 use Rattle.ffv1_unpack.specs.Plays.{GoesThen, HasThen, NextBehind, NextHasFault, NextIsPayload, NextPayloadLacks, NextReadFails, NextStays, NotedAfter, has_more}
 use Rattle.ffv1_unpack.specs.Ranges.{RangeThen}
-use Rattle.ffv1_unpack.specs.Stream.{Frame, IsFrame, IsStream, Stream, frame_payload, payloads}
+use Rattle.ffv1_unpack.specs.Stream.{Coded, Frame, IsFrame, IsStream, Stream, frame_payload, payloads}
 use Rattle.ffv1_unpack.specs.Unpack.{IsUnpackFault, LacksUnpacking, UnpackGoes, UnpackNone, UnpackRangeDone, UnpackRangeStops}
-use Rattle.ffv1_unpack.specs.Unpacked.{HasText, LacksTextBy, is_ppm_stream, text_of}
+use Rattle.ffv1_unpack.specs.Unpacked.{HasText, LacksTextBy, is_ppm_stream, shown_text}
 use Rattle.ffv1_unpack.specs.Unpacking.{FormatChanges, PayloadStops, PictureFails, RowFails, UnpackingStops, UnpackingStopsBy, UnpacksMost, UnpacksThen}
 use Rattle.ffv1_unpack.proofs.FilePlayed.{fails_file, file_has, goes_file, plays_file}
 use Rattle.ffv1_unpack.proofs.FileRead.{no_items, positive}
@@ -52,22 +52,24 @@ module _ (profile : Profile) (i0 i1 i2 o0 o1 : Option (List ℕ)) (ib im ia ob o
   module _ (s : Stream) (is : IsStream profile s) (text : HasText s) (Here : List (List ℕ) → (Place → List ℕ → List ℕ → Type 0) → List ℕ → List ℕ → Type 0)
       (Held : Head → List (List ℕ) → (Place → List ℕ → List ℕ → Type 0) → List ℕ → List ℕ → Type 0)
       (leads : (ps : List (List ℕ)) (Next : Place → List ℕ → List ℕ → Type 0) → Known i1 i2 (Here ps Next) → Known i0 i2 (Held s.head ps Next)) (kept : im ≡ ib) where
-    goes : (frames : List Frame) (Next : Place → List ℕ → List ℕ → Type 0) → GoesThen (IsFrame s.accepted) frame_payload Here (text_of s) (between i1 i2 im ia) (between o0 o1 ob om) frames Next →
-        GoesThen (IsFrame s.accepted) frame_payload (Held s.head) (text_of s) (between i0 i2 ib ia) (between o0 o1 ob om) frames Next
-    goes = goes_file (IsFrame s.accepted) frame_payload (text_of s) Here (Held s.head) i0 i1 i2 o0 o1 ib im ia ob om leads kept
+    goes : (frames : List Frame) (Next : Place → List ℕ → List ℕ → Type 0) → GoesThen (IsFrame s.accepted) frame_payload Here (shown_text s) (between i1 i2 im ia) (between o0 o1 ob om) frames Next →
+        GoesThen (IsFrame s.accepted) frame_payload (Held s.head) (shown_text s) (between i0 i2 ib ia) (between o0 o1 ob om) frames Next
+    goes = goes_file (IsFrame s.accepted) frame_payload (shown_text s) Here (Held s.head) i0 i1 i2 o0 o1 ib im ia ob om leads kept
 
     unpacks : (frames : List Frame) (Next : Place → List ℕ → List ℕ → Type 0) → UnpacksThen Here s (between i1 i2 im ia) (between o0 o1 ob om) frames Next →
         UnpacksThen (Held s.head) s (between i0 i2 ib ia) (between o0 o1 ob om) frames Next
-    unpacks frames Next h = record { plays = plays_file (IsFrame s.accepted) frame_payload (text_of s) Here (Held s.head) i0 i1 i2 o0 o1 ib im ia ob om leads kept frames Next h.plays; alike = h.alike }
+    unpacks frames Next h = record { plays = plays_file (IsFrame s.accepted) frame_payload (shown_text s) Here (Held s.head) i0 i1 i2 o0 o1 ib im ia ob om leads kept frames Next h.plays; alike = h.alike }
 
     picture_fails : (frames : List Frame) → PictureFails Here s (between i1 i2 im ia) (between o0 o1 ob om) frames →
         PictureFails (Held s.head) s (between i0 i2 ib ia) (between o0 o1 ob om) frames
-    picture_fails frames h = record { fails = fails_file (IsFrame s.accepted) frame_payload (text_of s) Here (Held s.head) i0 i1 i2 o0 o1 ib im ia ob om leads kept frames h.fails; alike = h.alike }
+    picture_fails frames h = record { fails = fails_file (IsFrame s.accepted) frame_payload (shown_text s) Here (Held s.head) i0 i1 i2 o0 o1 ib im ia ob om leads kept frames h.fails; alike = h.alike }
 
     row_fails : RowFails Here s (between i1 i2 im ia) (between o0 o1 ob om) → RowFails (Held s.head) s (between i0 i2 ib ia) (between o0 o1 ob om)
     row_fails h = record {
       frames = h.frames;
       payload = h.payload;
+      source = h.source;
+      shows = h.shows;
       lines = h.lines;
       next = h.next;
       ppm = h.ppm;
@@ -96,7 +98,7 @@ module _ (profile : Profile) (i0 i1 i2 o0 o1 : Option (List ℕ)) (ib im ia ob o
     format_changes f h = record {
       frames = h.frames;
       last = h.last;
-      goes = goes (h.frames ++ (h.last ∷ [])) NextStays h.goes;
+      goes = goes (h.frames ++ (Coded h.last ∷ [])) NextStays h.goes;
       alike = h.alike;
       changed = h.changed;
       is = h.is;

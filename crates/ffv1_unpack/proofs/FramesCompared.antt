@@ -2,6 +2,7 @@
 use Rattle.std.proofs.Common.{◌≡◌, refl, ℕ, zero, suc, ◌+◌, ◌<◌, ◌≤◌, true, false, Option, Some, None, Err, List, [], ◌∷◌, ◌++◌, length, map, take, get_or, inl, inr, ap, sym, subst, ◌∙◌, arith, true≢false}
 use Rattle.std.specs.Prelude.{slice_get}
 use Rattle.std.specs.Io.KnownBytes.{Appends}
+use Rattle.std.proofs.KnownBytes.{Appends-nil}
 use Rattle.std.proofs.lemmas.Bool.{eqb-true}
 use Rattle.std.proofs.Math.Seq.{take-suc}
 use Rattle.ffv1_range.specs.Counts.{saturated}
@@ -19,7 +20,7 @@ use Rattle.ffv1_video.proofs.Output.{silent}
 use Rattle.ffv1_unpack.specs.Behind.{NotedIn}
 use Rattle.ffv1_unpack.specs.Check.{IsCheckFault}
 use Rattle.ffv1_unpack.specs.Compared.{Agrees, ComparedThen, ComparingStops, DiffersAt, FileDiffers, IsUnlike, frame_number, frame_numbers, is_md5, met, stream_numbers}
-use Rattle.ffv1_unpack.specs.Internal.Compared.{CompareAnswers, Compares, FramesStop}
+use Rattle.ffv1_unpack.specs.Internal.Compared.{AgreesThere, CompareAnswers, FramesStop, met_after}
 use Rattle.ffv1_unpack.specs.Internal.Containers.{IsWithin}
 use Rattle.ffv1_unpack.specs.Internal.Located.{StaysReached}
 use Rattle.ffv1_unpack.specs.Internal.Opens.{OpensStream, stream_of}
@@ -29,11 +30,14 @@ use Rattle.ffv1_unpack.specs.Internal.Told.{IsToldFault}
 use Rattle.ffv1_unpack.specs.Located.{Stands}
 use Rattle.ffv1_unpack.specs.Opens.{LacksOpening}
 use Rattle.ffv1_unpack.specs.Plays.{FileThen, HasThen, NextOver, NextStays, PlaysFile, ReadsFile}
-use Rattle.ffv1_unpack.specs.Stream.{Frame, IsFrame, frame_payload}
+use Rattle.ffv1_unpack.specs.Internal.Plays.{PlaysFrame}
+use Rattle.ffv1_unpack.specs.Stream.{Again, Coded, CodedFrame, Frame, IsFrame, coded_frames, frame_payload}
+use Rattle.ffv1_unpack.specs.declared.comparing.Met.{Met}
 use Rattle.ffv1_unpack.specs.declared.comparing.Unlike.{Unlike}
 use Rattle.ffv1_unpack.specs.declared.comparing.Unlike.TheVariants as unlike
 use Rattle.ffv1_unpack.proofs.FilePlayed.{done, file_has, goes_file, lacks_opening, no_frames, whole_stops}
 use Rattle.ffv1_unpack.proofs.FramesInTurn.{all_more, counted_more, reads_more}
+use Rattle.ffv1_unpack.proofs.FramesShown.{coded_again, coded_more}
 use Rattle.ffv1_unpack.proofs.FramesPlayed.{PlayedSo, SoFar, has_stays, none_yet, one_so, play_stops, played_over, wants_memory}
 use Rattle.ffv1_unpack.proofs.OwnFaults.{told_checks, told_on}
 
@@ -46,6 +50,7 @@ has_place (x ∷ xs) (suc n) m e =
     let rest = has_place xs n m e in
     (let less = rest.0 in omega (arith, less), rest.1)
 
+-- one more is no more than the list has
 pub has_more : (md5s : List ℕ) (n m : ℕ) → is_md5 (slice_get md5s n) m ≡ true → n < length md5s
 has_more md5s n m e = (has_place md5s n m e).0
 
@@ -56,22 +61,31 @@ met_more md5s n m e =
     let next : n + 1 ≡ suc n = omega arith in
     rw next (take-suc md5s n 0 here.0 ∙ ap (λ z. take n md5s ++ (z ∷ [])) here.1)
 
-numbers_more : (a : Accepted) (frames : List Frame) (f : Frame) → frame_numbers a (frames ++ (f ∷ [])) ≡ frame_numbers a frames ++ (frame_number a f ∷ [])
+abbrev one_number : Accepted → Frame → List ℕ
+one_number a f = map (frame_number a) (coded_frames (f ∷ []))
+
+numbers_more : (a : Accepted) (frames : List Frame) (f : Frame) → frame_numbers a (frames ++ (f ∷ [])) ≡ frame_numbers a frames ++ one_number a f
 numbers_more a [] f = refl
-numbers_more a (g ∷ gs) f = ap (λ z. frame_number a g ∷ z) (numbers_more a gs f)
+numbers_more a (Coded g ∷ gs) f = ap (λ z. frame_number a g ∷ z) (numbers_more a gs f)
+numbers_more a (Again ∷ gs) f = numbers_more a gs f
+
+coded_long : (frames : List Frame) (f : CodedFrame) → length (coded_frames (frames ++ (Coded f ∷ []))) ≡ length (coded_frames frames) + 1
+coded_long frames f = ap length (coded_more frames f) ∙ sym (counted_more (coded_frames frames) f) ∙ (omega arith)
 
 -- ---- frames
 
 -- so many frames were compared, up to this place, and agree
-pub record ComparedSo (a : Accepted) (md5s : List ℕ) (from : Place) (input : Passage) (n : ℕ) (to : Place) : Type 0 where
+pub record ComparedSo (a : Accepted) (md5s : List ℕ) (from : Place) (input : Passage) (m : Met) (to : Place) : Type 0 where
   pub frames : List Frame
-  pub is : n ≡ length frames
-  pub within : n ≤ length md5s
-  pub so : SoFar (IsFrame a) frame_payload (frame_numbers a) from input (met md5s n) frames to
+  pub read : m.frames ≡ saturated (length frames)
+  pub is : m.md5s ≡ length (coded_frames frames)
+  pub within : m.md5s ≤ length md5s
+  pub so : SoFar (IsFrame a) frame_payload (frame_numbers a) from input (met md5s m.md5s) frames to
 
-pub compared_none : (a : Accepted) (md5s : List ℕ) (from : Place) (i : Option (List ℕ)) (ib : ℕ) → ComparedSo a md5s from (between i i ib ib) 0 from
+pub compared_none : (a : Accepted) (md5s : List ℕ) (from : Place) (i : Option (List ℕ)) (ib : ℕ) → ComparedSo a md5s from (between i i ib ib) (record { frames = 0; md5s = 0 }) from
 compared_none a md5s from i ib = record {
   frames = [];
+  read = omega arith;
   is = refl;
   within = omega arith;
   so = none_yet (IsFrame a) frame_payload (frame_numbers a) refl from i (Some []) ib 0;
@@ -83,7 +97,10 @@ compared_lacks a md5s from i ib f is =
     subst (λ z. FramesStop from a md5s (between i i ib ib) (unlike.Fault z)) (sym is)
     (0, wants_memory a (frame_numbers a) refl from i (Some []) ib 0 codec_fault.OutOfMemory refl)
 
-module _ (a : Accepted) (md5s : List ℕ) (from to last : Place) (n : ℕ) (i0 i1 i2 : Option (List ℕ)) (ib im ia : ℕ) (so : ComparedSo a md5s from (between i0 i1 ib im) n to) where
+module _ (a : Accepted) (md5s : List ℕ) (from to last : Place) (m : Met) (i0 i1 i2 : Option (List ℕ)) (ib im ia : ℕ) (so : ComparedSo a md5s from (between i0 i1 ib im) m to) where
+  abbrev n : ℕ
+  n = m.md5s
+
   abbrev played : PlayedSo a (frame_numbers a) from (between i0 i1 ib im) (met md5s n) (saturated (length so.frames)) to
   played = record { frames = so.frames; is = refl; so = so.so }
 
@@ -92,46 +109,58 @@ module _ (a : Accepted) (md5s : List ℕ) (from to last : Place) (n : ℕ) (i0 i
   compared_over notes over =
       played_over a (frame_numbers a) from to last (saturated (length so.frames)) i0 i1 i2 (Some []) (Some (take n md5s)) (Some (take n md5s)) ib im ia 0 0 0 played notes None refl tt over (silent (Some (take n md5s)) 0)
 
+  more_read : (f : Frame) → saturated (m.frames + 1) ≡ saturated (length (so.frames ++ (f ∷ [])))
+  more_read f =
+      let counted = counted_more so.frames f in
+      let was = so.read in
+      omega (arith, counted, was)
+
   -- one more agrees
-  pub compared_more : Compares a md5s n to last (between i1 i2 im ia) true → ComparedSo a md5s from (between i0 i2 ib ia) (n + 1) last
-  compared_more p =
-      let place = has_place md5s n (frame_number a p.0) p.2 in
+  pub compared_more : (f : Frame) → PlaysFrame a to last (between i1 i2 im ia) f → AgreesThere a md5s n f → ComparedSo a md5s from (between i0 i2 ib ia) (met_after m f) last
+  compared_more (Coded f) plays agrees =
+      let place = has_place md5s n (frame_number a f) agrees in
       let less = place.0 in
-      let counted = counted_more so.frames p.0 in
-      let was = so.is in
-      let number : n + 1 ≡ length (so.frames ++ (p.0 ∷ [])) = omega (arith, counted, was) in
       record {
-        frames = so.frames ++ (p.0 ∷ []);
-        is = number;
+        frames = so.frames ++ (Coded f ∷ []);
+        read = more_read (Coded f);
+        is = ap (λ k. k + 1) so.is ∙ sym (coded_long so.frames f);
         within = omega (arith, less);
         so = one_so (IsFrame a) frame_payload (frame_numbers a) from to last i0 i1 i2 (Some []) (Some (take n md5s)) (Some (take (n + 1) md5s)) ib im ia 0 0 0 so.frames so.so
-            (λ f. frame_number a f ∷ []) (numbers_more a so.frames) p.0 p.1 refl (met_more md5s n (frame_number a p.0) p.2);
+            (one_number a) (numbers_more a so.frames) (Coded f) plays refl (met_more md5s n (frame_number a f) agrees);
       }
+  compared_more Again plays agrees = record {
+    frames = so.frames ++ (Again ∷ []);
+    read = more_read Again;
+    is = so.is ∙ ap length (sym (coded_again so.frames));
+    within = so.within;
+    so = one_so (IsFrame a) frame_payload (frame_numbers a) from to last i0 i1 i2 (Some []) (Some (take n md5s)) (Some (take n md5s)) ib im ia 0 0 0 so.frames so.so
+        (one_number a) (numbers_more a so.frames) Again plays refl (Appends-nil (Some (take n md5s)));
+  }
 
   -- one more differs
-  differs : Compares a md5s n to last (between i1 i2 im ia) false → DiffersAt (HasThen from) a md5s (between i0 i2 ib ia) n
-  differs p = record {
+  differs : (f : CodedFrame) → PlaysFrame a to last (between i1 i2 im ia) (Coded f) → is_md5 (slice_get md5s n) (frame_number a f) ≡ false → DiffersAt (HasThen from) a md5s (between i0 i2 ib ia) m.frames
+  differs f plays other = record {
     frames = so.frames;
-    is = so.is;
-    agree = sym so.so.writes;
-    kept = p.1.reads.kept ∙ so.so.kept;
+    is = so.read;
+    agree = sym so.so.writes ∙ ap (λ k. take k md5s) so.is;
+    kept = plays.reads.kept ∙ so.so.kept;
     differs = inl (
-      p.0,
+      f,
       record {
-        are = all_more (IsFrame a) so.frames p.0 so.so.are p.1.is;
-        has = has_stays from last i0 i2 (map frame_payload (so.frames ++ (p.0 ∷ []))) (reads_more frame_payload from to last i0 i1 i2 so.frames p.0 so.so.read p.1.reads.next);
+        are = all_more (IsFrame a) so.frames (Coded f) so.so.are plays.is;
+        has = has_stays from last i0 i2 (map frame_payload (so.frames ++ (Coded f ∷ []))) (reads_more frame_payload from to last i0 i1 i2 so.frames (Coded f) so.so.read plays.reads.next);
       },
-      p.2,
+      subst (λ k. is_md5 (slice_get md5s k) (frame_number a f) ≡ false) so.is other,
     );
   }
 
   -- or none is compared
-  pub compared_stops : (notes : Notes) (u : Unlike) → CompareAnswers a md5s n to last (between i1 i2 im ia) notes (Err u) → FramesStop from a md5s (between i0 i2 ib ia) u
-  compared_stops notes (unlike.Differs k) p = subst (DiffersAt (HasThen from) a md5s (between i0 i2 ib ia)) (sym p.0) (differs p.1)
+  pub compared_stops : (notes : Notes) (u : Unlike) → CompareAnswers a md5s m to last (between i1 i2 im ia) notes (Err u) → FramesStop from a md5s (between i0 i2 ib ia) u
+  compared_stops notes (unlike.Differs k) p = subst (DiffersAt (HasThen from) a md5s (between i0 i2 ib ia)) (sym p.0) (differs p.1 p.2 p.3)
   compared_stops notes (unlike.Fault f) p = (
     n,
     play_stops a (frame_numbers a) from to last (saturated (length so.frames)) i0 i1 i2 (Some []) (Some (take n md5s)) (Some (take n md5s)) ib im ia 0 0 0 played
-        (λ frame. frame_number a frame ∷ []) (numbers_more a so.frames) f p,
+        (one_number a) (numbers_more a so.frames) f p,
   )
 
 -- ---- a whole file
@@ -143,7 +172,7 @@ module _ (profile : Profile) (md5s : List ℕ) (i0 i1 i2 : Option (List ℕ)) (i
   then_file : (frames : List Frame) (Next : Place → List ℕ → List ℕ → Type 0) → ComparedThen (HasThen r.place) a md5s (between i1 i2 im ia) frames Next →
       ComparedThen (FileThen profile r.head) a md5s (between i0 i2 ib ia) frames Next
   then_file frames Next h =
-      goes_file (IsFrame a) frame_payload (frame_numbers a) (HasThen r.place) (FileThen profile r.head) i0 i1 i2 (Some []) (Some (take (length frames) md5s)) ib im ia 0 0
+      goes_file (IsFrame a) frame_payload (frame_numbers a) (HasThen r.place) (FileThen profile r.head) i0 i1 i2 (Some []) (Some (take (length (coded_frames frames)) md5s)) ib im ia 0 0
       (file_has profile i0 i1 i2 r.head r.place opens.known) opens.kept frames Next h
 
   file_differs : (n : ℕ) → DiffersAt (HasThen r.place) a md5s (between i1 i2 im ia) n → FileDiffers profile md5s (between i0 i2 ib ia) n
@@ -156,7 +185,7 @@ module _ (profile : Profile) (md5s : List ℕ) (i0 i1 i2 : Option (List ℕ)) (i
       agree = h.agree;
       kept = h.kept ∙ opens.kept;
       differs = elim h.differs [
-        | inl one ↦ inl (one.0, then_file (h.frames ++ (one.0 ∷ [])) NextStays one.1, one.2)
+        | inl one ↦ inl (one.0, then_file (h.frames ++ (Coded one.0 ∷ [])) NextStays one.1, one.2)
         | inr none ↦ inr (none.0, then_file h.frames (NextOver none.0) none.1, none.2, none.3)
       ];
     };
@@ -166,33 +195,33 @@ module _ (profile : Profile) (md5s : List ℕ) (i0 i1 i2 : Option (List ℕ)) (i
   comparing_stops (unlike.Differs n) h = file_differs n h
   comparing_stops (unlike.Fault f) h = (h.0, whole_stops profile stream_numbers i0 i1 i2 (Some []) (Some (take h.0 md5s)) ib im ia 0 0 r a opens f h.1)
 
-  module _ (notes : Notes) (frames : List Frame) (n : ℕ) (is : n ≡ length frames)
-      (all : PlaysAll (IsFrame a) frame_payload (HasThen r.place) (frame_numbers a) (between i1 i2 im ia) (met md5s n) notes frames) where
-    pub comparing_none : n ≡ 0 → ComparingStops profile md5s (between i0 i2 ib ia) (unlike.Fault fault.NoFrames)
+  module _ (notes : Notes) (frames : List Frame) (m : Met) (read : m.frames ≡ saturated (length frames)) (is : m.md5s ≡ length (coded_frames frames))
+      (all : PlaysAll (IsFrame a) frame_payload (HasThen r.place) (frame_numbers a) (between i1 i2 im ia) (met md5s m.md5s) notes frames) where
+    pub comparing_none : m.frames ≡ 0 → ComparingStops profile md5s (between i0 i2 ib ia) (unlike.Fault fault.NoFrames)
     comparing_none none =
-        let few : saturated (length frames) ≡ 0 = omega (arith, is, none) in
-        (n, no_frames profile stream_numbers i0 i1 i2 (Some []) (Some (take n md5s)) ib im ia 0 0 r a opens frames (saturated (length frames)) refl notes all few)
+        let few : saturated (length frames) ≡ 0 = sym read ∙ none in
+        (m.md5s, no_frames profile stream_numbers i0 i1 i2 (Some []) (Some (take m.md5s md5s)) ib im ia 0 0 r a opens frames (saturated (length frames)) refl notes all few)
 
     -- the list has more
-    pub comparing_short : (n ≡ 0 → ⊥) → n < length md5s → ComparingStops profile md5s (between i0 i2 ib ia) (unlike.Differs n)
-    comparing_short some less = file_differs n (record {
+    pub comparing_short : (m.frames ≡ 0 → ⊥) → m.md5s < length md5s → ComparingStops profile md5s (between i0 i2 ib ia) (unlike.Differs m.frames)
+    comparing_short some less = file_differs m.frames (record {
       frames = frames;
-      is = is;
-      agree = sym all.plays.wrote.writes;
+      is = read;
+      agree = sym all.plays.wrote.writes ∙ ap (λ k. take k md5s) is;
       kept = all.kept;
       differs = inr (
         notes,
         record { are = all.plays.goes.are; has = all.plays.goes.has },
         omega (arith, some),
-        less,
+        omega (arith, less, is),
       );
     })
 
-    pub comparing_done : (n ≡ 0 → ⊥) → n ≡ length md5s → ReadsFile profile notes i0 i2 (stream_of r a) frames → NotedIn profile (between i0 i2 ib ia) notes → Agrees profile md5s (between i0 i2 ib ia) notes
+    pub comparing_done : (m.frames ≡ 0 → ⊥) → m.md5s ≡ length md5s → ReadsFile profile notes i0 i2 (stream_of r a) frames → NotedIn profile (between i0 i2 ib ia) notes → Agrees profile md5s (between i0 i2 ib ia) notes
     comparing_done some whole reads noted =
         subst (λ z. PlaysFile profile stream_numbers (between i0 i2 ib ia) (met md5s z) notes) whole
-        (done profile stream_numbers i0 i1 i2 (Some []) (Some (take n md5s)) ib im ia 0 0 r a opens frames (saturated (length frames)) refl notes all
-        (λ none. some (let few : n ≡ 0 = omega (arith, is, none) in few)) reads noted)
+        (done profile stream_numbers i0 i1 i2 (Some []) (Some (take m.md5s md5s)) ib im ia 0 0 r a opens frames (saturated (length frames)) refl notes all
+        (λ none. some (let few : m.frames ≡ 0 = omega (arith, read, none) in few)) reads noted)
 
 -- ---- which faults
 

@@ -1,5 +1,8 @@
 -- Lists that grow at their end, and files that are read on.
-use Rattle.std.proofs.Common.{◌≡◌, refl, ℕ, suc, Option, Some, None, Ok, List, [], ◌∷◌, ◌++◌, length, map, ap, subst}
+use Rattle.std.proofs.Common.{◌≡◌, refl, ℕ, suc, ◌==◌, Bool, true, Option, Some, None, Ok, List, [], ◌∷◌, ◌++◌, length, map, ap, subst, arith}
+use Rattle.std.proofs.lemmas.Grind.{common_steps}
+use Rattle.std.specs.declared.vec.Vec.{Vec}
+use Rattle.std.specs.Vec.{vec_len}
 use Rattle.ffv1_files.specs.Places.{Place}
 use Rattle.ffv1_files.specs.Files.{frame_read}
 use Rattle.ffv1_reads.specs.Known.{Known}
@@ -40,3 +43,12 @@ reads_more payload from to last None m n xs x h next = tt
 reads_more payload from to last (Some text) None n xs x h next = absurd h
 reads_more payload from to last (Some text) (Some at) None xs x h next = absurd next
 reads_more payload from to last (Some text) (Some at) (Some rest) xs x h next = frames_more payload from text xs to at x last rest h next
+
+-- a list that has no length
+pub none_long : {X : Type 0} (xs : List X) → length xs ≡ 0 → xs ≡ []
+none_long [] none = refl
+none_long (x ∷ xs) none = absurd (omega (arith, none))
+
+-- bytes of which there are none
+pub no_bytes : {A : Type 0} (v : Vec ℕ A) {empty : Bool} → empty ≡ (vec_len v == 0) → empty ≡ true → v.items ≡ []
+no_bytes v is none = none_long v.items (grind (arith, common_steps, is, none))

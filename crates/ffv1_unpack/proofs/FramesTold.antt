@@ -11,7 +11,7 @@ use Rattle.ffv1_words.specs.declared.order.FrameRange.{FrameRange}
 use Rattle.ffv1_video.specs.declared.fault.Fault.{Fault}
 use Rattle.ffv1_unpack.specs.declared.frame_line.FrameLine.{FrameLine}
 use Rattle.ffv1_video.specs.Faults.{cause_of}
-use Rattle.ffv1_unpack.specs.FrameLines.{frame_line, lines_from, place_text}
+use Rattle.ffv1_unpack.specs.FrameLines.{line_of, lines_from, place_text}
 use Rattle.ffv1_unpack.specs.Located.{WritesLine}
 use Rattle.ffv1_unpack.specs.Internal.Located.{LocatedAfter, StaysReached}
 use Rattle.ffv1_unpack.specs.Plays.{HasThen, NextIsPayload}
@@ -23,21 +23,21 @@ use Rattle.ffv1_unpack.proofs.FramesPlayed.{PlayedSo, goes_by, goes_on, line_beh
 use Rattle.ffv1_video.proofs.KnownTexts.{known_map}
 
 lines_more : (kind : FrameLine) (c : Configuration) (i : ℕ) (frames : List Frame) (f : Frame) →
-    lines_from kind c i (frames ++ (f ∷ [])) ≡ lines_from kind c i frames ++ frame_line kind c (saturated (i + length frames)) f.payload f.tally
+    lines_from kind c i (frames ++ (f ∷ [])) ≡ lines_from kind c i frames ++ line_of kind c (saturated (i + length frames)) f
 lines_more kind c i [] f =
     let same : i ≡ i + 0 = omega arith in
-    append-nil (frame_line kind c (saturated i) f.payload f.tally) ∙ ap (λ n. frame_line kind c (saturated n) f.payload f.tally) same
+    append-nil (line_of kind c (saturated i) f) ∙ ap (λ n. line_of kind c (saturated n) f) same
 lines_more kind c i (g ∷ gs) f =
-    let here = frame_line kind c (saturated i) g.payload g.tally in
+    let here = line_of kind c (saturated i) g in
     let same : suc i + length gs ≡ i + suc (length gs) = omega arith in
     ap (λ z. here ++ z) (lines_more kind c (suc i) gs f)
-    ∙ sym (append_assoc here (lines_from kind c (suc i) gs) (frame_line kind c (saturated (suc i + length gs)) f.payload f.tally))
-    ∙ ap (λ n. (here ++ lines_from kind c (suc i) gs) ++ frame_line kind c (saturated n) f.payload f.tally) same
+    ∙ sym (append_assoc here (lines_from kind c (suc i) gs) (line_of kind c (saturated (suc i + length gs)) f))
+    ∙ ap (λ n. (here ++ lines_from kind c (suc i) gs) ++ line_of kind c (saturated n) f) same
 
 pub all_lines : (kind : FrameLine) (c : Configuration) (range : FrameRange) (number : ℕ) (frames : List Frame) (f : Frame) → number ≡ number_in range (length frames) →
     lines_from kind c range.first (frames ++ (f ∷ [])) ≡ lines_from kind c range.first frames ++ told_line kind c number f
 all_lines kind c range number frames f is =
-    lines_more kind c range.first frames f ∙ ap (λ n. lines_from kind c range.first frames ++ frame_line kind c n f.payload f.tally) (sym is)
+    lines_more kind c range.first frames f ∙ ap (λ n. lines_from kind c range.first frames ++ line_of kind c n f) (sym is)
 
 module _ (kind : FrameLine) (place byte : Bool) (range : FrameRange) (a : Accepted) (from to : Standing) (last : Place) (count number : ℕ) (i0 i1 i2 o0 o1 o2 : Option (List ℕ)) (ib im ia ob om oa : ℕ)
     (so : PlayedSo a (lines_from kind a.configuration range.first) from.place (between i0 i1 ib im) (between o0 o1 ob om) count to.place) (is : number ≡ number_in range (length so.frames))

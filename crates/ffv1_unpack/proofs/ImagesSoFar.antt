@@ -1,5 +1,6 @@
 -- Images are written one after the other.
-use Rattle.std.proofs.Common.{◌≡◌, refl, ℕ, ◌+◌, ◌<◌, ◌≤◌, true, Option, List, [], ◌∷◌, ◌++◌, length, take, inl, inr, ap, sym, subst, ◌∙◌, arith, append-nil, append_assoc, length-append}
+use Rattle.std.proofs.Common.{◌≡◌, refl, ℕ, ◌+◌, ◌<◌, ◌≤◌, true, Option, Some, None, List, [], ◌∷◌, ◌++◌, length, take, inl, inr, ap, sym, subst, ◌∙◌, arith, append-nil, append_assoc, length-append}
+use Rattle.std.specs.List.{flat_map}
 use Rattle.std.specs.Io.KnownBytes.{Appends}
 use Rattle.std.proofs.KnownBytes.{Appends-nil, Appends-trans}
 use Rattle.ffv1_range.specs.Counts.{saturated}
@@ -14,21 +15,22 @@ use Rattle.ffv1_video.specs.declared.fault.Fault.{Fault}
 use Rattle.ffv1_video.specs.declared.fault.Fault.TheVariants as fault
 use Rattle.ffv1_video.specs.Faults.{Cause}
 use Rattle.ffv1_video.specs.Faults.Cause.{Reading, Writing, Memory, Content}
-use Rattle.ffv1_unpack.specs.Internal.ImagesOut.{ImageFaults, ImageStopsBy, RowCut, rows_so_far}
-use Rattle.ffv1_unpack.specs.Stream.{Frame, IsFrame, Stream, frame_payload}
+use Rattle.ffv1_unpack.specs.Internal.ImagesOut.{ImageFaults, ImageStopsBy, RowCut, image_next, image_of, rows_so_far}
+use Rattle.ffv1_unpack.specs.Stream.{Again, Coded, CodedFrame, Frame, IsFrame, Stream, coded_frames, frame_payload, last_of, shown_frames, those}
 use Rattle.ffv1_video.specs.Output.{Silent}
 use Rattle.ffv1_codec.specs.Outcome.{lines_before}
-use Rattle.ffv1_unpack.specs.Unpacked.{AlikeBy, is_ppm_stream, ppm_text, rows_by, text_by, text_of}
+use Rattle.ffv1_unpack.specs.Unpacked.{AlikeBy, is_ppm_stream, ppm_text, rows_by, shown_text, text_by, text_of}
 use Rattle.ffv1_unpack.specs.Unpacking.{GoesTo, PayloadStops, RowFails, UnpackingStops, UnpackingStopsBy, UnpacksMost, UnpacksThen}
 use Rattle.ffv1_unpack.specs.Plays.{AtMost, HasThen, NextHasFault, NextPayloadLacks, NextReadFails, has_more}
 use Rattle.ffv1_unpack.specs.Internal.Plays.{PlaysFrame}
 use Rattle.ffv1_unpack.specs.Internal.Play.{ReadsEnd, ReadsPayload}
 use Rattle.ffv1_video.proofs.Output.{take_past}
 use Rattle.ffv1_unpack.proofs.FramesPlayed.{none_yet}
+use Rattle.ffv1_unpack.proofs.FramesShown.{shown_more}
 use Rattle.ffv1_unpack.proofs.FramesUnpacked.{Unpacked, goes_to, none_unpacked, unpacks_over, unpacks_more, unpacks_on}
 
 -- the text grows by the next image
-pub text_more : (s : Stream) (frames : List Frame) (f : Frame) →
+pub text_more : (s : Stream) (frames : List CodedFrame) (f : CodedFrame) →
     ppm_text s (frames ++ (f ∷ [])) ≡ ppm_text s frames ++ image_text s.accepted.configuration.depth s.accepted.configuration.width s.accepted.configuration.height f.planes
 text_more s [] f = append-nil (image_text s.accepted.configuration.depth s.accepted.configuration.width s.accepted.configuration.height f.planes)
 text_more s (g ∷ gs) f =
@@ -36,23 +38,31 @@ text_more s (g ∷ gs) f =
     ap (λ z. image g.planes ++ z) (text_more s gs f) ∙ sym (append_assoc (image g.planes) (ppm_text s gs) (image f.planes))
 
 module _ (s : Stream) (ppm : is_ppm_stream s ≡ true) (from : Place) where
-  all_alike : (frames : List Frame) → AlikeBy (is_ppm_stream s) frames
+  all_alike : (frames : List CodedFrame) → AlikeBy (is_ppm_stream s) frames
   all_alike frames = subst (λ b. AlikeBy b frames) (sym ppm) tt
 
-  images_text : (frames : List Frame) → text_by (is_ppm_stream s) s frames ≡ ppm_text s frames
+  images_text : (frames : List CodedFrame) → text_by (is_ppm_stream s) s frames ≡ ppm_text s frames
   images_text frames = ap (λ b. text_by b s frames) ppm
 
   rows_text : (lines : List Line) → rows_so_far s.accepted.configuration lines ≡ rows_by (is_ppm_stream s) s lines
   rows_text lines = sym (ap (λ b. rows_by b s lines) ppm)
 
-  whole_text : (frames : List Frame) (f : Frame) →
-      text_by (is_ppm_stream s) s (frames ++ (f ∷ [])) ≡ text_by (is_ppm_stream s) s frames ++ image_text s.accepted.configuration.depth s.accepted.configuration.width s.accepted.configuration.height f.planes
-  whole_text frames f =
+  coded_text : (frames : List CodedFrame) (f : CodedFrame) → text_of s (frames ++ (f ∷ [])) ≡ text_of s frames ++ image_of s.accepted.configuration f
+  coded_text frames f =
       images_text (frames ++ (f ∷ [])) ∙ text_more s frames f
-      ∙ ap (λ z. z ++ image_text s.accepted.configuration.depth s.accepted.configuration.width s.accepted.configuration.height f.planes) (sym (images_text frames))
+      ∙ ap (λ z. z ++ image_of s.accepted.configuration f) (sym (images_text frames))
+
+  -- the text grows by what the next frame shows
+  whole_text : (frames : List Frame) (f : Frame) → shown_text s (frames ++ (f ∷ [])) ≡ shown_text s frames ++ image_next s.accepted.configuration frames f
+  whole_text frames (Coded f) = ap (text_of s) (shown_more frames (Coded f)) ∙ coded_text (shown_frames frames) f
+  whole_text frames Again = ap (text_of s) (shown_more frames Again) ∙ on_last (last_of (coded_frames frames))
+    where
+      on_last : (last : Option CodedFrame) → text_of s (shown_frames frames ++ those last) ≡ shown_text s frames ++ flat_map (image_of s.accepted.configuration) (those last)
+      on_last None = ap (text_of s) (append-nil (shown_frames frames)) ∙ sym (append-nil (shown_text s frames))
+      on_last (Some f) = coded_text (shown_frames frames) f ∙ ap (λ z. shown_text s frames ++ z) (sym (append-nil (image_of s.accepted.configuration f)))
 
   pub images_none : (i o : Option (List ℕ)) (ib ob : ℕ) → Unpacked s from (between i i ib ib) (between o o ob ob) [] from
-  images_none i o ib ob = record { so = none_yet (IsFrame s.accepted) frame_payload (text_of s) (images_text []) from i o ib ob; alike = all_alike [] }
+  images_none i o ib ob = record { so = none_yet (IsFrame s.accepted) frame_payload (shown_text s) (images_text []) from i o ib ob; alike = all_alike [] }
 
   -- memory for the lines that an image is written from was refused
   pub images_lack : (i o : Option (List ℕ)) (ib ob : ℕ) (f : Fault) → f ≡ fault.OutOfMemory → UnpackingStops (HasThen from) s (between i i ib ib) (between o o ob ob) f
@@ -60,14 +70,11 @@ module _ (s : Stream) (ppm : is_ppm_stream s ≡ true) (from : Place) where
       subst (UnpackingStops (HasThen from) s (between i i ib ib) (between o o ob ob)) (sym is)
       (refl, inr (none_unpacked s from i o ib ob (all_alike []) (subst (Appends o o) (sym (images_text [])) (Appends-nil o))))
 
-  abbrev image : Frame → List ℕ
-  image f = image_text s.accepted.configuration.depth s.accepted.configuration.width s.accepted.configuration.height f.planes
-
   module _ (to last : Place) (i0 i1 i2 o0 o1 o2 : Option (List ℕ)) (ib im ia ob om oa : ℕ) (frames : List Frame)
       (un : Unpacked s from (between i0 i1 ib im) (between o0 o1 ob om) frames to) where
-    pub images_more : (f : Frame) → PlaysFrame s.accepted to last (between i1 i2 im ia) f → oa ≡ om → Appends o1 o2 (image f) →
+    pub images_more : (f : Frame) → PlaysFrame s.accepted to last (between i1 i2 im ia) f → oa ≡ om → Appends o1 o2 (image_next s.accepted.configuration frames f) →
         Unpacked s from (between i0 i2 ib ia) (between o0 o2 ob oa) (frames ++ (f ∷ [])) last
-    images_more f plays same writes = unpacks_more s from to last i0 i1 i2 o0 o1 o2 ib im ia ob om oa frames un image (whole_text frames) f plays (all_alike (frames ++ (f ∷ []))) same writes
+    images_more f plays same writes = unpacks_more s from to last i0 i1 i2 o0 o1 o2 ib im ia ob om oa frames un (image_next s.accepted.configuration frames) (whole_text frames) f plays (all_alike (shown_frames (frames ++ (f ∷ [])))) same writes
 
     pub images_over : (notes : Notes) (most : Option ℕ) → has_more most (length frames) ≡ true → AtMost most (length frames) → ReadsEnd to notes (between i1 i2 im ia) → Silent (between o1 o2 om oa) →
         UnpacksMost (HasThen from) s (between i0 i2 ib ia) (between o0 o2 ob oa) notes most frames
@@ -79,9 +86,9 @@ module _ (s : Stream) (ppm : is_ppm_stream s ≡ true) (from : Place) where
     comes : (payload : List ℕ) → ReadsPayload to last payload (between i1 i2 im ia) → GoesTo (HasThen from) s (between i0 i2 ib ia) (between o0 o2 ob oa) frames payload
     comes = goes_to s from to last i0 i1 i2 o0 o1 o2 ib im ia ob om oa frames un
 
-    row_fails : RowCut s.accepted to last (between i1 i2 im ia) (between o1 o2 om oa) → RowFails (HasThen from) s (between i0 i2 ib ia) (between o0 o2 ob oa)
+    row_fails : RowCut s.accepted frames to last (between i1 i2 im ia) (between o1 o2 om oa) → RowFails (HasThen from) s (between i0 i2 ib ia) (between o0 o2 ob oa)
     row_fails p =
-        let text = text_by (is_ppm_stream s) s frames in
+        let text = shown_text s frames in
         let before = rows_so_far s.accepted.configuration p.lines in
         let all = rows_so_far s.accepted.configuration (p.lines ++ (p.next ∷ [])) in
         let count = length text + p.writes.count in
@@ -93,6 +100,8 @@ module _ (s : Stream) (ppm : is_ppm_stream s ≡ true) (from : Place) where
         record {
           frames = frames;
           payload = p.payload;
+          source = p.source;
+          shows = p.shows;
           lines = p.lines;
           next = p.next;
           ppm = ppm;
@@ -108,11 +117,11 @@ module _ (s : Stream) (ppm : is_ppm_stream s ≡ true) (from : Place) where
           };
         }
 
-    payload_faults : (f : Fault) → ImageFaults s.accepted to last (between i1 i2 im ia) (between o1 o2 om oa) f → PayloadStops (HasThen from) s (between i0 i2 ib ia) (between o0 o2 ob oa) f
+    payload_faults : (f : Fault) → ImageFaults s.accepted frames to last (between i1 i2 im ia) (between o1 o2 om oa) f → PayloadStops (HasThen from) s (between i0 i2 ib ia) (between o0 o2 ob oa) f
     payload_faults f h =
         let p = h.payload in
-        let text = text_by (is_ppm_stream s) s frames in
-        let rows = rows_so_far s.accepted.configuration (lines_before p.faulty) in
+        let text = shown_text s frames in
+        let rows = rows_so_far s.accepted.configuration (lines_before p.faulty.faulty) in
         record {
           frames = frames;
           payload = p.payload;
@@ -123,10 +132,10 @@ module _ (s : Stream) (ppm : is_ppm_stream s ≡ true) (from : Place) where
           faulty = p.faulty;
           is = p.is;
           written = h.written ∙ un.so.written;
-          writes = subst (λ t. Appends o0 o2 (text ++ t)) (rows_text (lines_before p.faulty)) (Appends-trans o0 o1 o2 text rows un.so.writes h.writes);
+          writes = subst (λ t. Appends o0 o2 (text ++ t)) (rows_text (lines_before p.faulty.faulty)) (Appends-trans o0 o1 o2 text rows un.so.writes h.writes);
         }
 
-    pub images_stop : (f : Fault) (why : Cause) → ImageStopsBy s.accepted to last (between i1 i2 im ia) (between o1 o2 om oa) f why →
+    pub images_stop : (f : Fault) (why : Cause) → ImageStopsBy s.accepted frames to last (between i1 i2 im ia) (between o1 o2 om oa) f why →
         UnpackingStopsBy (HasThen from) s (between i0 i2 ib ia) (between o0 o2 ob oa) f why
     images_stop f Writing p = inr (row_fails p)
     images_stop f Reading p = (p.1 ∙ ap one_more un.so.kept, frames, then NextReadFails p.0 p.2)

@@ -30,7 +30,10 @@ use Rattle.ffv1_files.specs.Places.{Place}
 use Rattle.ffv1_video.specs.declared.fault.Fault.{Fault}
 use Rattle.ffv1_video.specs.Faults.{Cause, cause_of, of_codec}
 use Rattle.ffv1_video.specs.Faults.Cause.{Reading, Writing, Memory, Content}
-use Rattle.ffv1_unpack.specs.Internal.ImagesOut.{ImageFaults, ImageStopsBy, IsSinkFor, RowCut, rows_so_far}
+use Rattle.ffv1_unpack.specs.Internal.ImagesOut.{ImageFaults, ImageStopsBy, IsLastPayload, IsPayloadOf, IsSinkFor, RepeatsImage, RowCut, rows_so_far}
+use Rattle.ffv1_unpack.specs.Stream.{Again, Coded, CodedFrame, Frame, coded_frames, last_of}
+use Rattle.ffv1_unpack.specs.Unpacking.{Shows}
+use Rattle.ffv1_unpack.proofs.FramesShown.{coded_again, coded_more, last_is}
 use Rattle.ffv1_codec.specs.Outcome.{FaultsOf, OffersLine}
 use Rattle.ffv1_codec.specs.Outcome.{lines_before}
 use Rattle.ffv1_unpack.specs.Internal.Play.{ReadsPayload}
@@ -111,6 +114,11 @@ module _ {W : Type 0} (contents : W → Option (List ℕ)) (failed : W → ℕ) 
   line_long c s p y samples is wide line =
       line.long ∙ ap (λ n. sample_bytes c.depth * n) wide ∙ bytes_are c.depth c.width ∙ sym (ap₂ (λ d w. bytes_for d w) is.depth is.width)
 
+  -- a payload that has bytes shows its own picture
+  shows_itself : (frames : List Frame) (payload : List ℕ) → 0 < length payload → Shows frames payload payload
+  shows_itself frames [] some = absurd (omega (arith, some))
+  shows_itself frames (b ∷ bs) some = refl
+
   -- the sink refused the line that came next: its row was not written whole
   module _ (a : Accepted) (payload : List ℕ) (s u : PpmSink W) (tally : Tally) (f : FrameFault) (is : IsSinkFor a.configuration s) (r : Refused taking (Refuses contents failed) a payload s u tally f) where
     abbrev pub next_line : Line
@@ -155,11 +163,11 @@ module _ {W : Type 0} (contents : W → Option (List ℕ)) (failed : W → ℕ) 
           },
         )
 
-  module _ (a : Accepted) (from to : Place) (input : Passage) (payload : List ℕ) (reads : ReadsPayload from to payload input) (s u : PpmSink W) (tally : Tally) (f : FrameFault) (is : IsSinkFor a.configuration s) where
+  module _ (a : Accepted) (frames : List Frame) (from to : Place) (input : Passage) (payload : List ℕ) (some : 0 < length payload) (reads : ReadsPayload from to payload input) (s u : PpmSink W) (tally : Tally) (f : FrameFault) (is : IsSinkFor a.configuration s) where
     pub image_faults : (h : Faulty taking (Refuses contents failed) a payload s u tally f) → cause_of (of_codec f.fault) ≡ Content → Appends (contents s.out) (contents u.out) (sink_text s (lines_before h.faulty)) → failed u.out ≡ failed s.out →
-        ImageFaults a from to input (between (contents s.out) (contents u.out) (failed s.out) (failed u.out)) (of_codec f.fault)
+        ImageFaults a frames from to input (between (contents s.out) (contents u.out) (failed s.out) (failed u.out)) (of_codec f.fault)
     image_faults h content writes same = record {
-      payload = record { payload = payload; fault = f; tally = tally; reads = reads; faulty = h.faulty; is = refl; content = content };
+      payload = record { payload = payload; fault = f; tally = tally; reads = reads; faulty = record { some = some; faulty = h.faulty }; is = refl; content = content };
       written = same;
       writes = subst (Appends (contents s.out) (contents u.out)) (rows_are a.configuration s (lines_before h.faulty) is) writes;
     }
@@ -167,11 +175,13 @@ module _ {W : Type 0} (contents : W → Option (List ℕ)) (failed : W → ℕ) 
     module _ (r : Refused taking (Refuses contents failed) a payload s u tally f) where
       pub row_cut : Appends (contents s.out) (contents r.sink.between.out) (sink_text s r.sink.state.lines) → failed r.sink.between.out ≡ failed s.out →
           AppendsBeginning (contents r.sink.between.out) (contents u.out) (line_text r.sink.between (get_or r.sink.state.out r.sink.number [])) → failed u.out ≡ one_more (failed r.sink.between.out) →
-          RowCut a from to input (between (contents s.out) (contents u.out) (failed s.out) (failed u.out))
+          RowCut a frames from to input (between (contents s.out) (contents u.out) (failed s.out) (failed u.out))
       row_cut before same cut fails =
           let row = row_written a payload s u tally f is r before same cut fails in
           record {
             payload = payload;
+            source = payload;
+            shows = shows_itself frames payload some;
             lines = r.sink.state.lines;
             next = next_line a payload s u tally f is r;
             reads = reads;
@@ -201,12 +211,33 @@ sink_stays {W = W} contents failed s t same =
     subst (λ (z : PpmSink W). Silent (between (contents s.out) (contents z.out) (failed s.out) (failed z.out))) (sym same) (silent (contents s.out) (failed s.out))
 
 -- there is no frame
-pub file_stops : (a : Accepted) (from to : Place) (input output : Passage) (f : Fault) (why : Cause) → Silent output → StopsFromBy from input f why → ImageStopsBy a from to input output f why
-file_stops a from to input output f Reading none h = (none, h.0, h.1)
-file_stops a from to input output f Writing none h = absurd h
-file_stops a from to input output f Memory none h = (none, h.0, h.1)
-file_stops a from to input output f Content none h = (h.0, inl (none, h.1))
+pub file_stops : (a : Accepted) (frames : List Frame) (from to : Place) (input output : Passage) (f : Fault) (why : Cause) → Silent output → StopsFromBy from input f why → ImageStopsBy a frames from to input output f why
+file_stops a frames from to input output f Reading none h = (none, h.0, h.1)
+file_stops a frames from to input output f Writing none h = absurd h
+file_stops a frames from to input output f Memory none h = (none, h.0, h.1)
+file_stops a frames from to input output f Content none h = (h.0, inl (none, h.1))
 
 -- a payload's fault
-pub payload_stops : (a : Accepted) (from to : Place) (input output : Passage) (f : Fault) → ImageFaults a from to input output f → ImageStopsBy a from to input output f (cause_of f)
-payload_stops a from to input output f h = subst (ImageStopsBy a from to input output f) (sym h.payload.content) (h.payload.reads.kept, inr h)
+pub payload_stops : (a : Accepted) (frames : List Frame) (from to : Place) (input output : Passage) (f : Fault) → ImageFaults a frames from to input output f → ImageStopsBy a frames from to input output f (cause_of f)
+payload_stops a frames from to input output f h = subst (ImageStopsBy a frames from to input output f) (sym h.payload.content) (h.payload.reads.kept, inr h)
+
+-- the last image was not written whole once more
+pub repeat_stops : (a : Accepted) (frames : List Frame) (from to : Place) (input output : Passage) (source : List ℕ) (f : Fault) → ReadsPayload from to [] input → RepeatsImage a frames source output (Err f) → ImageStopsBy a frames from to input output f (cause_of f)
+repeat_stops a frames from to input output source f reads h = subst (λ z. ImageStopsBy a frames from to input output z (cause_of z)) (sym h.0) (record {
+  payload = [];
+  source = source;
+  shows = h.2;
+  lines = h.3;
+  next = h.4;
+  reads = reads;
+  hands = h.5;
+  written = h.1;
+  writes = h.6;
+})
+
+-- the payload that is kept is that of the last coded frame
+pub last_kept : (frames : List Frame) (f : CodedFrame) → 0 < length f.payload → IsLastPayload (frames ++ (Coded f ∷ [])) f.payload
+last_kept frames f some = subst (λ (o : Option CodedFrame). IsPayloadOf o f.payload) (sym (ap last_of (coded_more frames f) ∙ last_is (coded_frames frames) f)) (refl, some)
+
+pub last_again : (frames : List Frame) (payload : List ℕ) → IsLastPayload frames payload → IsLastPayload (frames ++ (Again ∷ [])) payload
+last_again frames payload h = subst (λ (o : Option CodedFrame). IsPayloadOf o payload) (sym (ap last_of (coded_again frames))) h

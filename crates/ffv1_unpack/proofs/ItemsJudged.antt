@@ -70,7 +70,7 @@ from_more place c i (y ∷ ys) x =
     ∙ sym (append_assoc here others (item_line place c (saturated (number_after i y + length (frames_of ys))) x))
     ∙ ap (λ n. (here ++ others) ++ item_line place c (saturated n) x) (numbered i y (frames_of ys))
 
-lines_more : (place : Bool) (c : Configuration) (xs : List JudgedItem) (n : ℕ) → n ≡ saturated (length (frames_of xs)) → (x : JudgedItem) →
+pub lines_more : (place : Bool) (c : Configuration) (xs : List JudgedItem) (n : ℕ) → n ≡ saturated (length (frames_of xs)) → (x : JudgedItem) →
     item_lines place c (xs ++ (x ∷ [])) ≡ item_lines place c xs ++ item_line place c n x
 lines_more place c xs n is x =
     let same : 0 + length (frames_of xs) ≡ length (frames_of xs) = omega arith in
@@ -104,7 +104,7 @@ counts_told c xs ys f e d h =
       first = rw d (ap (λ z. first_of z f) h.first ∙ sym (first_more (faults_of xs) f));
     }
 
-counts_more : (c : JudgedCounts) (xs : List JudgedItem) (x : JudgedItem) → AreItemCounts c xs → AreItemCounts (item_counted c x) (xs ++ (x ∷ []))
+pub counts_more : (c : JudgedCounts) (xs : List JudgedItem) (x : JudgedItem) → AreItemCounts c xs → AreItemCounts (item_counted c x) (xs ++ (x ∷ []))
 counts_more c xs (OfFrame j) h = counts_frame c xs (xs ++ (OfFrame j ∷ [])) j (refusal_of j) (frames_more xs (OfFrame j)) (faults_more xs (OfFrame j)) h
 counts_more c xs (ToldAt f offset) h =
     counts_told c xs (xs ++ (ToldAt f offset ∷ [])) (of_avi f) (frames_more xs (ToldAt f offset) ∙ append-nil (frames_of xs)) (faults_more xs (ToldAt f offset)) h

@@ -1,5 +1,6 @@
 mod FaultsLocated
 pub mod FramesInTurn
+pub mod FramesShown
 mod Openings
 pub mod FrameDecoded
 pub mod FileRead
@@ -14,6 +15,9 @@ mod FramesJudged
 mod FileJudged
 pub mod OpenedAs
 mod ItemsJudged
+mod ItemsCued
+mod FileEnded
+mod BehindTold
 mod FileItems
 mod PicturesWritten
 mod FileUnpacked
@@ -21,11 +25,12 @@ mod WholeRange
 mod RangePlayed
 mod ImageLines
 mod ImagesWritten
+mod ImagesRepeated
 mod ImagesSoFar
 mod StreamText
 mod FileShown
 pub mod FileSteps
-mod PayloadsRead
+pub mod PayloadsRead
 mod LineParts
 mod FirstMovis
 pub mod OwnFaults
@@ -38,5 +43,6 @@ mod AllJudged
 mod SalvageLists
 mod SalvageSteps
 mod FileSalvaged
+mod SalvagedEnd
 mod SalvageLaws
 mod PicturesPut

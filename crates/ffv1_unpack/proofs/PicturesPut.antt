@@ -1,12 +1,14 @@
 -- A picture is written after others.
-use Rattle.std.proofs.Common.{◌≡◌, refl, ℕ, Option, Result, Ok, Err, List, [], ◌∷◌, ◌++◌, length, ap, sym, subst, ◌∙◌, append-nil}
+use Rattle.std.proofs.Common.{◌≡◌, refl, ℕ, Option, Some, None, Result, Ok, Err, List, [], ◌∷◌, ◌++◌, length, ap, sym, subst, ◌∙◌, append-nil}
 use Rattle.std.specs.Io.KnownBytes.{Appends, Keeps}
 use Rattle.std.proofs.KnownBytes.{Appends-nil}
 use Rattle.ffv1_wire.specs.Passage.{Passage, between, passage}
 use Rattle.ffv1_wire.specs.Runs.{Line}
 use Rattle.ffv1_video.specs.Output.{Silent, WritesUpTo}
 use Rattle.ffv1_video.proofs.Output.{silent}
+use Rattle.ffv1_record.specs.Accepted.{Accepted}
 use Rattle.ffv1_codec.specs.Kept.{Kept}
+use Rattle.ffv1_codec.specs.SliceList.{Said}
 use Rattle.ffv1_codec.specs.Outcome.{OffersLine}
 use Rattle.ffv1_y4m.specs.Images.{image_text}
 use Rattle.ffv1_y4m.specs.Sink.{PpmSink}
@@ -15,15 +17,15 @@ use Rattle.ffv1_video.specs.KeptLines.{IsKeptFor}
 use Rattle.ffv1_video.specs.declared.fault.Fault.{Fault}
 use Rattle.ffv1_unpack.specs.Internal.ImagesOut.{IsSinkFor, rows_so_far}
 use Rattle.ffv1_unpack.specs.Internal.PicturesOut.{Begun, IsBegun, begun_behind, said_in, text_behind}
-use Rattle.ffv1_unpack.specs.Internal.Salvage.{ContinuesText, CutBy, IsImagesOf, IsTextOf, PutsPictures, begun_with}
-use Rattle.ffv1_unpack.specs.Stream.{Frame, Stream}
+use Rattle.ffv1_unpack.specs.Internal.Salvage.{ContinuesText, CutBy, FitsKept, IsImagesOf, IsTextOf, PutsPictures, begun_with}
+use Rattle.ffv1_unpack.specs.Stream.{CodedFrame, Stream}
 use Rattle.ffv1_unpack.specs.Unpacked.{is_ppm_stream, text_by, text_of}
 use Rattle.ffv1_unpack.proofs.ImagesSoFar.{text_more as image_more}
 use Rattle.ffv1_unpack.proofs.PicturesWritten.{is_begun, text_more}
 
 -- ---- nothing is written
 
-pub puts_none : {P : Type 0} (ready : Stream → List Frame → P → Type 0) (s : Stream) (fs : List Frame) (o : Option (List ℕ)) (n : ℕ) (out : P) → ready s fs out → PutsPictures ready s fs [] (between o o n n) out (Ok tt)
+pub puts_none : {P : Type 0} (ready : Stream → List CodedFrame → P → Type 0) (s : Stream) (fs : List CodedFrame) (o : Option (List ℕ)) (n : ℕ) (out : P) → ready s fs out → PutsPictures ready s fs [] (between o o n n) out (Ok tt)
 puts_none ready s fs o n out is = (
   subst (λ z. ready s z out) (sym (append-nil fs)) is,
   refl,
@@ -37,7 +39,7 @@ pub still : (o p : Option (List ℕ)) (m n : ℕ) → p ≡ o → n ≡ m → Si
 still o p m n bytes count = record { kept = subst (λ z. Keeps o z) (sym bytes) (silent o m).kept; same = count }
 
 -- pictures are written, where before that nothing was
-pub puts_from : {P : Type 0} (contents : P → Option (List ℕ)) (failed : P → ℕ) (ready : Stream → List Frame → P → Type 0) (s : Stream) (fs gs : List Frame) (old mid new : P) (answer : Result (Unit {0}) Fault) →
+pub puts_from : {P : Type 0} (contents : P → Option (List ℕ)) (failed : P → ℕ) (ready : Stream → List CodedFrame → P → Type 0) (s : Stream) (fs gs : List CodedFrame) (old mid new : P) (answer : Result (Unit {0}) Fault) →
     contents mid ≡ contents old → failed mid ≡ failed old → PutsPictures ready s fs gs (passage contents failed mid new) new answer → PutsPictures ready s fs gs (passage contents failed old new) new answer
 puts_from contents failed ready s fs gs old mid new answer bytes count puts =
     subst (λ z. PutsPictures ready s fs gs (between z (contents new) (failed old) (failed new)) new answer) bytes
@@ -45,15 +47,20 @@ puts_from contents failed ready s fs gs old mid new answer bytes count puts =
 
 -- ---- a text of YUV4MPEG2
 
-begun_grows : (depth : ℕ) (h : VideoHead) (fs : List Frame) (f : Frame) → begun_with depth h (begun_behind depth h fs) f.said ≡ begun_behind depth h (fs ++ (f ∷ []))
+begun_grows : (depth : ℕ) (h : VideoHead) (fs : List CodedFrame) (f : CodedFrame) → begun_with depth h (begun_behind depth h fs) f.said ≡ begun_behind depth h (fs ++ (f ∷ []))
 begun_grows depth h [] f = refl
 begun_grows depth h (g ∷ gs) f = refl
 
+-- what is remembered stays so, if the picture that is kept does where one is
+pub fits_stay : (a : Accepted) (other : List ℕ) (held : Option Said) (old new : Kept) → ((info : Said) → held ≡ Some info → new ≡ old) → FitsKept a other held old.planes → FitsKept a other held new.planes
+fits_stay a other None old new stays fits = tt
+fits_stay a other (Some said) old new stays fits = subst (λ (k : Kept). FitsKept a other (Some said) k.planes) (sym (stays said refl)) fits
+
 -- another picture is kept
-pub text_ready : (s : Stream) (fs : List Frame) (depth : ℕ) (h : VideoHead) (begun : Begun) (kept : Kept) → IsTextOf depth h begun kept s fs → (kept_new : Kept) → IsKeptFor s.accepted kept_new → IsTextOf depth h begun kept_new s fs
+pub text_ready : (s : Stream) (fs : List CodedFrame) (depth : ℕ) (h : VideoHead) (begun : Begun) (kept : Kept) → IsTextOf depth h begun kept s fs → (kept_new : Kept) → IsKeptFor s.accepted kept_new → IsTextOf depth h begun kept_new s fs
 text_ready s fs depth h begun kept is kept_new keeps = record { plain = is.plain; deep = is.deep; heads = is.heads; keeps = keeps; is = is.is }
 
-module _ (s : Stream) (fs : List Frame) (f : Frame) (depth : ℕ) (h : VideoHead) (begun : Begun) (kept : Kept) (is : IsTextOf depth h begun kept s fs) where
+module _ (s : Stream) (fs : List CodedFrame) (f : CodedFrame) (depth : ℕ) (h : VideoHead) (begun : Begun) (kept : Kept) (is : IsTextOf depth h begun kept s fs) where
   abbrev piece : List ℕ
   piece = text_behind depth h (said_in begun) f.said f.planes
 
@@ -88,7 +95,7 @@ module _ (s : Stream) (fs : List Frame) (f : Frame) (depth : ℕ) (h : VideoHead
 
 -- ---- images
 
-module _ {W : Type 0} (s : Stream) (fs : List Frame) (f : Frame) (old new : PpmSink W) (is : IsImagesOf old s fs) where
+module _ {W : Type 0} (s : Stream) (fs : List CodedFrame) (f : CodedFrame) (old new : PpmSink W) (is : IsImagesOf old s fs) where
   abbrev image : List ℕ
   image = image_text s.accepted.configuration.depth s.accepted.configuration.width s.accepted.configuration.height f.planes
 

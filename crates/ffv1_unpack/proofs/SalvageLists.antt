@@ -14,14 +14,15 @@ use Rattle.ffv1_unpack.specs.declared.judging.JudgedCounts.{JudgedCounts}
 use Rattle.ffv1_unpack.specs.Internal.Judged.{first_of, one_counted}
 use Rattle.ffv1_unpack.specs.Internal.JudgedItems.{told_counted}
 use Rattle.ffv1_unpack.specs.Internal.Salvage.{StandsAfter}
-use Rattle.ffv1_unpack.specs.Judged.{Decoded, Judged, Refused, refused_line}
+use Rattle.ffv1_unpack.specs.Judged.{Decoded, Judged, Refused, Repeats, refused_line}
 use Rattle.ffv1_unpack.specs.JudgedItems.{IsJudgedItem, JudgedItem, OfFrame, ToldAt, frames_of, with_frame}
-use Rattle.ffv1_unpack.specs.Salvaged.{changed_fault, changed_text, differs, each, each_from, fault_for, good_frames, good_of, last_of, line_for, picture_for, said_of, salvage_faults, salvage_lines, says_same, shown, those}
-use Rattle.ffv1_unpack.specs.Stream.{AreAll, Frame, IsFrame, Stream}
+use Rattle.ffv1_unpack.specs.Salvaged.{changed_fault, changed_text, differs, each, each_from, fault_for, good_frames, good_of, line_for, picture_for, said_of, salvage_faults, salvage_lines, says_same, shown}
+use Rattle.ffv1_unpack.specs.Stream.{AreAll, CodedFrame, IsCoded, Stream, last_of, those}
 use Rattle.ffv1_unpack.specs.UnpackAll.{AreSalvageCounts}
 use Rattle.ffv1_unpack.specs.Unpacked.{is_ppm_stream}
 use Rattle.ffv1_unpack.proofs.FramesInTurn.{counted_more}
 use Rattle.ffv1_unpack.proofs.FramesJudged.{first_more}
+use Rattle.ffv1_unpack.proofs.FramesShown.{last_is}
 use Rattle.ffv1_unpack.proofs.ItemsJudged.{frames_more}
 
 -- ---- lists that grow
@@ -39,11 +40,6 @@ module _ {X Y : Type 0} (gives : List X → X → List Y) where
   pub each_more : (xs : List X) (x : X) → each gives (xs ++ (x ∷ [])) ≡ each gives xs ++ gives xs x
   each_more xs x = from_more [] xs x
 
-pub last_more : {X : Type 0} (xs : List X) (x : X) → last_of (xs ++ (x ∷ [])) ≡ Some x
-last_more [] x = refl
-last_more (y ∷ []) x = refl
-last_more (y ∷ z ∷ zs) x = last_more (z ∷ zs) x
-
 pub good_more : (xs : List JudgedItem) (x : JudgedItem) → good_frames (xs ++ (x ∷ [])) ≡ good_frames xs ++ good_of x
 good_more [] x = append-nil (good_of x)
 good_more (y ∷ ys) x = ap (λ z. good_of y ++ z) (good_more ys x) ∙ sym (append_assoc (good_of y) (good_frames ys) (good_of x))
@@ -59,8 +55,9 @@ faults_more ppm xs x = each_more (λ before y. those (fault_for ppm before y)) x
 
 -- the picture for a frame is that of the last good one up to it
 pub picture_last : (xs : List JudgedItem) (j : Judged) → those (last_of (good_frames (xs ++ (OfFrame j ∷ [])))) ≡ picture_for xs (OfFrame j)
-picture_last xs (Decoded f) = ap (λ z. those (last_of z)) (good_more xs (OfFrame (Decoded f))) ∙ ap those (last_more (good_frames xs) f)
+picture_last xs (Decoded f) = ap (λ z. those (last_of z)) (good_more xs (OfFrame (Decoded f))) ∙ ap those (last_is (good_frames xs) f)
 picture_last xs (Refused payload f tally) = ap (λ z. those (last_of z)) (good_more xs (OfFrame (Refused payload f tally)) ∙ append-nil (good_frames xs))
+picture_last xs Repeats = ap (λ z. those (last_of z)) (good_more xs (OfFrame Repeats) ∙ append-nil (good_frames xs))
 
 -- ---- what frames say
 
@@ -96,29 +93,30 @@ differ_yes s t apart = by (not (says_same s t)) refl
 
 -- ---- good frames
 
-some_same : (f g : Frame) → Some f ≡ Some g → f ≡ g
+some_same : (f g : CodedFrame) → Some f ≡ Some g → f ≡ g
 some_same f g e = cc
 
-some_is : (f : Frame) → None ≡ Some f → ⊥
+some_is : (f : CodedFrame) → None ≡ Some f → ⊥
 some_is f e = cc
 
 module _ (a : Accepted) where
-  goods : (xs : List JudgedItem) → AreAll (IsJudgedItem a) xs → AreAll (IsFrame a) (good_frames xs)
+  goods : (xs : List JudgedItem) → AreAll (IsJudgedItem a) xs → AreAll (IsCoded a) (good_frames xs)
   goods [] are = tt
   goods (OfFrame (Decoded f) ∷ xs) are = (are.0, goods xs are.1)
   goods (OfFrame (Refused payload f tally) ∷ xs) are = goods xs are.1
+  goods (OfFrame Repeats ∷ xs) are = goods xs are.1
   goods (ToldAt f offset ∷ xs) are = goods xs are.1
 
-  last_in : (fs : List Frame) (f : Frame) → AreAll (IsFrame a) fs → last_of fs ≡ Some f → IsFrame a f
+  last_in : (fs : List CodedFrame) (f : CodedFrame) → AreAll (IsCoded a) fs → last_of fs ≡ Some f → IsCoded a f
   last_in [] f are e = absurd (some_is f e)
-  last_in (g ∷ []) f are e = subst (IsFrame a) (some_same g f e) are.0
+  last_in (g ∷ []) f are e = subst (IsCoded a) (some_same g f e) are.0
   last_in (g ∷ h ∷ fs) f are e = last_in (h ∷ fs) f are.1 e
 
-  pub last_good : (xs : List JudgedItem) (f : Frame) → AreAll (IsJudgedItem a) xs → last_of (good_frames xs) ≡ Some f → IsFrame a f
+  pub last_good : (xs : List JudgedItem) (f : CodedFrame) → AreAll (IsJudgedItem a) xs → last_of (good_frames xs) ≡ Some f → IsCoded a f
   last_good xs f are e = last_in (good_frames xs) f (goods xs are) e
 
 -- a list of frames has a last one if its first one says something
-pub said_last : (fs : List Frame) (said : Said) → said_of fs ≡ Some said → (f : Frame) × (last_of fs ≡ Some f)
+pub said_last : (fs : List CodedFrame) (said : Said) → said_of fs ≡ Some said → (f : CodedFrame) × (last_of fs ≡ Some f)
 said_last [] said e = absurd (no said e)
   where
     no : (said : Said) → None ≡ Some said → ⊥
@@ -126,7 +124,7 @@ said_last [] said e = absurd (no said e)
 said_last (f ∷ []) said e = (f, refl)
 said_last (f ∷ g ∷ fs) said e = said_last (g ∷ fs) g.said refl
 
-pub none_said : (fs : List Frame) → said_of fs ≡ None → fs ≡ []
+pub none_said : (fs : List CodedFrame) → said_of fs ≡ None → fs ≡ []
 none_said [] e = refl
 none_said (f ∷ fs) e = absurd (no f.said e)
   where
@@ -179,7 +177,7 @@ module _ (ppm : Bool) (xs : List JudgedItem) (c new : JudgedCounts) (h : AreSalv
       (subst (λ z. Counts z (frames_of xs ++ (j ∷ [])) (salvage_faults ppm xs ++ those (fault_for ppm xs (OfFrame j)))) (sym is)
       (counts_frame c (frames_of xs) (salvage_faults ppm xs) j (fault_for ppm xs (OfFrame j)) counts))
 
-  counted_told : (f : FileFault) (offset : ℕ) → new ≡ told_counted c (of_avi f) → AreSalvageCounts ppm new (xs ++ (ToldAt f offset ∷ []))
+  pub counted_told : (f : FileFault) (offset : ℕ) → new ≡ told_counted c (of_avi f) → AreSalvageCounts ppm new (xs ++ (ToldAt f offset ∷ []))
   counted_told f offset is =
       counted_by (ToldAt f offset)
       (subst (λ z. Counts z (frames_of xs ++ []) (salvage_faults ppm xs ++ (of_avi f ∷ []))) (sym is)
@@ -192,7 +190,7 @@ module _ (s : Stream) (before : List JudgedItem) (c : JudgedCounts) (header : Op
   abbrev number : ℕ
   number = saturated (length (frames_of before))
 
-  pub good_line : (ppm : Bool) (info : Said) (f : Frame) → ppm ≡ is_ppm_stream s → f.said ≡ info → changed_text c.frames (differs ppm header info) ≡ line_for (is_ppm_stream s) before (OfFrame (Decoded f))
+  pub good_line : (ppm : Bool) (info : Said) (f : CodedFrame) → ppm ≡ is_ppm_stream s → f.said ≡ info → changed_text c.frames (differs ppm header info) ≡ line_for (is_ppm_stream s) before (OfFrame (Decoded f))
   good_line ppm info f kind said =
       ap (λ n. changed_text n (differs ppm header info)) h.counted.frames ∙ ap (λ b. changed_text number (differs b header info)) kind ∙ ap (λ z. changed_text number (differs (is_ppm_stream s) z info)) h.first
       ∙ ap (λ z. changed_text number (differs (is_ppm_stream s) (said_of (good_frames before)) z)) (sym said)
@@ -200,7 +198,7 @@ module _ (s : Stream) (before : List JudgedItem) (c : JudgedCounts) (header : Op
   pub bad_line : (payload : List ℕ) (f : FrameFault) (tally : Tally) → refused_line c.frames f.fault ≡ line_for (is_ppm_stream s) before (OfFrame (Refused payload f tally))
   bad_line payload f tally = ap (λ n. refused_line n f.fault) h.counted.frames
 
-  pub good_counts : (ppm : Bool) (info : Said) (f : Frame) (new : JudgedCounts) → ppm ≡ is_ppm_stream s → f.said ≡ info → new ≡ one_counted c (changed_fault (differs ppm header info)) → new ≡ one_counted c (changed_fault (differs (is_ppm_stream s) header f.said))
+  pub good_counts : (ppm : Bool) (info : Said) (f : CodedFrame) (new : JudgedCounts) → ppm ≡ is_ppm_stream s → f.said ≡ info → new ≡ one_counted c (changed_fault (differs ppm header info)) → new ≡ one_counted c (changed_fault (differs (is_ppm_stream s) header f.said))
   good_counts ppm info f new kind said is =
       is ∙ ap (λ b. one_counted c (changed_fault (differs b header info))) kind ∙ ap (λ z. one_counted c (changed_fault (differs (is_ppm_stream s) header z))) (sym said)
 
@@ -210,18 +208,18 @@ module _ (s : Stream) (xs : List JudgedItem) (c new : JudgedCounts) (header : Op
   abbrev ppm : Bool
   ppm = is_ppm_stream s
 
-  said_more : (fs : List Frame) (f : Frame) (then : Option Said) → header ≡ said_of fs → (header ≡ None → then ≡ Some f.said) → ((said : Said) → header ≡ Some said → then ≡ Some said) → then ≡ said_of (fs ++ (f ∷ []))
+  said_more : (fs : List CodedFrame) (f : CodedFrame) (then : Option Said) → header ≡ said_of fs → (header ≡ None → then ≡ Some f.said) → ((said : Said) → header ≡ Some said → then ≡ Some said) → then ≡ said_of (fs ++ (f ∷ []))
   said_more [] f then is first again = first is
   said_more (g ∷ gs) f then is first again = again g.said is
 
-  pub stands_good : (f : Frame) (then : Option Said) (payload : List ℕ) → new ≡ one_counted c (changed_fault (differs ppm header f.said)) → (header ≡ None → then ≡ Some f.said) →
+  pub stands_good : (f : CodedFrame) (then : Option Said) (payload : List ℕ) → new ≡ one_counted c (changed_fault (differs ppm header f.said)) → (header ≡ None → then ≡ Some f.said) →
       ((said : Said) → header ≡ Some said → then ≡ Some said) → payload ≡ f.payload → StandsAfter s (xs ++ (OfFrame (Decoded f) ∷ [])) new then payload
   stands_good f then payload is first again of =
       let x = OfFrame (Decoded f) in
       record {
         counted = counted_frame ppm xs c new h.counted (Decoded f) (subst (λ z. new ≡ one_counted c (changed_fault (differs ppm z f.said))) h.first is);
         first = said_more (good_frames xs) f then h.first first again ∙ ap said_of (sym (good_more xs x));
-        last = λ g e. of ∙ ap (λ (z : Frame). z.payload) (some_same f g (sym (ap last_of (good_more xs x) ∙ last_more (good_frames xs) f) ∙ e));
+        last = λ g e. of ∙ ap (λ (z : CodedFrame). z.payload) (some_same f g (sym (ap last_of (good_more xs x) ∙ last_is (good_frames xs) f) ∙ e));
       }
 
   pub stands_bad : (payload : List ℕ) (f : FrameFault) (tally : Tally) → new ≡ one_counted c (Some (of_codec f.fault)) → StandsAfter s (xs ++ (OfFrame (Refused payload f tally) ∷ [])) new header last
@@ -230,6 +228,16 @@ module _ (s : Stream) (xs : List JudgedItem) (c new : JudgedCounts) (header : Op
       let same : good_frames (xs ++ (x ∷ [])) ≡ good_frames xs = good_more xs x ∙ append-nil (good_frames xs) in
       record {
         counted = counted_frame ppm xs c new h.counted (Refused payload f tally) is;
+        first = h.first ∙ ap said_of (sym same);
+        last = λ g e. h.last g (sym (ap last_of same) ∙ e);
+      }
+
+  pub stands_again : new ≡ one_counted c None → StandsAfter s (xs ++ (OfFrame Repeats ∷ [])) new header last
+  stands_again is =
+      let x = OfFrame Repeats in
+      let same : good_frames (xs ++ (x ∷ [])) ≡ good_frames xs = good_more xs x ∙ append-nil (good_frames xs) in
+      record {
+        counted = counted_frame ppm xs c new h.counted Repeats is;
         first = h.first ∙ ap said_of (sym same);
         last = λ g e. h.last g (sym (ap last_of same) ∙ e);
       }

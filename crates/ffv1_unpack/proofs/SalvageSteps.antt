@@ -35,7 +35,7 @@ use Rattle.ffv1_unpack.specs.declared.judging.JudgedCounts.{JudgedCounts}
 use Rattle.ffv1_unpack.specs.Judged.{Judged, payload_of}
 use Rattle.ffv1_unpack.specs.JudgedItems.{IsJudgedItem, ItemIs, ItemsFrom, ItemsNext, ItemsOver, JudgedItem, OfFrame, ReadsItems, ToldAt, given_as}
 use Rattle.ffv1_unpack.specs.Salvaged.{line_for, picture_for, salvage_lines, shown}
-use Rattle.ffv1_unpack.specs.Stream.{AreAll, Frame, Stream}
+use Rattle.ffv1_unpack.specs.Stream.{AreAll, CodedFrame, Stream}
 use Rattle.ffv1_unpack.specs.UnpackAll.{FaultNext, LacksNext, LineCut, LinesTold, PictureCut, PicturesShown, ReadFailsNext, SalvageGoes, PictureWritten, SalvageStopsBy, SalvagesAll}
 use Rattle.ffv1_unpack.specs.Unpacked.{is_ppm_stream, rows_by, text_by, text_of}
 use Rattle.ffv1_unpack.proofs.FramesInTurn.{all_more}
@@ -110,7 +110,7 @@ module _ (s : Stream) (from to last : Place) (c d e : Course) (i0 i1 i2 l0 l1 l2
   comes_next : (x : JudgedItem) → Comes x → SalvageGoes Has s In Told Out xs (ItemIs (given_as x))
   comes_next x here = goes_on (ItemIs (given_as x)) (known_map i1 i2 (λ text rest. item_read to d text ≡ Ok (Some (given_as x, last, e), rest)) (ItemIs (given_as x) to d) (λ text rest is. (last, e, is)) here.next)
 
-  module _ {P : Type 0} (ready : Stream → List Frame → P → Type 0) (new : P) where
+  module _ {P : Type 0} (ready : Stream → List CodedFrame → P → Type 0) (new : P) where
     abbrev Shows : JudgedItem → Result (Unit {0}) Fault → Type 0
     Shows x answer = ItemShown ready s xs (between l1 l2 lm la) (between o1 o2 om oa) new x answer
 
@@ -229,7 +229,7 @@ pub text_none : (s : Stream) → text_of s [] ≡ []
 text_none s = text_by_none (is_ppm_stream s) s
 
 -- so many were salvaged, and this is known then
-pub record SalvagedTo {P : Type 0} (ready : Stream → List Frame → P → Type 0) (out : P) (s : Stream) (from : Place) (c : Course) (input lines output : Passage) (n : ℕ) (counts : JudgedCounts) (header : Option Said) (payload : List ℕ)
+pub record SalvagedTo {P : Type 0} (ready : Stream → List CodedFrame → P → Type 0) (out : P) (s : Stream) (from : Place) (c : Course) (input lines output : Passage) (n : ℕ) (counts : JudgedCounts) (header : Option Said) (payload : List ℕ)
     (to : Place) (d : Course) : Type 0 where
   pub xs : List JudgedItem
   pub many : length xs ≡ n
@@ -237,10 +237,10 @@ pub record SalvagedTo {P : Type 0} (ready : Stream → List Frame → P → Type
   pub stands : StandsAfter s xs counts header payload
   pub ready_is : ready s (shown xs) out
 
-no_last : (f : Frame) → None ≡ Some f → ⊥
+no_last : (f : CodedFrame) → None ≡ Some f → ⊥
 no_last f e = cc
 
-pub none_yet : {P : Type 0} (ready : Stream → List Frame → P → Type 0) (out : P) (s : Stream) (from : Place) (c : Course) (i l o : Option (List ℕ)) (ib lb ob : ℕ) (counts : JudgedCounts) (payload : List ℕ) →
+pub none_yet : {P : Type 0} (ready : Stream → List CodedFrame → P → Type 0) (out : P) (s : Stream) (from : Place) (c : Course) (i l o : Option (List ℕ)) (ib lb ob : ℕ) (counts : JudgedCounts) (payload : List ℕ) →
     counts.frames ≡ 0 → counts.faults ≡ 0 → counts.first ≡ None → ready s [] out → SalvagedTo ready out s from c (between i i ib ib) (between l l lb lb) (between o o ob ob) 0 counts None payload from c
 none_yet ready out s from c i l o ib lb ob counts payload frames faults first is = record {
   xs = [];

@@ -15,7 +15,7 @@ use Rattle.ffv1_unpack.specs.Checked.{CheckedRangeStops, CheckedStops}
 use Rattle.ffv1_unpack.specs.Containers.{IsReadAs}
 use Rattle.ffv1_unpack.specs.Judged.{IsJudged, Judged, counts_line, judged_from, judged_lines}
 use Rattle.ffv1_unpack.specs.Judged.{payload_of, payloads_of, refusals}
-use Rattle.ffv1_unpack.specs.JudgedItems.{ItemsDone, ItemsFault}
+use Rattle.ffv1_unpack.specs.AllItems.{ItemsDone, ItemsFault}
 use Rattle.ffv1_unpack.specs.Plays.{AtMost, HoldsNoted, NextBehind, NotedAfter, has_more}
 use Rattle.ffv1_unpack.specs.Ranges.{RangeThen}
 use Rattle.ffv1_unpack.specs.Stream.{AreAll, IsStream, Stream}

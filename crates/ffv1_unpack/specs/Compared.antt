@@ -3,6 +3,7 @@ use Rattle.std.specs.Prelude.{◌≡◌, ◌⊎◌, ℕ, ◌<◌, ◌==◌, Bool
 use Rattle.std.specs.Prelude.{length, map, take, slice_get, Option, Some, None}
 use Rattle.std.specs.Int.{from_be_bytes, w128}
 use Rattle.md5.specs.Md5.{md5}
+use Rattle.ffv1_range.specs.Counts.{saturated}
 use Rattle.ffv1_wire.specs.Passage.{Passage, between}
 use Rattle.ffv1_record.specs.Accepted.{Accepted}
 use Rattle.ffv1_record.specs.Configuration.{is_rct}
@@ -13,7 +14,8 @@ use Rattle.ffv1_video.specs.RawPicture.{raw_bytes}
 use Rattle.ffv1_video.specs.declared.fault.Fault.{Fault}
 use Rattle.ffv1_video.specs.declared.profile.Profile.{Profile}
 use Rattle.ffv1_unpack.specs.Plays.{FileStops, FileThen, GoesThen, NextOver, NextStays, PlaysFile}
-use Rattle.ffv1_unpack.specs.Stream.{Frame, IsFrame, IsStream, Stream, frame_payload}
+use Rattle.ffv1_unpack.specs.Stream.{Coded, CodedFrame, Frame, IsFrame, IsStream, Stream}
+use Rattle.ffv1_unpack.specs.Stream.{coded_frames, frame_payload}
 use Rattle.ffv1_unpack.specs.declared.comparing.Unlike.{Unlike}
 use Rattle.ffv1_unpack.specs.declared.comparing.Unlike.TheVariants as unlike
 
@@ -22,12 +24,12 @@ abbrev pub picture_number : Accepted → Planes → ℕ
 picture_number a planes = from_be_bytes w128
     (md5 (raw_bytes (is_rct a.configuration.colour) a.configuration.depth planes))
 
-abbrev pub frame_number : Accepted → Frame → ℕ
+abbrev pub frame_number : Accepted → CodedFrame → ℕ
 frame_number a f = picture_number a f.planes
 
--- the MD5s of frames
+-- the MD5s of frames: one that repeats another has none
 abbrev pub frame_numbers : Accepted → List Frame → List ℕ
-frame_numbers a frames = map (frame_number a) frames
+frame_numbers a frames = map (frame_number a) (coded_frames frames)
 
 abbrev pub stream_numbers : Stream → List Frame → List ℕ
 stream_numbers s = frame_numbers s.accepted
@@ -51,21 +53,21 @@ module _ (Has : List (List ℕ) → (Place → List ℕ → List ℕ → Type 0)
     (a : Accepted) (md5s : List ℕ) (input : Passage) where
   abbrev pub ComparedThen : List Frame → (Place → List ℕ → List ℕ → Type 0) → Type 0
   ComparedThen frames Next = GoesThen (IsFrame a) frame_payload Has (frame_numbers a) input
-      (met md5s (length frames)) frames Next
+      (met md5s (length (coded_frames frames))) frames Next
 
   -- after the first frames, whose MD5s are the first ones of the list, a further one has another
   -- MD5 than the next one, or the list has no next one; or there is no further one, and the list
   -- has
   pub record DiffersAt (number : ℕ) : Type 0 where
     pub frames : List Frame
-    pub is : number ≡ length frames
-    pub agree : frame_numbers a frames ≡ take number md5s
+    pub is : number ≡ saturated (length frames)
+    pub agree : frame_numbers a frames ≡ take (length (coded_frames frames)) md5s
     pub kept : input.after ≡ input.before
     pub differs :
-        ((f : Frame) × ComparedThen (frames ++ (f ∷ [])) NextStays
-        × (is_md5 (slice_get md5s number) (frame_number a f) ≡ false))
+        ((f : CodedFrame) × ComparedThen (frames ++ (Coded f ∷ [])) NextStays
+        × (is_md5 (slice_get md5s (length (coded_frames frames))) (frame_number a f) ≡ false))
         ⊎ ((notes : Notes) × ComparedThen frames (NextOver notes) × (0 < number)
-        × (number < length md5s))
+        × (length (coded_frames frames) < length md5s))
 
 -- the first frame that differs has this number
 pub record FileDiffers (profile : Profile) (md5s : List ℕ) (input : Passage) (number : ℕ)

@@ -9,7 +9,7 @@ use Rattle.ffv1_codec.specs.Answer.{decided_by}
 use Rattle.ffv1_frame.specs.declared.fault.FrameFault.{FrameFault}
 use Rattle.ffv1_unpack.specs.declared.frame_line.FrameLine.{FrameLine}
 use Rattle.ffv1_unpack.specs.declared.frame_line.FrameLine.TheVariants as line
-use Rattle.ffv1_unpack.specs.Stream.{Frame}
+use Rattle.ffv1_unpack.specs.Stream.{Again, Coded, Frame}
 
 -- the number of a frame, the length of its payload in bytes, its slices and its decisions
 unfoldable pub sizes_line : ℕ → ℕ → ℕ → ℕ → List ℕ
@@ -31,11 +31,20 @@ frame_line line.Sizes c i payload tally =
     sizes_line i (length payload) (c.columns * c.rows) (decided_by tally)
 frame_line line.Cost c i payload tally = cost_line i tally
 
+-- the line of a frame that repeats the one before it, by its number
+unfoldable pub again_line : FrameLine → ℕ → List ℕ
+again_line line.Sizes i = codes "frame " ++ decimal i ++ codes ": again\n"
+again_line line.Cost i = codes "cost frame " ++ decimal i ++ codes ": again\n"
+
+-- the line of any frame
+abbrev pub line_of : FrameLine → Configuration → ℕ → Frame → List ℕ
+line_of kind c i (Coded f) = frame_line kind c i f.payload f.tally
+line_of kind c i Again = again_line kind i
+
 -- the lines of frames from a number on
 abbrev pub lines_from : FrameLine → Configuration → ℕ → List Frame → List ℕ
 lines_from kind c i [] = []
-lines_from kind c i (f ∷ fs) =
-    frame_line kind c (saturated i) f.payload f.tally ++ lines_from kind c (suc i) fs
+lines_from kind c i (f ∷ fs) = line_of kind c (saturated i) f ++ lines_from kind c (suc i) fs
 
 -- the lines of all frames
 abbrev pub frame_lines : FrameLine → Configuration → List Frame → List ℕ

@@ -1,22 +1,32 @@
 -- What `framemd5` writes, and why it is refused.
-use Rattle.std.specs.Prelude.{ℕ, List, [], ◌∷◌, ◌++◌}
+use Rattle.std.specs.Prelude.{ℕ, Bool, List, [], ◌∷◌, ◌++◌}
+use Rattle.std.proofs.Common.{suc}
 use Rattle.ffv1_wire.specs.Passage.{Passage}
 use Rattle.ffv1_files.specs.declared.notes.Notes.{Notes}
 use Rattle.ffv1_video.specs.declared.profile.Profile.{Profile}
 use Rattle.ffv1_video.specs.declared.fault.Fault.{Fault}
-use Rattle.ffv1_video.specs.Md5Text.{md5_head, md5_lines}
+use Rattle.ffv1_video.specs.Md5Text.{md5_head, md5_line}
+use Rattle.ffv1_video.specs.RawPicture.{raw_bytes}
 use Rattle.ffv1_words.specs.declared.order.FrameRange.{FrameRange}
 use Rattle.ffv1_unpack.specs.Plays.{FileStops, PlaysFile}
 use Rattle.ffv1_unpack.specs.Ranges.{PlaysRange, RangeStops}
-use Rattle.ffv1_unpack.specs.Stream.{Frame, Stream}
-use Rattle.ffv1_unpack.specs.Unpacked.{is_ppm_stream, pictures, video_of}
+use Rattle.ffv1_unpack.specs.Stream.{Again, Coded, Frame, Stream}
+use Rattle.ffv1_unpack.specs.Unpacked.{is_ppm_stream, video_of}
 
--- the text of frames from a number on: the head says what the first of them says
+-- the lines of frames from a number on: one that repeats another has a number, and no line
+abbrev pub md5_rows : Bool → ℕ → ℕ → List Frame → List ℕ
+md5_rows rct depth i [] = []
+md5_rows rct depth i (Coded f ∷ fs) =
+    md5_line i (raw_bytes rct depth f.planes) ++ md5_rows rct depth (suc i) fs
+md5_rows rct depth i (Again ∷ fs) = md5_rows rct depth (suc i) fs
+
+-- their text: the head says what the first coded one says; nothing if none is
 abbrev pub md5_from : ℕ → Stream → List Frame → List ℕ
 md5_from i s [] = []
-md5_from i s (f ∷ fs) =
+md5_from i s (Coded f ∷ fs) =
     md5_head (video_of s f.said)
-    ++ md5_lines (is_ppm_stream s) s.accepted.configuration.depth i (pictures (f ∷ fs))
+    ++ md5_rows (is_ppm_stream s) s.accepted.configuration.depth i (Coded f ∷ fs)
+md5_from i s (Again ∷ fs) = md5_from (suc i) s fs
 
 -- the text of all
 abbrev pub frames_md5 : Stream → List Frame → List ℕ

@@ -4,6 +4,7 @@ pub mod Containers
 pub mod FrameLines
 pub mod FrameMd5
 pub mod ImagesOut
+pub mod ItemsEnd
 pub mod Judged
 pub mod JudgedItems
 pub mod Located

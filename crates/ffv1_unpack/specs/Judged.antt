@@ -1,7 +1,7 @@
 -- Judging each payload of a file: it codes a picture, or is refused, and its lines are written at
 -- once. How far that goes, and why it goes no further.
 use Rattle.std.specs.Prelude.{ℕ, Bool, List, [], ◌∷◌, ◌++◌, map, codes, decimal}
-use Rattle.std.specs.Prelude.{Option, Some, None}
+use Rattle.std.specs.Prelude.{Option, Some, None, ⊤}
 use Rattle.std.proofs.Common.{suc}
 use Rattle.ffv1_range.specs.declared.tally.Tally.{Tally}
 use Rattle.ffv1_range.specs.Counts.{saturated}
@@ -13,24 +13,27 @@ use Rattle.ffv1_frame.specs.declared.fault.FrameFault.{FrameFault}
 use Rattle.ffv1_video.specs.declared.fault.Fault.{Fault}
 use Rattle.ffv1_unpack.specs.declared.frame_line.FrameLine.TheVariants as line
 use Rattle.ffv1_video.specs.Faults.{of_codec}
-use Rattle.ffv1_codec.specs.Outcome.{FaultsOf}
-use Rattle.ffv1_unpack.specs.Stream.{Frame, IsFrame}
-use Rattle.ffv1_unpack.specs.FrameLines.{frame_line, place_text}
+use Rattle.ffv1_unpack.specs.Stream.{CodedFrame, IsCoded, IsRefusedPayload}
+use Rattle.ffv1_unpack.specs.FrameLines.{again_line, frame_line, place_text}
 
 -- ---- payloads that are judged
 
--- a payload codes a frame; or it has this first fault, after so much was decided
+-- a payload codes a frame; or it has this first fault, after so much was decided; or it has no
+-- bytes, and the frame before is repeated
 pub data Judged : Type 0 where
-  Decoded : Frame → Judged
+  Decoded : CodedFrame → Judged
   Refused : List ℕ → FrameFault → Tally → Judged
+  Repeats : Judged
 
 abbrev pub IsJudged : Accepted → Judged → Type 0
-IsJudged a (Decoded f) = IsFrame a f
-IsJudged a (Refused payload f tally) = FaultsOf a payload f tally
+IsJudged a (Decoded f) = IsCoded a f
+IsJudged a (Refused payload f tally) = IsRefusedPayload a payload f tally
+IsJudged a Repeats = ⊤
 
 abbrev pub payload_of : Judged → List ℕ
 payload_of (Decoded f) = f.payload
 payload_of (Refused payload f tally) = payload
+payload_of Repeats = []
 
 abbrev pub payloads_of : List Judged → List (List ℕ)
 payloads_of js = map payload_of js
@@ -39,6 +42,7 @@ payloads_of js = map payload_of js
 abbrev pub refusal_of : Judged → Option Fault
 refusal_of (Decoded f) = None
 refusal_of (Refused payload f tally) = Some (of_codec f.fault)
+refusal_of Repeats = None
 
 abbrev pub with_refusal : Option Fault → List Fault → List Fault
 with_refusal None faults = faults
@@ -86,6 +90,7 @@ abbrev pub judged_line : Bool → Configuration → ℕ → Judged → List ℕ
 judged_line place c i (Decoded f) = frame_line line.Sizes c i f.payload f.tally
 judged_line place c i (Refused payload f tally) =
     refused_line i f.fault ++ place_text place i f tally
+judged_line place c i Repeats = again_line line.Sizes i
 
 -- the lines of those from a number on
 abbrev pub judged_from : Bool → Configuration → ℕ → List Judged → List ℕ

@@ -1,7 +1,7 @@
 -- Judging what a Matroska file gives that may be damaged: frames that code a picture or are
 -- refused, and faults of the file that are told, each with the number of bytes before its element.
-use Rattle.std.specs.Prelude.{◌≡◌, ◌⊎◌, ◌^◌, ◌-◌, ℕ, ◌<◌, Bool, List, [], ◌∷◌, ◌++◌, length}
-use Rattle.std.specs.Prelude.{map, codes, decimal, slice_get, Option, Some, None, Ok, ⊤}
+use Rattle.std.specs.Prelude.{◌≡◌, ◌⊎◌, ◌^◌, ◌-◌, ℕ, Bool, List, [], ◌∷◌, ◌++◌, length}
+use Rattle.std.specs.Prelude.{map, codes, decimal, Option, Some, None, Ok, ⊤}
 use Rattle.std.specs.Io.KnownBytes.{Appends}
 use Rattle.std.proofs.Common.{suc}
 use Rattle.ffv1_range.specs.Counts.{saturated}
@@ -19,21 +19,16 @@ use Rattle.ffv1_files.specs.Files.{open_read}
 use Rattle.ffv1_files.specs.Items.{ItemSoFar, course_by, item_read}
 use Rattle.ffv1_files.specs.Offsets.{PlaceReached}
 use Rattle.ffv1_files.specs.Places.{Place}
-use Rattle.ffv1_files.specs.declared.notes.Notes.{Notes}
 use Rattle.ffv1_video.specs.declared.profile.Profile.{Profile}
 use Rattle.ffv1_video.specs.declared.fault.Fault.{Fault}
-use Rattle.ffv1_video.specs.declared.fault.Fault.TheVariants as fault
-use Rattle.ffv1_video.specs.Faults.{Cause, cause_of, of_avi}
+use Rattle.ffv1_video.specs.Faults.{Cause, of_avi}
 use Rattle.ffv1_video.specs.Faults.Cause.{Reading, Writing, Memory, Content}
-use Rattle.ffv1_video.specs.Output.{Silent, WritesUpTo}
-use Rattle.ffv1_video.specs.Profiles.{byte_told, scope_in}
-use Rattle.ffv1_files.specs.Noted.{no_notes}
+use Rattle.ffv1_video.specs.Output.{WritesUpTo}
+use Rattle.ffv1_video.specs.Profiles.{scope_in}
 use Rattle.ffv1_unpack.specs.Judged.{IsJudged, Judged, counts_line, judged_line, payload_of}
 use Rattle.ffv1_unpack.specs.Judged.{refusal_of, with_refusal}
-use Rattle.ffv1_unpack.specs.Located.{LocatedFault, WritesLocated}
-use Rattle.ffv1_unpack.specs.Opens.{LacksOpening}
 use Rattle.ffv1_unpack.specs.Play.{but_last}
-use Rattle.ffv1_unpack.specs.Stream.{AreAll, IsStream, Stream}
+use Rattle.ffv1_unpack.specs.Stream.{AreAll}
 
 -- ---- items that are judged
 
@@ -216,56 +211,3 @@ module _ (Has : List Given → ItemsNext → List ℕ → List ℕ → Type 0) (
       (xs : List JudgedItem) × ItemsGo xs (ItemsLack a) × (input.after ≡ input.before)
       × ItemsWritten xs
   ItemsStopBy Content = ⊥
-
--- ---- a whole file
-
-module _ (profile : Profile) (place : Bool) (input output : Passage) where
-  -- all its items came
-  pub record ItemsCame (stream : Stream) (xs : List JudgedItem) : Type 0 where
-    pub is : IsStream profile stream
-    pub go : ItemsGo (ItemsThen profile stream.head) stream.accepted place input output xs
-        (ItemsOver (length xs))
-    pub kept : input.after ≡ input.before
-
-  -- all items of the file, at least one, were judged, and the text of them was written; the answer
-  -- is the first fault of either kind, and nothing is noted
-  pub record ItemsDone (first : Option Fault) (notes : Notes) : Type 0 where
-    pub stream : Stream
-    pub xs : List JudgedItem
-    pub some : 0 < length xs
-    pub came : ItemsCame stream xs
-    pub written : output.after ≡ output.before
-    pub writes : Appends output.old output.new
-        (items_text place stream.accepted.configuration xs)
-    pub told : first ≡ slice_get (faults_of xs) 0
-    pub noted : notes ≡ no_notes
-
-  -- no further one was judged
-  pub record ItemsFail (why : Cause) : Type 0 where
-    pub stream : Stream
-    pub is : IsStream profile stream
-    pub stops : ItemsStopBy (ItemsThen profile stream.head) stream.accepted place input output why
-
-  -- the last line was not written whole; memory for it was refused; or there is no item, and
-  -- nothing was written
-  abbrev pub CountFailsBy : Fault → Cause → Type 0
-  CountFailsBy f Writing =
-      (stream : Stream) × (xs : List JudgedItem) × ItemsCame stream xs
-      × (output.after ≡ one_more output.before)
-      × WritesUpTo output.old output.new
-      (length (item_lines place stream.accepted.configuration xs))
-      (items_text place stream.accepted.configuration xs)
-  CountFailsBy f Reading = ⊥
-  CountFailsBy f Memory =
-      (stream : Stream) × (xs : List JudgedItem) × ItemsCame stream xs
-      × ItemsWritten (ItemsThen profile stream.head) stream.accepted place input output xs
-  CountFailsBy f Content =
-      (f ≡ fault.NoFrames) × (stream : Stream) × ItemsCame stream [] × Silent output
-
-  -- why it is refused: it was not opened; or no further item was judged; or the last line is not
-  -- there
-  abbrev pub ItemsFault : Fault → Type 0
-  ItemsFault f =
-      (WritesLocated (LocatedFault (scope_in profile) input) (byte_told profile place) 0 [] f output
-      × LacksOpening profile input f)
-      ⊎ ItemsFail (cause_of f) ⊎ CountFailsBy f (cause_of f)

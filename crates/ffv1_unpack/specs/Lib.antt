@@ -10,6 +10,8 @@ pub mod Ranges
 pub mod Told
 pub mod Judged
 pub mod JudgedItems
+pub mod ItemsEnd
+pub mod AllItems
 pub mod Checked
 pub mod Check
 pub mod CheckAll

@@ -24,8 +24,9 @@ use Rattle.ffv1_unpack.specs.FrameLines.{offset_line}
 abbrev pub located_text : Bool → ℕ → Fault → ℕ → List ℕ
 located_text byte i f offset = if byte && is_file_fault f then offset_line i offset else []
 
--- elements and chunks of as many bytes as the reader's offset says were read whole, its Segment ends
--- where all that it has left was read, and what it will note of the end is that of the file's bytes
+-- elements and chunks of as many bytes as the reader's offset says were read whole, its Segment
+-- ends where all that it has left was read, and what it will note of the end is that of the file's
+-- bytes
 pub record Stands (scope : Scope) (text left : Option (List ℕ)) (r : Standing) : Type 0 where
   pub reached : Reached scope text left r
   pub ends : EndsThere r

@@ -18,8 +18,7 @@ use Rattle.ffv1_video.specs.Profiles.{greatest_depth, record_profile, scope_in}
 use Rattle.ffv1_video.specs.declared.fault.Fault.{Fault}
 use Rattle.ffv1_video.specs.declared.fault.Fault.TheVariants as fault
 use Rattle.ffv1_video.specs.Faults.{of_avi, of_codec, of_record}
-use Rattle.ffv1_codec.specs.Outcome.{FaultsOf}
-use Rattle.ffv1_unpack.specs.Stream.{AreFrames, Frame, IsStream}
+use Rattle.ffv1_unpack.specs.Stream.{AreFrames, Frame, IsRefusedPayload, IsStream}
 use Rattle.ffv1_unpack.specs.Stream.{Stream}
 
 -- bytes of a file have this fault, with this left; those that end where more are wanted are
@@ -54,7 +53,7 @@ pub data End : Type 0 where
 -- the payload at which it ends has its fault
 abbrev pub IsFaulty : Accepted → End → Type 0
 IsFaulty a (File f) = ⊤
-IsFaulty a (Payload payload f tally) = FaultsOf a payload f tally
+IsFaulty a (Payload payload f tally) = IsRefusedPayload a payload f tally
 IsFaulty a (Over notes) = ⊤
 
 -- the fault that this is

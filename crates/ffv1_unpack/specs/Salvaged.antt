@@ -8,9 +8,9 @@ use Rattle.ffv1_codec.specs.SliceList.{Said}
 use Rattle.ffv1_video.specs.declared.fault.Fault.{Fault}
 use Rattle.ffv1_video.specs.declared.fault.Fault.TheVariants as fault
 use Rattle.ffv1_video.specs.Faults.{of_avi, of_codec}
-use Rattle.ffv1_unpack.specs.Judged.{Decoded, Refused, refused_line}
+use Rattle.ffv1_unpack.specs.Judged.{Decoded, Judged, Refused, Repeats, refused_line}
 use Rattle.ffv1_unpack.specs.JudgedItems.{JudgedItem, OfFrame, ToldAt, frames_of, told_line}
-use Rattle.ffv1_unpack.specs.Stream.{Frame}
+use Rattle.ffv1_unpack.specs.Stream.{Again, Coded, CodedFrame, Frame, last_of, those}
 
 -- ---- what each gives, by those before it
 
@@ -21,43 +21,38 @@ each_from gives before (x ∷ xs) = gives before x ++ each_from gives (before ++
 abbrev pub each : {X Y : Type 0} → (List X → X → List Y) → List X → List Y
 each gives xs = each_from gives [] xs
 
--- one, or none
-abbrev pub those : {X : Type 0} → Option X → List X
-those None = []
-those (Some x) = x ∷ []
-
--- the last one
-abbrev pub last_of : {X : Type 0} → List X → Option X
-last_of [] = None
-last_of (x ∷ []) = Some x
-last_of (x ∷ y ∷ ys) = last_of (y ∷ ys)
-
 -- ---- the pictures
 
 -- the frame that an item is, if it is decoded
-abbrev pub good_of : JudgedItem → List Frame
+abbrev pub good_of : JudgedItem → List CodedFrame
 good_of (OfFrame (Decoded f)) = f ∷ []
 good_of (OfFrame (Refused payload f tally)) = []
+good_of (OfFrame Repeats) = []
 good_of (ToldAt f offset) = []
 
--- a frame that is decoded, as an item
-abbrev pub of_good : Frame → JudgedItem
-of_good f = OfFrame (Decoded f)
+-- a frame that has no fault, as an item
+abbrev pub judged_sound : Frame → Judged
+judged_sound (Coded f) = Decoded f
+judged_sound Again = Repeats
+
+abbrev pub of_sound : Frame → JudgedItem
+of_sound f = OfFrame (judged_sound f)
 
 -- those that are decoded
-abbrev pub good_frames : List JudgedItem → List Frame
+abbrev pub good_frames : List JudgedItem → List CodedFrame
 good_frames [] = []
 good_frames (x ∷ xs) = good_of x ++ good_frames xs
 
 -- the frame whose picture is written for an item: its own; or the last good one again if it is
--- refused, and none if there is no such
-abbrev pub picture_for : List JudgedItem → JudgedItem → List Frame
+-- refused, or has no bytes, and none if there is no such
+abbrev pub picture_for : List JudgedItem → JudgedItem → List CodedFrame
 picture_for before (OfFrame (Decoded f)) = f ∷ []
 picture_for before (OfFrame (Refused payload f tally)) = those (last_of (good_frames before))
+picture_for before (OfFrame Repeats) = those (last_of (good_frames before))
 picture_for before (ToldAt f offset) = []
 
 -- the frames whose pictures are written
-abbrev pub shown : List JudgedItem → List Frame
+abbrev pub shown : List JudgedItem → List CodedFrame
 shown xs = each picture_for xs
 
 -- how many frames come before the first good one
@@ -65,6 +60,7 @@ abbrev pub leading : List JudgedItem → ℕ
 leading [] = 0
 leading (OfFrame (Decoded f) ∷ xs) = 0
 leading (OfFrame (Refused payload f tally) ∷ xs) = suc (leading xs)
+leading (OfFrame Repeats ∷ xs) = suc (leading xs)
 leading (ToldAt f offset ∷ xs) = leading xs
 
 -- ---- what is told
@@ -75,7 +71,7 @@ says_same s t =
     (s.structure == t.structure) && ((s.sar_num == t.sar_num) && (s.sar_den == t.sar_den))
 
 -- what the first of these says
-abbrev pub said_of : List Frame → Option Said
+abbrev pub said_of : List CodedFrame → Option Said
 said_of [] = None
 said_of (f ∷ fs) = Some f.said
 
@@ -86,7 +82,7 @@ differs true header said = false
 differs false None said = false
 differs false (Some header) said = not (says_same said header)
 
-abbrev pub is_changed : Bool → List JudgedItem → Frame → Bool
+abbrev pub is_changed : Bool → List JudgedItem → CodedFrame → Bool
 is_changed ppm before f = differs ppm (said_of (good_frames before)) f.said
 
 -- the fault of that
@@ -98,6 +94,7 @@ changed_fault true = Some fault.FormatChanged
 abbrev pub fault_for : Bool → List JudgedItem → JudgedItem → Option Fault
 fault_for ppm before (OfFrame (Decoded f)) = changed_fault (is_changed ppm before f)
 fault_for ppm before (OfFrame (Refused payload f tally)) = Some (of_codec f.fault)
+fault_for ppm before (OfFrame Repeats) = None
 fault_for ppm before (ToldAt f offset) = Some (of_avi f)
 
 -- those of all, in turn
@@ -112,10 +109,12 @@ abbrev pub changed_text : ℕ → Bool → List ℕ
 changed_text i false = []
 changed_text i true = changed_line i
 
--- the line of an item, where the next frame has this number; a frame that is good has none
+-- the line of an item, where the next frame has this number; a frame that is good has none, nor has
+-- one of no bytes
 abbrev pub line_numbered : Bool → ℕ → List JudgedItem → JudgedItem → List ℕ
 line_numbered ppm i before (OfFrame (Decoded f)) = changed_text i (is_changed ppm before f)
 line_numbered ppm i before (OfFrame (Refused payload f tally)) = refused_line i f.fault
+line_numbered ppm i before (OfFrame Repeats) = []
 line_numbered ppm i before (ToldAt f offset) = told_line offset f
 
 abbrev pub line_for : Bool → List JudgedItem → JudgedItem → List ℕ

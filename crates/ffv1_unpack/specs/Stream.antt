@@ -1,13 +1,15 @@
 -- The stream of a file: what its head says, its configuration, and its frames, decoded one after
 -- the other.
-use Rattle.std.specs.Prelude.{◌≡◌, ◌≤◌, ℕ, List, [], ◌∷◌, map, Some, Ok}
+use Rattle.std.specs.Prelude.{◌≡◌, ◌≤◌, ◌<◌, ℕ, List, [], ◌∷◌, ◌++◌, length, map, Option, Some}
+use Rattle.std.specs.Prelude.{None, Ok, ⊤}
 use Rattle.ffv1_range.specs.declared.tally.Tally.{Tally}
 use Rattle.ffv1_record.specs.Accepted.{Accepted, IsAccepted, PassesAll, checks}
 use Rattle.ffv1_record.specs.Record.{IsRecord}
-use Rattle.ffv1_codec.specs.Outcome.{CountOf}
+use Rattle.ffv1_codec.specs.Outcome.{CountOf, FaultsOf}
 use Rattle.ffv1_codec.specs.Frame.{CodesPicture}
 use Rattle.ffv1_codec.specs.Picture.{Planes}
 use Rattle.ffv1_codec.specs.SliceList.{Said}
+use Rattle.ffv1_frame.specs.declared.fault.FrameFault.{FrameFault}
 use Rattle.ffv1_files.specs.Places.{Place}
 use Rattle.ffv1_avi.specs.Chunks.{AviFile}
 use Rattle.ffv1_files.specs.Files.{frame_read}
@@ -33,17 +35,33 @@ pub record IsStream (profile : Profile) (s : Stream) : Type 0 where
   pub profiled : s.accepted.profile ≡ record_profile profile
   pub deep : s.accepted.configuration.depth ≤ greatest_depth profile
 
--- a frame: its payload, the picture that it codes, what it says of it, and what was decided
-pub record Frame : Type 0 where
+-- a coded frame: its payload, the picture that it codes, what it says of it, and what was decided
+pub record CodedFrame : Type 0 where
   pub payload : List ℕ
   pub planes : Planes
   pub said : Said
   pub tally : Tally
 
--- a frame of a configuration
-pub record IsFrame (a : Accepted) (f : Frame) : Type 0 where
+-- a coded frame of a configuration
+pub record IsCoded (a : Accepted) (f : CodedFrame) : Type 0 where
   pub codes : CodesPicture a f.payload f.planes f.said
   pub decided : CountOf a f.payload f.tally
+
+-- a payload that has bytes has this first fault, after so much was decided
+pub record IsRefusedPayload (a : Accepted) (payload : List ℕ) (f : FrameFault)
+    (tally : Tally) : Type 0 where
+  pub some : 0 < length payload
+  pub faulty : FaultsOf a payload f tally
+
+-- a frame: it is coded; or its payload has no bytes, and it repeats the frame before it
+pub data Frame : Type 0 where
+  Coded : CodedFrame → Frame
+  Again : Frame
+
+-- a frame of a configuration
+abbrev pub IsFrame : Accepted → Frame → Type 0
+IsFrame a (Coded f) = IsCoded a f
+IsFrame a Again = ⊤
 
 -- this stands of each one
 abbrev pub AreAll : {X : Type 0} → (X → Type 0) → List X → Type 0
@@ -54,10 +72,41 @@ abbrev pub AreFrames : Accepted → List Frame → Type 0
 AreFrames a frames = AreAll (IsFrame a) frames
 
 abbrev pub frame_payload : Frame → List ℕ
-frame_payload f = f.payload
+frame_payload (Coded f) = f.payload
+frame_payload Again = []
 
 abbrev pub payloads : List Frame → List (List ℕ)
 payloads frames = map frame_payload frames
+
+-- the coded ones
+abbrev pub with_coded : Frame → List CodedFrame → List CodedFrame
+with_coded (Coded f) fs = f ∷ fs
+with_coded Again fs = fs
+
+abbrev pub coded_frames : List Frame → List CodedFrame
+coded_frames [] = []
+coded_frames (f ∷ fs) = with_coded f (coded_frames fs)
+
+-- one, or none
+abbrev pub those : {X : Type 0} → Option X → List X
+those None = []
+those (Some x) = x ∷ []
+
+-- the coded frame that each one shows, after this one: its own; or that of the frame before it, and
+-- none before the first
+abbrev pub shown_after : Option CodedFrame → List Frame → List CodedFrame
+shown_after last [] = []
+shown_after last (Coded f ∷ fs) = f ∷ shown_after (Some f) fs
+shown_after last (Again ∷ fs) = those last ++ shown_after last fs
+
+abbrev pub shown_frames : List Frame → List CodedFrame
+shown_frames frames = shown_after None frames
+
+-- the last one
+abbrev pub last_of : {X : Type 0} → List X → Option X
+last_of [] = None
+last_of (x ∷ []) = Some x
+last_of (x ∷ y ∷ ys) = last_of (y ∷ ys)
 
 -- from this place of the file this text begins with these frames; then come that place and that
 -- text

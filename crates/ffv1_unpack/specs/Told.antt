@@ -12,8 +12,7 @@ use Rattle.ffv1_video.specs.declared.fault.Fault.TheVariants as fault
 use Rattle.ffv1_unpack.specs.declared.frame_line.FrameLine.{FrameLine}
 use Rattle.ffv1_video.specs.Faults.{cause_of, of_codec}
 use Rattle.ffv1_video.specs.Faults.Cause.{Content}
-use Rattle.ffv1_codec.specs.Outcome.{FaultsOf}
-use Rattle.ffv1_unpack.specs.Stream.{Frame, IsFrame, frame_payload}
+use Rattle.ffv1_unpack.specs.Stream.{Frame, IsFrame, IsRefusedPayload, frame_payload}
 use Rattle.ffv1_unpack.specs.Plays.{GoesThen, NextIsPayload}
 use Rattle.ffv1_unpack.specs.FrameLines.{frame_lines, place_text}
 use Rattle.ffv1_unpack.specs.Located.{WritesLine}
@@ -31,7 +30,7 @@ module _ (Has : List (List ℕ) → (Place → List ℕ → List ℕ → Type 0)
     pub tally : Tally
     pub goes : GoesThen (IsFrame a) frame_payload Has lines input output frames
         (NextIsPayload payload)
-    pub faulty : FaultsOf a payload fault tally
+    pub faulty : IsRefusedPayload a payload fault tally
     pub is : f ≡ of_codec fault.fault
     pub content : cause_of f ≡ Content
     pub kept : input.after ≡ input.before

@@ -14,14 +14,14 @@ use Rattle.ffv1_video.specs.declared.fault.Fault.TheVariants as fault
 use Rattle.ffv1_unpack.specs.Behind.{NotedIn}
 use Rattle.ffv1_unpack.specs.Containers.{is_profile_fault}
 use Rattle.ffv1_unpack.specs.Opens.{LacksOpening, is_opening_fault}
-use Rattle.ffv1_unpack.specs.Stream.{Frame, IsStream, Stream, payloads}
+use Rattle.ffv1_unpack.specs.Stream.{Frame, IsStream, Stream, payloads, shown_frames}
 use Rattle.ffv1_unpack.specs.Play.{Played}
 use Rattle.ffv1_unpack.specs.Plays.{AtMost, FileThen, NextBehind, NextStays, NotedAfter}
 use Rattle.ffv1_unpack.specs.Plays.{ReadsFile, has_more}
 use Rattle.ffv1_unpack.specs.Ranges.{PassStops, RangeThen}
 use Rattle.ffv1_unpack.specs.Told.{is_telling_fault}
 use Rattle.ffv1_video.specs.Output.{Silent}
-use Rattle.ffv1_unpack.specs.Unpacked.{AreAlike, HasText, LacksText, text_of}
+use Rattle.ffv1_unpack.specs.Unpacked.{AreAlike, HasText, LacksText, shown_text}
 use Rattle.ffv1_unpack.specs.Unpacking.{UnpackingStops, UnpacksMost}
 
 -- the file is opened, and its pictures have no text
@@ -37,8 +37,9 @@ abbrev pub LacksUnpacking : Profile → Passage → Fault → Type 0
 LacksUnpacking profile p f = LacksOpening profile p f ⊎ LacksTextIn profile p f
 
 module _ (profile : Profile) (input output : Passage) where
-  -- all frames of the file, at least one, were decoded, and the text of them was written; this is
-  -- noted of the end, and it is what is noted of the bytes of the file
+  -- all frames of the file, at least one, were decoded, and the text of them was written, each of
+  -- no bytes as the one before it; this is noted of the end, and it is what is noted of the bytes
+  -- of the file
   pub record UnpackDone (count : ℕ) (notes : Notes) : Type 0 where
     pub stream : Stream
     pub frames : List Frame
@@ -46,12 +47,12 @@ module _ (profile : Profile) (input output : Passage) where
     pub counted : count ≡ saturated (length frames)
     pub text : HasText stream
     pub played : Played profile stream frames
-    pub alike : AreAlike stream frames
+    pub alike : AreAlike stream (shown_frames frames)
     pub reads : ReadsFile profile notes input.old input.new stream frames
     pub of_file : NotedIn profile input notes
     pub kept : input.after ≡ input.before
     pub written : output.after ≡ output.before
-    pub writes : Appends output.old output.new (text_of stream frames)
+    pub writes : Appends output.old output.new (shown_text stream frames)
 
   module _
       (Held : Head → List (List ℕ) → (Place → List ℕ → List ℕ → Type 0) → List ℕ → List ℕ → Type 0)
@@ -92,14 +93,14 @@ module _ (profile : Profile) (range : FrameRange) (input output : Passage) where
     pub counted : count ≡ saturated (length frames)
     pub text : HasText stream
     pub played : Played profile stream frames
-    pub alike : AreAlike stream frames
+    pub alike : AreAlike stream (shown_frames frames)
     pub reads : Known input.old input.new (RangeThen profile range.first stream.head
         (payloads frames) (NextBehind notes range.count (length frames)))
     pub noted : NotedAfter notes range.count (length frames)
     pub of_file : has_more range.count (length frames) ≡ true → NotedIn profile input notes
     pub kept : input.after ≡ input.before
     pub written : output.after ≡ output.before
-    pub writes : Appends output.old output.new (text_of stream frames)
+    pub writes : Appends output.old output.new (shown_text stream frames)
 
   -- why they are refused: the file is not opened for that, or the range is not reached, and nothing
   -- was written; or no further picture is written; or there is none

@@ -1,6 +1,6 @@
 -- What `unpack_all` writes, and why it is refused.
-use Rattle.std.specs.Prelude.{◌≡◌, ◌⊎◌, ℕ, ◌<◌, Bool, true, false, List, [], ◌∷◌, ◌++◌, length, map}
-use Rattle.std.specs.Prelude.{slice_get}
+use Rattle.std.specs.Prelude.{◌≡◌, ◌⊎◌, ◌-◌, ◌^◌, ℕ, ◌<◌, Bool, true, false, List, [], ◌∷◌, ◌++◌}
+use Rattle.std.specs.Prelude.{length, map, slice_get}
 use Rattle.std.specs.Io.KnownBytes.{Appends}
 use Rattle.ffv1_range.specs.Counts.{saturated}
 use Rattle.ffv1_wire.specs.Failures.{one_more}
@@ -8,6 +8,7 @@ use Rattle.ffv1_wire.specs.Passage.{Passage}
 use Rattle.ffv1_wire.specs.Runs.{Line}
 use Rattle.ffv1_codec.specs.Outcome.{OffersLine}
 use Rattle.ffv1_reads.specs.Known.{Known}
+use Rattle.ffv1_reads.specs.declared.fault.FileFault.TheVariants as file_fault
 use Rattle.ffv1_matroska.specs.Items.{Given}
 use Rattle.ffv1_files.specs.Places.{InAvi, InMatroska}
 use Rattle.ffv1_files.specs.declared.notes.Notes.{Notes}
@@ -17,13 +18,17 @@ use Rattle.ffv1_video.specs.declared.fault.Fault.TheVariants as fault
 use Rattle.ffv1_video.specs.Faults.{Cause, cause_of}
 use Rattle.ffv1_video.specs.Faults.Cause.{Reading, Writing, Memory, Content}
 use Rattle.ffv1_video.specs.Output.{Silent, WritesUpTo}
-use Rattle.ffv1_files.specs.Noted.{no_notes}
 use Rattle.ffv1_unpack.specs.declared.judging.JudgedCounts.{JudgedCounts}
 use Rattle.ffv1_unpack.specs.JudgedItems.{IsJudgedItem, ItemIs, ItemsNext, ItemsOver, ItemsStay}
-use Rattle.ffv1_unpack.specs.JudgedItems.{ItemsThen, ItemsWant, JudgedItem, frames_of, given_as}
-use Rattle.ffv1_unpack.specs.Plays.{FrameHasFault, FrameReadFails, NextPayloadLacks}
+use Rattle.ffv1_unpack.specs.JudgedItems.{ItemsThen, ItemsWant, JudgedItem, ToldAt, frames_of}
+use Rattle.ffv1_unpack.specs.JudgedItems.{given_as}
+use Rattle.ffv1_unpack.specs.Behind.{Looks, NotedIn}
+use Rattle.ffv1_unpack.specs.Containers.{IsReadAs}
+use Rattle.ffv1_unpack.specs.ItemsEnd.{BeginsAnother, EndTold, ItemsEnd}
+use Rattle.ffv1_unpack.specs.Plays.{BehindReadFails, FrameHasFault, FrameReadFails}
+use Rattle.ffv1_unpack.specs.Plays.{NextPayloadLacks}
 use Rattle.ffv1_unpack.specs.Salvaged.{picture_for, salvage_faults, salvage_lines, shown}
-use Rattle.ffv1_unpack.specs.Stream.{AreAll, Frame, IsStream, Stream}
+use Rattle.ffv1_unpack.specs.Stream.{AreAll, CodedFrame, IsStream, Stream}
 use Rattle.ffv1_unpack.specs.Unpack.{LacksUnpacking}
 use Rattle.ffv1_unpack.specs.Unpacked.{HasText, is_ppm_stream, rows_by, text_of}
 
@@ -92,7 +97,7 @@ module _ (Has : List Given → ItemsNext → List ℕ → List ℕ → Type 0) (
   PictureWritten false xs x = WritesUpTo output.old output.new (length (text_of s (shown xs)))
       (text_of s (shown (xs ++ (x ∷ []))))
   PictureWritten true xs x =
-      (f : Frame) × (picture_for xs x ≡ f ∷ []) × (ls : List Line) × (next : Line)
+      (f : CodedFrame) × (picture_for xs x ≡ f ∷ []) × (ls : List Line) × (next : Line)
       × OffersLine s.accepted f.payload ls next
       × WritesUpTo output.old output.new
       (length (text_of s (shown xs) ++ rows_by true s ls))
@@ -134,17 +139,29 @@ pub record AreSalvageCounts (ppm : Bool) (counts : JudgedCounts) (xs : List Judg
 -- ---- a whole file
 
 module _ (profile : Profile) (input lines output : Passage) where
-  -- all items of the file, at least one, were judged, and their pictures and lines were written;
-  -- nothing is noted
+  -- these items are all that the file gives; and then this is said of what stands behind its end
+  pub record ItemsSalvaged (stream : Stream) (xs : List JudgedItem) (Looked : ℕ → Looks)
+      : Type 0 where
+    pub is : IsStream profile stream
+    pub text : HasText stream
+    pub are : AreAll (IsJudgedItem stream.accepted) xs
+    pub ends : Known input.old input.new (ItemsEnd profile stream.head (map given_as xs) Looked)
+    pub showed : PicturesShown (ItemsThen profile stream.head) stream input lines output xs
+
+  -- all items of the file, and another file that is told behind its end, at least one of these,
+  -- were judged, and their pictures and lines were written; of an AVI it is noted what is noted of
+  -- the bytes of the file, if no more items come than are read
   pub record UnpackAllDone (counts : JudgedCounts) (notes : Notes) : Type 0 where
     pub stream : Stream
     pub xs : List JudgedItem
-    pub some : 0 < length xs
-    pub is : IsStream profile stream
-    pub text : HasText stream
-    pub all : SalvagesAll (ItemsThen profile stream.head) stream input lines output xs
-    pub counted : AreSalvageCounts (is_ppm_stream stream) counts xs
-    pub noted : notes ≡ no_notes
+    pub behind : List JudgedItem
+    pub some : 0 < length (xs ++ behind)
+    pub all : ItemsSalvaged stream xs (EndTold behind notes)
+    pub told : LinesTold (ItemsThen profile stream.head) stream input lines output (xs ++ behind)
+    pub kept : input.after ≡ input.before
+    pub counted : AreSalvageCounts (is_ppm_stream stream) counts (xs ++ behind)
+    pub noted : IsReadAs false profile input.old →
+        NotedIn profile input notes ⊎ (length xs ≡ 2 ^ 64 - 1)
 
   -- it goes no further
   pub record UnpackAllFails (f : Fault) (why : Cause) : Type 0 where
@@ -153,16 +170,40 @@ module _ (profile : Profile) (input lines output : Passage) where
     pub text : HasText stream
     pub stops : SalvageStopsBy (ItemsThen profile stream.head) stream input lines output f why
 
+  -- all items came, and what stands behind them was not told, by the cause: the line of another
+  -- file was not written whole; a read of it failed, which was counted; or memory for that line was
+  -- refused
+  abbrev pub UnpackEndFailsBy : Cause → Type 0
+  UnpackEndFailsBy Writing =
+      (stream : Stream) × (xs : List JudgedItem) × (end : ℕ)
+      × ItemsSalvaged stream xs
+      (λ at reading text rest. (at ≡ end) × BeginsAnother reading text rest)
+      × (input.after ≡ input.before) × (lines.after ≡ one_more lines.before)
+      × WritesUpTo lines.old lines.new (length (salvage_lines (is_ppm_stream stream) xs))
+      (salvage_lines (is_ppm_stream stream) (xs ++ (ToldAt file_fault.Another end ∷ [])))
+  UnpackEndFailsBy Reading =
+      (stream : Stream) × (xs : List JudgedItem) × ItemsSalvaged stream xs (λ at. BehindReadFails)
+      × (input.after ≡ one_more input.before)
+      × LinesTold (ItemsThen profile stream.head) stream input lines output xs
+  UnpackEndFailsBy Memory =
+      (stream : Stream) × (xs : List JudgedItem) × ItemsSalvaged stream xs (λ at. BeginsAnother)
+      × (input.after ≡ input.before)
+      × LinesTold (ItemsThen profile stream.head) stream input lines output xs
+  UnpackEndFailsBy Content = ⊥
+
   -- there is neither a frame nor a fault
   pub record UnpackAllNone : Type 0 where
     pub stream : Stream
-    pub is : IsStream profile stream
-    pub text : HasText stream
-    pub all : SalvagesAll (ItemsThen profile stream.head) stream input lines output []
+    pub notes : Notes
+    pub all : ItemsSalvaged stream [] (EndTold [] notes)
+    pub told : LinesTold (ItemsThen profile stream.head) stream input lines output []
+    pub kept : input.after ≡ input.before
 
   -- why it is refused, which no fault of a payload is a reason for: the file is not opened for
-  -- that, and nothing was written; or it goes no further; or there is nothing
+  -- that, and nothing was written; or it goes no further; or what stands behind its items was not
+  -- told; or there is nothing
   abbrev pub UnpackAllStops : Fault → Type 0
   UnpackAllStops f =
       (Silent lines × Silent output × LacksUnpacking profile input f)
-      ⊎ UnpackAllFails f (cause_of f) ⊎ ((f ≡ fault.NoFrames) × UnpackAllNone)
+      ⊎ UnpackAllFails f (cause_of f) ⊎ UnpackEndFailsBy (cause_of f)
+      ⊎ ((f ≡ fault.NoFrames) × UnpackAllNone)

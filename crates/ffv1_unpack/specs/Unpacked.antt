@@ -12,7 +12,7 @@ use Rattle.ffv1_y4m.specs.declared.head.VideoHead.{VideoHead}
 use Rattle.ffv1_video.specs.declared.fault.Fault.{Fault}
 use Rattle.ffv1_video.specs.declared.fault.Fault.TheVariants as fault
 use Rattle.ffv1_video.specs.Colours.{range_named, siting_in}
-use Rattle.ffv1_unpack.specs.Stream.{Frame, Stream}
+use Rattle.ffv1_unpack.specs.Stream.{CodedFrame, Frame, Stream, shown_frames}
 
 -- whether the pictures of a stream are written as PPM
 abbrev pub is_ppm_stream : Stream → Bool
@@ -37,41 +37,45 @@ video_of s said = record {
 }
 
 -- the pictures that frames code
-abbrev pub pictures : List Frame → List Planes
-pictures frames = map (λ (f : Frame). f.planes) frames
+abbrev pub pictures : List CodedFrame → List Planes
+pictures frames = map (λ (f : CodedFrame). f.planes) frames
 
 -- the canonical text of frames, of which the first says what the header says
-abbrev pub y4m_text : Stream → List Frame → List ℕ
+abbrev pub y4m_text : Stream → List CodedFrame → List ℕ
 y4m_text s [] = []
 y4m_text s (f ∷ fs) =
     canonical_text s.accepted.configuration.depth (video_of s f.said) (pictures (f ∷ fs))
 
 -- an image for each frame
-abbrev pub ppm_text : Stream → List Frame → List ℕ
+abbrev pub ppm_text : Stream → List CodedFrame → List ℕ
 ppm_text s frames =
     let c = s.accepted.configuration in
     flat_map (image_text c.depth c.width c.height) (pictures frames)
 
-abbrev pub text_by : Bool → Stream → List Frame → List ℕ
+abbrev pub text_by : Bool → Stream → List CodedFrame → List ℕ
 text_by false s frames = y4m_text s frames
 text_by true s frames = ppm_text s frames
 
 -- the text of frames
-abbrev pub text_of : Stream → List Frame → List ℕ
+abbrev pub text_of : Stream → List CodedFrame → List ℕ
 text_of s frames = text_by (is_ppm_stream s) s frames
 
+-- of frames of which some repeat the one before: each of those shows that one once more
+abbrev pub shown_text : Stream → List Frame → List ℕ
+shown_text s frames = text_of s (shown_frames frames)
+
 -- each frame says this of its picture
-abbrev pub AllSay : Said → List Frame → Type 0
+abbrev pub AllSay : Said → List CodedFrame → Type 0
 AllSay said [] = Unit {0}
 AllSay said (f ∷ fs) = (f.said ≡ said) × AllSay said fs
 
 -- each says what the first says, if a header says it once for all
-abbrev pub AlikeBy : Bool → List Frame → Type 0
+abbrev pub AlikeBy : Bool → List CodedFrame → Type 0
 AlikeBy true frames = Unit {0}
 AlikeBy false [] = Unit {0}
 AlikeBy false (f ∷ fs) = AllSay f.said fs
 
-abbrev pub AreAlike : Stream → List Frame → Type 0
+abbrev pub AreAlike : Stream → List CodedFrame → Type 0
 AreAlike s frames = AlikeBy (is_ppm_stream s) frames
 
 -- the stream has a text: its chroma has a name at its depth; PPM has no transparency

@@ -13,6 +13,7 @@ ghost use Rattle.ffv1_unpack.specs.Located.{Stands};
 ghost use Rattle.ffv1_unpack.specs.Judged.{counts_line};
 ghost use Rattle.ffv1_unpack.specs.Internal.Told.{WritesFrame};
 
+use crate::behind::tell_behind;
 use crate::frame_line::{FrameLine, put_count, put_counts};
 use crate::judging::judge_frames;
 use crate::judging_items::judge_items;
@@ -51,7 +52,8 @@ fn write_count<W: ByteOut, A: Allocator + Copy>(
 /// ```
 ///
 /// Frames are counted from 0; a count of 64 bits stays at its greatest value. Beside what the
-/// decoder holds, one payload and one line are held.
+/// decoder holds, one payload and one line are held. A frame of an AVI that has no bytes repeats
+/// the one before it, and its line is `frame {i}: again`; how many there are is noted.
 ///
 /// The first fault ends it, after the lines of the frames before: those of the file up to its first
 /// frame (`NotAvi`, `NoFfv1`, `Truncated`, `ChunkTooLong`), of its record, of the chunks of its
@@ -211,11 +213,14 @@ fn write_counts<W: ByteOut, A: Allocator + Copy>(
 /// fault frame {i} slice {s} plane {p} line {l} x {x} decisions {d}
 /// ```
 ///
-/// Answers the first fault of either kind, and None if there is none, and what is noted of the end:
-/// of an AVI as `check` does, and of a Matroska file nothing, and what stands behind that is not
-/// looked at. Frames are counted from 0; a count of 64 bits stays at its greatest value, and of a
-/// Matroska file at most 2^64 - 1 frames and faults are judged. Beside what the decoder holds, one
-/// payload and its lines are held.
+/// A frame of an AVI that has no bytes has the line that `check` writes of it, and no fault.
+///
+/// Answers the first fault of either kind, and None if there is none, and what is noted of the end,
+/// as `check` does. If another file begins behind a Matroska file, that is told, too: the line of a
+/// fault with the number of bytes before it, and one fault more. A Segment of unknown size is open
+/// if no Cues came after the last Cluster that was read. Frames are counted from 0; a count of 64
+/// bits stays at its greatest value, and of a Matroska file at most 2^64 - 1 frames and faults are
+/// judged. Beside what the decoder holds, one payload and its lines are held.
 ///
 /// All other faults end it as they end `check`, after the lines of the frames before: those of the
 /// file up to its first frame, of its record, and of the chunks of its frames, if it is an AVI
@@ -265,12 +270,13 @@ pub fn check_all<R: ByteIn, W: ByteOut, A: Allocator + Copy>(
                 Ok((counts.first, player.notes))
             }
             Container::Matroska(_size) => {
-                let counts = judge_items(alloc, &mut player, input, output, place)?;
+                let mut counts = judge_items(alloc, &mut player, input, output, place)?;
+                let notes = tell_behind(alloc, &player, input, output, &mut counts)?;
                 if counts.frames == 0 && counts.faults == 0 {
                     return Err(Fault::NoFrames);
                 }
                 write_counts(alloc, output, counts.frames, counts.faults)?;
-                Ok((counts.first, Notes::NONE))
+                Ok((counts.first, notes))
             }
         },
     }

@@ -1,7 +1,7 @@
 //! Compares the pictures of a file with a list of MD5s.
 
-ghost use Rattle.std.specs.Prelude.{◌≡◌, ◌<◌, ◌≤◌, IfErr, IfOk, List, None, OnOk, length, false};
-ghost use Rattle.std.specs.Prelude.{slice_get, true};
+ghost use Rattle.std.specs.Prelude.{◌≡◌, ◌<◌, ◌≤◌, IfErr, IfOk, IfSome, List, None, OnOk, length};
+ghost use Rattle.std.specs.Prelude.{slice_get};
 ghost use Rattle.ffv1_wire.specs.Passage.{passage};
 ghost use Rattle.ffv1_record.specs.Accepted.{IsAccepted};
 ghost use Rattle.ffv1_slice.specs.Grid.{division_of};
@@ -17,11 +17,12 @@ ghost use Rattle.ffv1_unpack.specs.Internal.Compared.{CompareAnswers, FramesStop
 ghost use Rattle.ffv1_unpack.specs.Internal.Plays.{PlaysAll};
 ghost use Rattle.ffv1_unpack.specs.Internal.Told.{IsToldFault};
 ghost use Rattle.ffv1_unpack.specs.Plays.{HasThen};
-ghost use Rattle.ffv1_unpack.specs.Stream.{Frame, IsFrame, frame_payload};
+ghost use Rattle.ffv1_unpack.specs.Stream.{Frame, IsFrame, coded_frames, frame_payload};
+ghost use Rattle.ffv1_range.specs.Counts.{saturated};
 ghost use Rattle.ffv1_unpack.specs.declared.comparing.Unlike.TheVariants as unlike;
 ghost use Rattle.ffv1_unpack.specs.Internal.Located.{EndsNoted, StaysReached};
 
-use crate::player::{Player, Stop, open_player, play};
+use crate::player::{NextFrame, Player, Stop, open_player, play};
 use ffv1_codec::{KeepLines, laws as codec_laws};
 use ffv1_files::{Notes, laws as files_laws};
 use ffv1_record::{Checked, laws as record_laws};
@@ -36,8 +37,17 @@ pub enum Unlike {
     /// The file has this fault.
     Fault(Fault),
     /// The frame with this number, counted from 0, has another MD5 than the list, or the list or
-    /// the file has no such frame.
+    /// the file has no such frame. A frame that repeats another is counted.
     Differs(u64),
+}
+
+/// How far pictures were compared.
+#[derive(Clone, Copy, Debug)]
+pub struct Met {
+    /// How many frames were read. A count of 64 bits stays at its greatest value.
+    pub frames: u64,
+    /// How many MD5s of the list they have: one that repeats another has none.
+    pub md5s: usize,
 }
 
 impl From<Fault> for Unlike {
@@ -84,30 +94,30 @@ fn has_md5(md5s: &[u128], number: usize, md5: u128) -> bool
     }
 }
 
-/// Reads the next frame, decodes it, and compares its picture with the MD5 of the list that has its
-/// number. Answers false if there is none.
+/// Reads the next frame, decodes it, and compares its picture with the next MD5 of the list; one
+/// that repeats another is compared with none. Answers how far that is then, and None if there is
+/// none.
 fn compare_next<R: ByteIn, A: Allocator>(
     player: &mut Player<A>,
     input: &mut R,
     kept: &mut KeepLines<A>,
     md5s: &[u128],
-    number: usize,
-) -> Result<bool, Unlike>
+    before: Met,
+) -> Result<Option<Met>, Unlike>
     requires sound { player.old.reader.fault ≡ None }
     requires accepted { IsAccepted player.old.decoder.accepted.configuration
         player.old.decoder.accepted.table }
     requires kept { IsKeptFor player.old.decoder.accepted kept.old }
-    ensures answer { CompareAnswers player.old.decoder.accepted md5s.now number
+    ensures answer { CompareAnswers player.old.decoder.accepted md5s.now before
         player.old.reader.place player.new.reader.place
         (passage R.remaining R.failures input.old input.new) player.new.notes result }
-    ensures within { IfOk result (λ more. more ≡ true → number < length md5s.now) }
     ensures kept { OnOk result (IsKeptFor player.old.decoder.accepted kept.new) }
     ensures sound { OnOk result (player.new.reader.fault ≡ None) }
-    ensures less { IfOk result (λ more. more ≡ true →
-        amount player.new.reader.place < amount player.old.reader.place) }
-    ensures reached { IfOk result (λ more. more ≡ true → StaysReached player.old.reader
-        player.new.reader (passage R.remaining R.failures input.old input.new)) }
-    ensures noted { IfOk result (λ more. more ≡ false → EndsNoted player.old.reader
+    ensures less { IfOk result (λ more. IfSome more (λ _.
+        amount player.new.reader.place < amount player.old.reader.place)) }
+    ensures reached { IfOk result (λ more. IfSome more (λ _. StaysReached player.old.reader
+        player.new.reader (passage R.remaining R.failures input.old input.new))) }
+    ensures noted { IfOk result (λ more. more ≡ None → EndsNoted player.old.reader
         (passage R.remaining R.failures input.old input.new) player.new.notes) }
     ensures same { player.new.decoder.accepted ≡ player.old.decoder.accepted }
     ensures container { container_of player.new.reader.place
@@ -119,37 +129,46 @@ fn compare_next<R: ByteIn, A: Allocator>(
     codec_laws::sink::kept_lines_make_up_the_picture();
     codec_laws::answer::answered_fault_is_of_decoding::<KeepLines<A>>();
     match play(player, input, kept) {
-        Ok(None) => Ok(false),
-        Ok(Some(_info)) => {
+        Ok(NextFrame::End) => Ok(None),
+        Ok(NextFrame::Coded(_info)) => {
             let checked = player.decoder.config();
             let md5 = picture_number(checked, kept.planes());
-            if has_md5(md5s, number, md5) {
-                return Ok(true);
+            if has_md5(md5s, before.md5s, md5) {
+                let met = before.md5s + 1;
+                return Ok(Some(Met {
+                    frames: before.frames.saturating_add(1),
+                    md5s: met,
+                }));
             }
-            Err(Unlike::Differs(number as u64))
+            Err(Unlike::Differs(before.frames))
         }
+        Ok(NextFrame::Again) => Ok(Some(Met {
+            frames: before.frames.saturating_add(1),
+            md5s: before.md5s,
+        })),
         Err(Stop::File(fault)) => Err(Unlike::Fault(Fault::from(fault))),
         Err(Stop::Payload(fault)) => Err(Unlike::Fault(Fault::from(fault.fault))),
     }
 }
 
 /// Decodes all frames that are left, and compares each picture with the next MD5 of the list as
-/// soon as it is decoded. Answers how many there were.
+/// soon as it is decoded. Answers how far that is.
 fn compare_frames<R: ByteIn, A: Allocator + Copy>(
     alloc: A,
     player: &mut Player<A>,
     input: &mut R,
     md5s: &[u128],
-) -> Result<usize, Unlike>
+) -> Result<Met, Unlike>
     requires sound { player.old.reader.fault ≡ None }
     requires accepted { IsAccepted player.old.decoder.accepted.configuration
         player.old.decoder.accepted.table }
-    ensures ok { IfOk result (λ n. (frames : List Frame) × (n ≡ length frames)
-        × (n ≤ length md5s.now)
+    ensures ok { IfOk result (λ m. (frames : List Frame)
+        × (m.frames ≡ saturated (length frames)) × (m.md5s ≡ length (coded_frames frames))
+        × (m.md5s ≤ length md5s.now)
         × PlaysAll (IsFrame player.old.decoder.accepted) frame_payload
         (HasThen player.old.reader.place) (frame_numbers player.old.decoder.accepted)
-        (passage R.remaining R.failures input.old input.new) (met md5s.now n) player.new.notes
-        frames) }
+        (passage R.remaining R.failures input.old input.new) (met md5s.now m.md5s)
+        player.new.notes frames) }
     ensures err { IfErr result (FramesStop player.old.reader.place player.old.decoder.accepted
         md5s.now (passage R.remaining R.failures input.old input.new)) }
     ensures own { IfErr result (IsUnlike (IsToldFault player.old.reader (R.remaining input.old))) }
@@ -158,16 +177,17 @@ fn compare_frames<R: ByteIn, A: Allocator + Copy>(
 {
     let checked = player.decoder.config();
     let mut kept = kept_lines(alloc, checked)?;
-    let mut number = 0;
-    while compare_next(player, input, &mut kept, md5s, number)? {
-        number += 1;
+    let mut so_far = Met { frames: 0, md5s: 0 };
+    while let Some(next) = compare_next(player, input, &mut kept, md5s, so_far)? {
+        so_far = next;
     }
-    Ok(number)
+    Ok(so_far)
 }
 
 /// Decodes all frames of a file that the profile reads, and compares the MD5 of each picture with
 /// that of a list, in turn: Ok exactly if they are the same, and there is at least one. An MD5 is a
-/// number whose first byte is the highest, of the bytes that `framemd5` takes it of.
+/// number whose first byte is the highest, of the bytes that `framemd5` takes it of. A frame of an
+/// AVI that has no bytes has none.
 ///
 /// The first fault or difference ends it, after frames that agree. `Differs` has the number of the
 /// first frame, counted from 0, that has another MD5, or that the list or the file does not have;
@@ -193,12 +213,12 @@ pub fn check_against<R: ByteIn, A: Allocator + Copy>(
     files_laws::frames_come_in_turn();
     files_laws::what_is_read_is_a_file();
     let mut player = open_player(alloc, profile, input)?;
-    let number = compare_frames(alloc, &mut player, input, md5s)?;
-    if number == 0 {
+    let compared = compare_frames(alloc, &mut player, input, md5s)?;
+    if compared.frames == 0 {
         return Err(Unlike::Fault(Fault::NoFrames));
     }
-    if number < md5s.len() {
-        return Err(Unlike::Differs(number as u64));
+    if compared.md5s < md5s.len() {
+        return Err(Unlike::Differs(compared.frames));
     }
     Ok(player.notes)
 }

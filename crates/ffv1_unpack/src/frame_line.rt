@@ -2,7 +2,7 @@
 
 ghost use Rattle.std.specs.Prelude.{◌≡◌, ◌++◌, decimal, OnOk};
 ghost use Rattle.ffv1_unpack.specs.Check.{count_line};
-ghost use Rattle.ffv1_unpack.specs.FrameLines.{cost_line, part_of_frame, place_line};
+ghost use Rattle.ffv1_unpack.specs.FrameLines.{again_line, cost_line, part_of_frame, place_line};
 ghost use Rattle.ffv1_unpack.specs.Internal.FrameLines.{WritesPart};
 ghost use Rattle.ffv1_unpack.specs.FrameLines.{offset_line, sizes_line};
 ghost use Rattle.ffv1_unpack.specs.Judged.{counts_line, fault_word, refused_line};
@@ -60,6 +60,30 @@ pub(crate) fn put_cost<A: Allocator>(
     push_number(text, b" renormalisations ", tally.renormalisations)?;
     text.extend_from_slice(b"\n")?;
     Ok(())
+}
+
+/// The line of a frame that repeats the one before it, in place of what the text has.
+#[tactic(auto, unfolding(crate::specs::FrameLines::again_line))]
+pub(crate) fn put_again<A: Allocator>(
+    text: &mut Vec<u8, A>,
+    kind: FrameLine,
+    number: u64,
+) -> Result<(), AllocError>
+    ensures { OnOk result (text.new.items ≡ again_line kind number) }
+{
+    text.clear();
+    match kind {
+        FrameLine::Sizes => {
+            push_number(text, b"frame ", number)?;
+            text.extend_from_slice(b": again\n")?;
+            Ok(())
+        }
+        FrameLine::Cost => {
+            push_number(text, b"cost frame ", number)?;
+            text.extend_from_slice(b": again\n")?;
+            Ok(())
+        }
+    }
 }
 
 /// Writes a word and a number.

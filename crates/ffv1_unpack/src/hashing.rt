@@ -11,7 +11,7 @@ ghost use Rattle.ffv1_files.specs.Places.{amount, container_of};
 ghost use Rattle.ffv1_unpack.specs.Check.{IsCheckFault};
 ghost use Rattle.ffv1_unpack.specs.FrameMd5.{Md5Done, Md5RangeDone, Md5RangeStops, Md5Stops};
 ghost use Rattle.ffv1_unpack.specs.FrameMd5.{md5_from};
-ghost use Rattle.ffv1_unpack.specs.Internal.FrameMd5.{frame_md5, headed_md5};
+ghost use Rattle.ffv1_unpack.specs.Internal.FrameMd5.{Md5Answers, headed_md5};
 ghost use Rattle.ffv1_video.specs.RawPicture.{AreEven};
 ghost use Rattle.ffv1_unpack.specs.Internal.Opens.{OpensRange, stream_of};
 ghost use Rattle.ffv1_unpack.specs.Opens.{LacksOpening};
@@ -19,7 +19,7 @@ ghost use Rattle.ffv1_unpack.specs.Ranges.{PassStops};
 ghost use Rattle.ffv1_video.specs.KeptLines.{IsKeptFor};
 ghost use Rattle.ffv1_unpack.specs.Internal.PicturesOut.{head_saying};
 ghost use Rattle.ffv1_unpack.specs.Plays.{HasThen, PlayStops, has_more};
-ghost use Rattle.ffv1_unpack.specs.Internal.Plays.{NextAnswers, PlaysMost};
+ghost use Rattle.ffv1_unpack.specs.Internal.Plays.{PlaysMost};
 ghost use Rattle.ffv1_unpack.specs.Stream.{Frame, IsFrame, frame_payload};
 ghost use Rattle.ffv1_unpack.specs.Internal.Told.{IsToldFault, WritesFrame};
 ghost use Rattle.std.specs.Prelude.{false};
@@ -29,7 +29,7 @@ ghost use Rattle.ffv1_unpack.specs.Located.{Stands};
 
 use crate::passing::{has_more, notes_after, pass_frames};
 use crate::pictures_out::text_head;
-use crate::player::{Player, Stop, open_player, play};
+use crate::player::{NextFrame, Player, Stop, open_player, play};
 use ffv1_codec::{Info, KeepLines, laws as codec_laws};
 use ffv1_files::{Notes, laws as files_laws};
 use ffv1_record::{Checked, laws as record_laws};
@@ -49,10 +49,11 @@ struct LinePlace {
     first: bool,
 }
 
-/// The text of the next picture, and what its head says but for the structure and the aspect, which
-/// are 0.
+/// The text of the next picture, what its head says but for the structure and the aspect, which are
+/// 0, and whether the head was written.
 struct Lines<A: Allocator> {
     head: VideoHead,
+    begun: bool,
     text: Vec<u8, A>,
 }
 
@@ -60,6 +61,7 @@ impl<A: Allocator> Drop for Lines<A> {
     fn drop(self) {
         let Lines {
             head: _head,
+            begun: _begun,
             text: _text,
         } = self;
     }
@@ -102,6 +104,7 @@ fn write_picture<W: ByteOut, A: Allocator>(
         checked.now.configuration.depth (head_saying lines.old.head info) place.first place.number
         (planes_of planes.now)) (passage W.contents W.failures output.old output.new) result }
     ensures same { lines.new.head ≡ lines.old.head }
+    ensures begun { lines.new.begun ≡ lines.old.begun }
 {
     record_laws::accepted_configuration_has_sound_parts();
     codec_laws::sink::rct_planes_have_the_picture_size();
@@ -120,25 +123,25 @@ fn write_picture<W: ByteOut, A: Allocator>(
     Ok(())
 }
 
-/// Reads the next frame, decodes it, and writes the line of its picture. Answers false if there
-/// is none.
+/// Reads the next frame, decodes it, and writes the line of its picture, which has this number; one
+/// that repeats another has no line. Answers false if there is none.
 fn write_next<R: ByteIn, W: ByteOut, A: Allocator>(
     player: &mut Player<A>,
     input: &mut R,
     output: &mut W,
     kept: &mut KeepLines<A>,
     lines: &mut Lines<A>,
-    place: LinePlace,
+    number: u64,
 ) -> Result<bool, Fault>
     requires sound { player.old.reader.fault ≡ None }
     requires accepted { IsAccepted player.old.decoder.accepted.configuration
         player.old.decoder.accepted.table }
     requires kept { IsKeptFor player.old.decoder.accepted kept.old }
-    ensures answer { NextAnswers player.old.decoder.accepted
-        (frame_md5 player.old.decoder.accepted lines.old.head place.first place.number)
+    ensures answer { Md5Answers player.old.decoder.accepted lines.old.head lines.old.begun number
         player.old.reader.place player.new.reader.place
         (passage R.remaining R.failures input.old input.new)
-        (passage W.contents W.failures output.old output.new) player.new.notes result }
+        (passage W.contents W.failures output.old output.new) player.new.notes lines.new.begun
+        result }
     ensures kept { OnOk result (IsKeptFor player.old.decoder.accepted kept.new) }
     ensures head { lines.new.head ≡ lines.old.head }
     ensures sound { OnOk result (player.new.reader.fault ≡ None) }
@@ -158,12 +161,18 @@ fn write_next<R: ByteIn, W: ByteOut, A: Allocator>(
     codec_laws::sink::kept_lines_make_up_the_picture();
     codec_laws::answer::answered_fault_is_of_decoding::<KeepLines<A>>();
     match play(player, input, kept) {
-        Ok(None) => Ok(false),
-        Ok(Some(info)) => {
+        Ok(NextFrame::End) => Ok(false),
+        Ok(NextFrame::Coded(info)) => {
             let checked = player.decoder.config();
+            let place = LinePlace {
+                number,
+                first: !lines.begun,
+            };
             write_picture(output, lines, place, checked, info, kept.planes())?;
+            lines.begun = true;
             Ok(true)
         }
+        Ok(NextFrame::Again) => Ok(true),
         Err(Stop::File(fault)) => Err(Fault::from(fault)),
         Err(Stop::Payload(fault)) => Err(Fault::from(fault.fault)),
     }
@@ -202,15 +211,13 @@ fn write_frames<R: ByteIn, W: ByteOut, A: Allocator + Copy>(
     let mut kept = KeepLines::new(alloc, checked)?;
     let mut lines = Lines {
         head: text_head(player.reader.head(), checked),
+        begun: false,
         text: Vec::new(alloc),
     };
     let mut count = 0u64;
     'frames: while has_more(range.count, count) {
-        let place = LinePlace {
-            number: count.saturating_add(u64::from(range.first)),
-            first: count == 0,
-        };
-        if !write_next(player, input, output, &mut kept, &mut lines, place)? {
+        let number = count.saturating_add(u64::from(range.first));
+        if !write_next(player, input, output, &mut kept, &mut lines, number)? {
             return Ok(count);
         }
         count = count.saturating_add(1);
@@ -236,10 +243,12 @@ fn write_frames<R: ByteIn, W: ByteOut, A: Allocator + Copy>(
 /// 0,          0,          0,        1,   {bytes}, {MD5}
 /// ```
 ///
-/// The rate is in lowest terms, 1/25 if none is known. The aspect of a sample is the first
-/// frame's as it stands, 0/1 if none is known; FFmpeg has that of the container if it is
-/// Matroska, and leaves out one by which a picture would have less than a row or a column. Frames
-/// are counted from 0; a count of 64 bits stays at its greatest value.
+/// The rate is in lowest terms, 1/25 if none is known. The aspect of a sample is the first frame's
+/// as it stands, 0/1 if none is known; FFmpeg has that of the container if it is Matroska, and
+/// leaves out one by which a picture would have less than a row or a column. Frames are counted
+/// from 0; a count of 64 bits stays at its greatest value. A frame of an AVI that has no bytes has
+/// a number, and no line; the head is that of the first coded frame, and not written if there is
+/// none.
 ///
 /// The bytes of a picture are those of its planes, one after the other: of YCbCr as they are, of
 /// RGB of more than 8 bits green, blue, red and transparency. Of RGB of 8 bits they are the samples

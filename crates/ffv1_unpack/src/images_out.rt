@@ -7,28 +7,62 @@ ghost use Rattle.ffv1_range.specs.Counts.{saturated};
 ghost use Rattle.ffv1_record.specs.Accepted.{IsAccepted};
 ghost use Rattle.ffv1_record.specs.Configuration.{is_rct};
 ghost use Rattle.ffv1_files.specs.Places.{amount, container_of};
-ghost use Rattle.ffv1_unpack.specs.Internal.ImagesOut.{IsSinkFor, WritesImage};
+ghost use Rattle.ffv1_unpack.specs.Internal.ImagesOut.{IsLastPayload, IsSinkFor, RepeatsImage};
+ghost use Rattle.ffv1_unpack.specs.Internal.ImagesOut.{WritesImage};
 ghost use Rattle.ffv1_unpack.specs.Internal.Opens.{stream_of};
-ghost use Rattle.ffv1_unpack.specs.Stream.{Frame};
+ghost use Rattle.ffv1_unpack.specs.Stream.{AreFrames, Frame, Stream};
+ghost use Rattle.ffv1_video.specs.declared.fault.Fault.TheVariants as fault;
 ghost use Rattle.ffv1_unpack.specs.Internal.Unpack.{IsWritingFault};
 ghost use Rattle.ffv1_unpack.specs.Unpacking.{UnpackingStops, UnpacksMost};
 ghost use Rattle.ffv1_unpack.specs.Plays.{HasThen, has_more};
 ghost use Rattle.ffv1_unpack.specs.Internal.Located.{EndsNoted, StaysReached};
 
 use crate::passing::has_more;
-use crate::player::{Player, Stop, play};
-use ffv1_codec::{CodecFault, laws as codec_laws};
+use crate::picture_out::PictureOut;
+use crate::player::{NextFrame, Player, Stop, play};
+use ffv1_codec::{CodecFault, FrameDecoder, laws as codec_laws};
 use ffv1_record::laws as record_laws;
 use ffv1_video::Fault;
 use ffv1_wire::{ByteIn, ByteOut};
 use ffv1_y4m::{PpmWriter, laws as y4m_laws};
 use std::alloc::Allocator;
+use std::mem::swap;
 
-/// Reads the next frame, and decodes it into an image. Answers false if there is none.
+/// Writes the last image once more, which this payload codes; nothing if it has no bytes, as before
+/// the first one.
+fn repeat_image<W: ByteOut, A: Allocator>(
+    decoder: &mut FrameDecoder<A>,
+    sink: &mut PpmWriter<W, A>,
+    last: &[u8],
+) -> Result<(), Fault>
+    requires accepted { IsAccepted decoder.old.accepted.configuration decoder.old.accepted.table }
+    requires colour { is_rct decoder.old.accepted.configuration.colour ≡ true }
+    requires opaque { decoder.old.accepted.configuration.extra_plane ≡ false }
+    requires sink { IsSinkFor decoder.old.accepted.configuration sink.old }
+    ensures answer { (s : Stream) (frames : List Frame) → s.accepted ≡ decoder.old.accepted →
+        AreFrames decoder.old.accepted frames → IsLastPayload frames last.now →
+        RepeatsImage decoder.old.accepted frames last.now
+        (passage W.contents W.failures sink.old.out sink.new.out) result }
+    ensures sink { (s : Stream) (frames : List Frame) → s.accepted ≡ decoder.old.accepted →
+        AreFrames decoder.old.accepted frames → IsLastPayload frames last.now →
+        OnOk result (IsSinkFor decoder.old.accepted.configuration sink.new) }
+    ensures same { decoder.new.accepted ≡ decoder.old.accepted }
+    ensures own { IfErr result (λ f. f ≡ fault.Write) }
+{
+    if last.is_empty() {
+        return Ok(());
+    }
+    sink.put(decoder, last)?;
+    Ok(())
+}
+
+/// Reads the next frame, and decodes it into an image; one that repeats another is the last image
+/// once more, whose payload is kept. Answers false if there is none.
 fn write_next<R: ByteIn, W: ByteOut, A: Allocator>(
     player: &mut Player<A>,
     input: &mut R,
     sink: &mut PpmWriter<W, A>,
+    last: &mut Vec<u8, A>,
 ) -> Result<bool, Fault>
     requires sound { player.old.reader.fault ≡ None }
     requires accepted { IsAccepted player.old.decoder.accepted.configuration
@@ -36,10 +70,15 @@ fn write_next<R: ByteIn, W: ByteOut, A: Allocator>(
     requires colour { is_rct player.old.decoder.accepted.configuration.colour ≡ true }
     requires opaque { player.old.decoder.accepted.configuration.extra_plane ≡ false }
     requires sink { IsSinkFor player.old.decoder.accepted.configuration sink.old }
-    ensures answer { WritesImage player.old.decoder.accepted player.old.reader.place
+    ensures answer { (frames : List Frame) → AreFrames player.old.decoder.accepted frames →
+        IsLastPayload frames last.old.items →
+        WritesImage player.old.decoder.accepted frames player.old.reader.place
         player.new.reader.place (passage R.remaining R.failures input.old input.new)
-        (passage W.contents W.failures sink.old.out sink.new.out) player.new.notes result }
-    ensures sink { OnOk result (IsSinkFor player.old.decoder.accepted.configuration sink.new) }
+        (passage W.contents W.failures sink.old.out sink.new.out) player.new.notes last.new.items
+        result }
+    ensures sink { (frames : List Frame) → AreFrames player.old.decoder.accepted frames →
+        IsLastPayload frames last.old.items →
+        OnOk result (IsSinkFor player.old.decoder.accepted.configuration sink.new) }
     ensures sound { OnOk result (player.new.reader.fault ≡ None) }
     ensures less { IfOk result (λ more. more ≡ true →
         amount player.new.reader.place < amount player.old.reader.place) }
@@ -64,8 +103,15 @@ fn write_next<R: ByteIn, W: ByteOut, A: Allocator>(
     y4m_laws::sink_writes_the_lines_it_took::<W>();
     y4m_laws::sink_takes_the_next_line::<W>();
     match play(player, input, sink) {
-        Ok(None) => Ok(false),
-        Ok(Some(_info)) => Ok(true),
+        Ok(NextFrame::End) => Ok(false),
+        Ok(NextFrame::Coded(_info)) => {
+            swap(&mut player.payload, last);
+            Ok(true)
+        }
+        Ok(NextFrame::Again) => {
+            repeat_image(&mut player.decoder, sink, last)?;
+            Ok(true)
+        }
         Err(Stop::File(fault)) => Err(Fault::from(fault)),
         Err(Stop::Payload(fault)) => match fault.fault {
             // The sink refuses no line of the pictures but one whose row cannot be written.
@@ -77,7 +123,8 @@ fn write_next<R: ByteIn, W: ByteOut, A: Allocator>(
 
 /// Decodes the frames that are left, at most so many, into images. Answers how many there were, at
 /// most 2^64 - 1.
-fn write_all_images<R: ByteIn, W: ByteOut, A: Allocator>(
+fn write_all_images<R: ByteIn, W: ByteOut, A: Allocator + Copy>(
+    alloc: A,
     player: &mut Player<A>,
     input: &mut R,
     sink: &mut PpmWriter<W, A>,
@@ -103,9 +150,10 @@ fn write_all_images<R: ByteIn, W: ByteOut, A: Allocator>(
         EndsNoted player.old.reader (passage R.remaining R.failures input.old input.new)
         player.new.notes) }
 {
+    let mut last = Vec::new(alloc);
     let mut count = 0u64;
     'frames: while has_more(most, count) {
-        if !write_next(player, input, sink)? {
+        if !write_next(player, input, sink, &mut last)? {
             return Ok(count);
         }
         count = count.saturating_add(1);
@@ -146,7 +194,7 @@ pub(crate) fn write_images<R: ByteIn, W: ByteOut, A: Allocator + Copy>(
     match PpmWriter::sized_at(alloc, output, config.width, config.height, checked.depth()) {
         Err((output, fault)) => (output, Err(Fault::from(fault))),
         Ok(mut sink) => {
-            let count = write_all_images(player, input, &mut sink, most);
+            let count = write_all_images(alloc, player, input, &mut sink, most);
             (sink.into_inner(), count)
         }
     }

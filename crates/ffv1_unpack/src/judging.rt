@@ -19,8 +19,8 @@ ghost use Rattle.ffv1_range.specs.Counts.{saturated};
 
 use crate::frame_line::{FrameLine, put_refused, write_place};
 use crate::passing::has_more;
-use crate::player::{Player, Stop, play};
-use crate::telling::{Places, tell_byte, write_line};
+use crate::player::{NextFrame, Player, Stop, play};
+use crate::telling::{Places, tell_byte, write_again, write_line};
 use ffv1_codec::{CodecFault, DropLines, FrameDecoder, FrameFault, laws as codec_laws};
 use ffv1_video::Fault;
 use ffv1_wire::{ByteIn, ByteOut, write_all};
@@ -147,10 +147,15 @@ fn judge_frame<R: ByteIn, W: ByteOut, A: Allocator>(
     let number = judging.number;
     let mut sink = DropLines::new(player.decoder.config());
     match play(player, input, &mut sink) {
-        Ok(None) => Ok(false),
-        Ok(Some(_info)) => {
+        Ok(NextFrame::End) => Ok(false),
+        Ok(NextFrame::Coded(_info)) => {
             let kind = FrameLine::Sizes;
             write_line(output, text, kind, number, &player.payload, &player.decoder)?;
+            counts.count(None);
+            Ok(true)
+        }
+        Ok(NextFrame::Again) => {
+            write_again(output, text, FrameLine::Sizes, number)?;
             counts.count(None);
             Ok(true)
         }

@@ -4,7 +4,9 @@
 ghost use Rattle.std.specs.Prelude.{◌≡◌, IfErr, IfOk, List, None, OnOk, true};
 ghost use Rattle.ffv1_wire.specs.Passage.{passage};
 ghost use Rattle.ffv1_record.specs.Accepted.{IsAccepted};
-ghost use Rattle.ffv1_files.specs.Items.{course_of};
+ghost use Rattle.ffv1_files.specs.Items.{course_of, cued_item};
+ghost use Rattle.ffv1_matroska.specs.CuedItems.{CuedBy};
+ghost use Rattle.ffv1_unpack.specs.ItemsEnd.{cued_left};
 ghost use Rattle.ffv1_files.specs.Places.{container_of};
 ghost use Rattle.ffv1_video.specs.Faults.{cause_of};
 ghost use Rattle.ffv1_unpack.specs.JudgedItems.{ItemsAll, ItemsFrom, ItemsStopBy, JudgedItem};
@@ -18,7 +20,7 @@ ghost use Rattle.ffv1_unpack.specs.Told.{is_telling_fault};
 use crate::frame_line::FrameLine;
 use crate::judging::{JudgedCounts, write_refusal};
 use crate::player::Player;
-use crate::telling::write_line;
+use crate::telling::{write_again, write_line};
 use ffv1_codec::{DropLines, laws as codec_laws};
 use ffv1_files::{Course, Item};
 use ffv1_reads::FileFault;
@@ -94,7 +96,8 @@ struct Judging {
     counts: JudgedCounts,
 }
 
-/// Decodes the payload that was read last, writes its lines and counts it.
+/// Decodes the payload that was read last, writes its lines and counts it; if it has no bytes, the
+/// frame before is repeated.
 fn judge_payload<W: ByteOut, A: Allocator>(
     player: &mut Player<A>,
     output: &mut W,
@@ -109,10 +112,16 @@ fn judge_payload<W: ByteOut, A: Allocator>(
         counts.new result }
     ensures reader { player.new.reader ≡ player.old.reader }
     ensures same { player.new.decoder.accepted ≡ player.old.decoder.accepted }
+    ensures cued { player.new.cued ≡ player.old.cued }
 {
     codec_laws::answer::answer_is_ok_for_coded_pictures::<DropLines>();
     codec_laws::sink::sinks_of_own_lines_refuse_none();
     let number = counts.frames;
+    if player.payload.is_empty() {
+        write_again(output, text, FrameLine::Sizes, number)?;
+        counts.count(None);
+        return Ok(());
+    }
     let mut sink = DropLines::new(player.decoder.config());
     match player.decoder.decode(&player.payload, &mut sink) {
         Ok(_info) => {
@@ -150,10 +159,16 @@ fn judge_item<R: ByteIn, W: ByteOut, A: Allocator>(
     ensures reader { player.new.reader ≡ player.old.reader }
     ensures same { player.new.decoder.accepted ≡ player.old.decoder.accepted }
     ensures own { IfErr result (λ f. is_telling_fault f ≡ true) }
+    ensures cued { IfOk result (λ more. CuedBy
+        (cued_item player.old.reader.place judging.old.course player.old.cued)
+        (R.remaining input.old) (R.remaining input.new) player.new.cued) }
 {
-    let next = player
-        .reader
-        .next_item(input, &mut judging.course, &mut player.payload);
+    let next = player.reader.next_item(
+        input,
+        &mut judging.course,
+        &mut player.cued,
+        &mut player.payload,
+    );
     match next {
         Err(fault) => Err(Fault::from(fault)),
         Ok(item) => match item {
@@ -173,6 +188,7 @@ fn judge_item<R: ByteIn, W: ByteOut, A: Allocator>(
 
 /// Judges all items of a Segment that are left, at most 2^64 - 1, and writes the lines of each as
 /// soon as it is judged. Answers how many frames there were, and how many faults of either kind.
+/// The player knows then whether Cues came after the last Cluster.
 pub(crate) fn judge_items<R: ByteIn, W: ByteOut, A: Allocator + Copy>(
     alloc: A,
     player: &mut Player<A>,
@@ -193,6 +209,10 @@ pub(crate) fn judge_items<R: ByteIn, W: ByteOut, A: Allocator + Copy>(
         (passage R.remaining R.failures input.old input.new)
         (passage W.contents W.failures output.old output.new) (cause_of f)) }
     ensures own { IfErr result (λ f. is_telling_fault f ≡ true) }
+    ensures reader { IfOk result (λ counts. player.new.reader ≡ player.old.reader) }
+    ensures cued { IfOk result (λ counts. CuedBy
+        (cued_left player.old.reader.place (course_of player.old.reader) player.old.cued)
+        (R.remaining input.old) (R.remaining input.new) player.new.cued) }
 {
     let mut text = Vec::new(alloc);
     let mut judging = Judging {

@@ -1,6 +1,6 @@
 //! Laws of frames in parts, and of a file of which all is unpacked.
 
-ghost use Rattle.std.specs.Prelude.{◌≡◌, ℕ, ◌+◌, Bool, true, List, [], ◌++◌, length, map};
+ghost use Rattle.std.specs.Prelude.{◌≡◌, ℕ, ◌+◌, Bool, true, List, [], ◌∷◌, ◌++◌, length, map};
 ghost use Rattle.std.specs.Prelude.{Option};
 ghost use Rattle.ffv1_codec.specs.Picture.{Planes};
 ghost use Rattle.ffv1_record.specs.Accepted.{Accepted};
@@ -15,9 +15,11 @@ ghost use Rattle.ffv1_unpack.specs.Judged.{Judged, judged_from};
 ghost use Rattle.ffv1_unpack.specs.JudgedItems.{IsJudgedItem, JudgedItem, frames_of};
 ghost use Rattle.ffv1_unpack.specs.Plays.{FramesEnd, NextBehind, has_more};
 ghost use Rattle.ffv1_unpack.specs.Ranges.{RangeThen};
-ghost use Rattle.ffv1_unpack.specs.Salvaged.{leading, salvage_faults, salvage_lines, shown};
-ghost use Rattle.ffv1_unpack.specs.Salvaged.{of_good};
-ghost use Rattle.ffv1_unpack.specs.Stream.{AreAll, Frame, IsFrame, Stream};
+ghost use Rattle.ffv1_unpack.specs.Salvaged.{leading, of_sound, salvage_faults, salvage_lines};
+ghost use Rattle.ffv1_unpack.specs.Salvaged.{shown};
+ghost use Rattle.ffv1_unpack.specs.FrameMd5.{md5_rows};
+ghost use Rattle.ffv1_unpack.specs.Stream.{Again, AreAll, Coded, CodedFrame, Frame, IsCoded};
+ghost use Rattle.ffv1_unpack.specs.Stream.{Stream, coded_frames, last_of, shown_frames, those};
 ghost use Rattle.ffv1_unpack.specs.Unpacked.{AlikeBy, ppm_text};
 
 /// The payloads of a range are those that come in the file after as many as are before it; if more
@@ -44,8 +46,23 @@ pub fn parts_make_up_the_whole()
     ensures md5s { (rct : Bool) (depth i : ℕ) (xs ys : List Planes) →
         md5_lines rct depth i (xs ++ ys)
         ≡ md5_lines rct depth i xs ++ md5_lines rct depth (i + length xs) ys }
-    ensures images { (s : Stream) (xs ys : List Frame) →
+    ensures rows { (rct : Bool) (depth i : ℕ) (xs ys : List Frame) →
+        md5_rows rct depth i (xs ++ ys)
+        ≡ md5_rows rct depth i xs ++ md5_rows rct depth (i + length xs) ys }
+    ensures images { (s : Stream) (xs ys : List CodedFrame) →
         ppm_text s (xs ++ ys) ≡ ppm_text s xs ++ ppm_text s ys }
+{}
+
+/// A frame that repeats another shows the coded one before it, and nothing before the first one;
+/// all others show themselves.
+pub fn again_shows_the_frame_before()
+    ensures none { (frames : List CodedFrame) → shown_frames (map Coded frames) ≡ frames }
+    ensures first { (frames : List Frame) →
+        shown_frames (Again ∷ frames) ≡ shown_frames frames }
+    ensures coded { (frames : List Frame) (f : CodedFrame) →
+        shown_frames (frames ++ (Coded f ∷ [])) ≡ shown_frames frames ++ (f ∷ []) }
+    ensures again { (frames : List Frame) → shown_frames (frames ++ (Again ∷ []))
+        ≡ shown_frames frames ++ those (last_of (coded_frames frames)) }
 {}
 
 /// If all of a file is unpacked, there are as many pictures as frames, less those before the first
@@ -54,13 +71,13 @@ pub fn each_frame_has_a_picture()
     ensures length { (xs : List JudgedItem) → length (shown xs) + leading xs
         ≡ length (frames_of xs) }
     ensures decoded { (a : Accepted) (xs : List JudgedItem) → AreAll (IsJudgedItem a) xs →
-        AreAll (IsFrame a) (shown xs) }
+        AreAll (IsCoded a) (shown xs) }
 {}
 
-/// If there is no fault, the pictures are those of the frames in turn, which say the same, and no
-/// line is told.
+/// If there is no fault, the pictures are those that the frames show in turn, which say the same,
+/// and no line is told.
 pub fn sound_frames_are_unpacked_alike()
     ensures { (ppm : Bool) (xs : List JudgedItem) → salvage_faults ppm xs ≡ [] →
-        (frames : List Frame) × (xs ≡ map of_good frames) × (shown xs ≡ frames)
-        × (salvage_lines ppm xs ≡ []) × AlikeBy ppm frames }
+        (frames : List Frame) × (xs ≡ map of_sound frames) × (shown xs ≡ shown_frames frames)
+        × (salvage_lines ppm xs ≡ []) × AlikeBy ppm (shown_frames frames) }
 {}

@@ -10,6 +10,7 @@
 //! frame at a time.
 #![tactic(auto)]
 
+mod behind;
 mod checking;
 mod comparing;
 pub mod frame_line;

@@ -1,7 +1,7 @@
 //! Where pictures are written, each from a payload that was judged and codes one: a text of
 //! YUV4MPEG2, or images of PPM.
 
-ghost use Rattle.std.specs.Prelude.{◌≡◌, ℕ, IfErr, IfOk, List, [], ◌∷◌, Option, ⊤};
+ghost use Rattle.std.specs.Prelude.{◌≡◌, ℕ, IfErr, IfOk, List, [], ◌∷◌, Option, Some, ⊤};
 ghost use Rattle.ffv1_video.specs.declared.fault.Fault.TheVariants as fault;
 ghost use Rattle.ffv1_range.specs.declared.tally.Tally.{Tally};
 ghost use Rattle.ffv1_wire.specs.Passage.{passage};
@@ -14,7 +14,7 @@ ghost use Rattle.ffv1_video.specs.KeptLines.{IsKeptFor};
 ghost use Rattle.ffv1_unpack.specs.Internal.PicturesOut.{IsBegun};
 ghost use Rattle.ffv1_unpack.specs.Internal.Salvage.{ContinuesText, FitsKept, HoldsPicture};
 ghost use Rattle.ffv1_unpack.specs.Internal.Salvage.{IsImagesOf, IsTextOf, PutsPictures};
-ghost use Rattle.ffv1_unpack.specs.Stream.{Frame, IsFrame, Stream};
+ghost use Rattle.ffv1_unpack.specs.Stream.{CodedFrame, IsCoded, Stream};
 ghost use Rattle.ffv1_unpack.specs.Unpacked.{HasText};
 
 use ffv1_codec::{DropLines, FrameDecoder, FrameFault, Info, KeepLines, laws as codec_laws};
@@ -33,7 +33,7 @@ pub(crate) trait PictureOut {
     ghost failures: { Self → ℕ };
 
     /// The pictures of these frames of a stream were written, and the next one can be.
-    ghost ready: { Stream → List Frame → Self → Type 0 };
+    ghost ready: { Stream → List CodedFrame → Self → Type 0 };
 
     /// If it is remembered that a picture is kept, that picture is this payload's.
     ghost fits: { Stream → List ℕ → Self → Type 0 };
@@ -47,16 +47,16 @@ pub(crate) trait PictureOut {
     ) -> Result<Info, FrameFault>
         requires accepted { IsAccepted decoder.old.accepted.configuration
             decoder.old.accepted.table }
-        ensures ok { IfOk result (λ info. (f : Frame) × IsFrame decoder.old.accepted f
+        ensures ok { IfOk result (λ info. (f : CodedFrame) × IsCoded decoder.old.accepted f
             × (f.payload ≡ payload.now) × (f.said ≡ info)) }
-        ensures err { IfErr result (λ f. (s : Stream) (fs : List Frame) →
+        ensures err { IfErr result (λ f. (s : Stream) (fs : List CodedFrame) →
             s.accepted ≡ decoder.old.accepted → ready s fs self.old →
             (tally : Tally) × FaultsOf decoder.old.accepted payload.now f tally) }
         ensures silent { (contents self.new ≡ contents self.old)
             × (failures self.new ≡ failures self.old) }
-        ensures ready { (s : Stream) (fs : List Frame) → s.accepted ≡ decoder.old.accepted →
+        ensures ready { (s : Stream) (fs : List CodedFrame) → s.accepted ≡ decoder.old.accepted →
             ready s fs self.old → ready s fs self.new }
-        ensures fits { IfOk result (λ info. (s : Stream) (fs : List Frame) →
+        ensures fits { IfOk result (λ info. (s : Stream) (fs : List CodedFrame) →
             s.accepted ≡ decoder.old.accepted → ready s fs self.old →
             fits s payload.now self.new) }
         ensures forgets { IfErr result (λ f. (s : Stream) (other : List ℕ) →
@@ -71,13 +71,15 @@ pub(crate) trait PictureOut {
         decoder: &mut FrameDecoder<A>,
         payload: &[u8],
     ) -> Result<(), Fault>
-        ensures answer { (s : Stream) (fs : List Frame) (f : Frame) →
+        ensures answer { (s : Stream) (fs : List CodedFrame) (f : CodedFrame) →
             s.accepted ≡ decoder.old.accepted →
             IsAccepted s.accepted.configuration s.accepted.table → HasText s →
-            ready s fs self.old → fits s payload.now self.old → IsFrame s.accepted f →
+            ready s fs self.old → fits s payload.now self.old → IsCoded s.accepted f →
             f.payload ≡ payload.now →
             PutsPictures ready s fs (f ∷ []) (passage contents failures self.old self.new)
             self.new result }
+        ensures stays { (s : Stream) (other : List ℕ) → fits s other self.old →
+            fits s other self.new }
         ensures same { decoder.new.accepted ≡ decoder.old.accepted }
         ensures own { IfErr result (λ f. f ≡ fault.Write) };
 }
@@ -120,7 +122,7 @@ fn keep_picture<A: Allocator, D: Allocator>(
     decoder: &mut FrameDecoder<D>,
     payload: &[u8],
 ) -> Result<Info, FrameFault>
-    ensures ok { IfOk result (λ info. (f : Frame) × IsFrame decoder.old.accepted f
+    ensures ok { IfOk result (λ info. (f : CodedFrame) × IsCoded decoder.old.accepted f
         × (f.payload ≡ payload.now) × (f.said ≡ info)) }
     ensures holds { IfOk result (λ info. IsAccepted decoder.old.accepted.configuration
         decoder.old.accepted.table → IsKeptFor decoder.old.accepted kept.old →
@@ -158,6 +160,7 @@ fn have_picture<A: Allocator, D: Allocator>(
         FitsKept decoder.old.accepted payload.now held kept.old.planes →
         HoldsPicture decoder.old.accepted payload.now info kept.new.planes
         × IsKeptFor decoder.old.accepted kept.new) }
+    ensures stays { (info : Said) → held ≡ Some info → kept.new ≡ kept.old }
     ensures none { IfErr result (λ f. IsAccepted decoder.old.accepted.configuration
         decoder.old.accepted.table → IsKeptFor decoder.old.accepted kept.old →
         (planes : Planes) (said : Said) →

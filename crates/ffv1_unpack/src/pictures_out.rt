@@ -13,7 +13,7 @@ ghost use Rattle.ffv1_files.specs.Places.{amount, container_of};
 ghost use Rattle.ffv1_unpack.specs.Internal.Opens.{stream_of};
 ghost use Rattle.ffv1_unpack.specs.Internal.PicturesOut.{IsBegun, WritesNext, head_saying, said_in};
 ghost use Rattle.ffv1_video.specs.KeptLines.{IsKeptFor};
-ghost use Rattle.ffv1_unpack.specs.Internal.PicturesOut.{WritesPicture};
+ghost use Rattle.ffv1_unpack.specs.Internal.PicturesOut.{RepeatsPicture, WritesPicture};
 ghost use Rattle.ffv1_unpack.specs.Plays.{HasThen, has_more};
 ghost use Rattle.ffv1_unpack.specs.Stream.{Frame};
 ghost use Rattle.ffv1_unpack.specs.Unpack.{IsUnpackFault};
@@ -23,7 +23,7 @@ ghost use Rattle.ffv1_unpack.specs.Unpacking.{UnpackingStops, UnpacksMost};
 ghost use Rattle.ffv1_unpack.specs.Internal.Located.{EndsNoted, StaysReached};
 
 use crate::passing::has_more;
-use crate::player::{Player, Stop, play};
+use crate::player::{NextFrame, Player, Stop, play};
 use ffv1_codec::{Info, KeepLines, laws as codec_laws};
 use ffv1_reads::FileHead;
 use ffv1_record::{Checked, laws as record_laws};
@@ -101,7 +101,27 @@ fn write_picture<W: ByteOut, A: Allocator>(
     Ok(())
 }
 
-/// Reads the next frame, decodes it, and writes its picture. Answers false if there is none.
+/// Writes the last picture once more, which has these planes, and nothing before the first one.
+fn repeat_picture<W: ByteOut, A: Allocator>(
+    text: &mut Text,
+    output: &mut W,
+    planes: &[Vec<u8, A>],
+) -> Result<(), Fault>
+    ensures answer { (depth : ℕ) → IsBegun depth text.old.head text.old.begun →
+        RepeatsPicture depth text.old.head text.old.begun (planes_of planes.now)
+        (passage W.contents W.failures output.old output.new) text.new.begun result }
+    ensures same { text.new.head ≡ text.old.head }
+    ensures own { IfErr result IsUnpackFault }
+{
+    if let Some((_first, writer)) = &mut text.begun {
+        writer.picture(output, planes)?;
+        return Ok(());
+    }
+    Ok(())
+}
+
+/// Reads the next frame, decodes it, and writes its picture, or the last one once more if it
+/// repeats that. Answers false if there is none.
 fn write_next<R: ByteIn, W: ByteOut, A: Allocator>(
     player: &mut Player<A>,
     input: &mut R,
@@ -115,11 +135,11 @@ fn write_next<R: ByteIn, W: ByteOut, A: Allocator>(
     requires kept { IsKeptFor player.old.decoder.accepted kept.old }
     requires begun { IsBegun player.old.decoder.accepted.configuration.depth text.old.head
         text.old.begun }
-    ensures answer { WritesNext player.old.decoder.accepted text.old.head
-        (said_in text.old.begun) player.old.reader.place player.new.reader.place
+    ensures answer { WritesNext player.old.decoder.accepted text.old.head text.old.begun
+        kept.old.planes player.old.reader.place player.new.reader.place
         (passage R.remaining R.failures input.old input.new)
         (passage W.contents W.failures output.old output.new) player.new.notes text.new.begun
-        result }
+        kept.new.planes result }
     ensures kept { OnOk result (IsKeptFor player.old.decoder.accepted kept.new) }
     ensures end { IfOk result (λ more. more ≡ false → text.new.begun ≡ text.old.begun) }
     ensures head { text.new.head ≡ text.old.head }
@@ -141,9 +161,13 @@ fn write_next<R: ByteIn, W: ByteOut, A: Allocator>(
     codec_laws::answer::answered_fault_is_of_decoding::<KeepLines<A>>();
     let depth = player.decoder.config().depth();
     match play(player, input, kept) {
-        Ok(None) => Ok(false),
-        Ok(Some(info)) => {
+        Ok(NextFrame::End) => Ok(false),
+        Ok(NextFrame::Coded(info)) => {
             write_picture(depth, text, output, info, kept.planes())?;
+            Ok(true)
+        }
+        Ok(NextFrame::Again) => {
+            repeat_picture(text, output, kept.planes())?;
             Ok(true)
         }
         Err(Stop::File(fault)) => Err(Fault::from(fault)),

@@ -1,7 +1,7 @@
 //! The frames of a file, one after the other.
 
 ghost use Rattle.std.specs.Prelude.{◌≡◌, ◌⊎◌, ◌<◌, ◌≤◌, ◌+◌, ◌*◌, IfErr, IfOk, IfSome, None};
-ghost use Rattle.std.specs.Prelude.{OnOk, Some, length, max, true};
+ghost use Rattle.std.specs.Prelude.{OnOk, Some, false, length, max, true};
 ghost use Rattle.std.specs.Vec.{vec_capacity};
 ghost use Rattle.ffv1_wire.specs.Passage.{passage};
 ghost use Rattle.ffv1_reads.specs.Head.{head_of};
@@ -21,7 +21,7 @@ ghost use Rattle.ffv1_video.specs.Profiles.{greatest_depth, record_profile, scop
 ghost use Rattle.ffv1_unpack.specs.Opens.{LacksOpening, is_opening_fault};
 ghost use Rattle.ffv1_unpack.specs.Internal.Opens.{OpensStream};
 ghost use Rattle.ffv1_unpack.specs.Stream.{IsStream};
-ghost use Rattle.ffv1_unpack.specs.Internal.Told.{IsOwnStop, IsToldFault, OnPayload};
+ghost use Rattle.ffv1_unpack.specs.Internal.Told.{IfMore, IsOwnStop, IsToldFault, OnPayload};
 ghost use Rattle.ffv1_unpack.specs.Internal.Told.{ReadAnswers, StepAnswers};
 
 use ffv1_codec::{FrameDecoder, FrameFault, Info};
@@ -39,6 +39,17 @@ pub enum Stop {
     File(FileFault),
     /// The payload that was read does not decode to its end.
     Payload(FrameFault),
+}
+
+/// What comes next of a file; `I` is what is said of a picture.
+#[derive(Clone, Copy, Debug)]
+pub enum NextFrame<I> {
+    /// No frame.
+    End,
+    /// A frame that was decoded; this is said of its picture.
+    Coded(I),
+    /// A frame whose payload has no bytes: it repeats the one before it.
+    Again,
 }
 
 /// The configuration of a head's record, for pictures of the head's size, in the profile. Refuses
@@ -128,13 +139,15 @@ pub(crate) fn open_stream<R: ByteIn, A: Allocator + Copy>(
 
 /// A file that is played: its reader, the decoder of its frames, and the payload that was read
 /// last. Both vectors that it needs are reused for each frame. Then what is noted of the end, once
-/// it was read, and after a fault of the file the number of bytes before what is refused.
+/// it was read, and after a fault of the file the number of bytes before what is refused; and
+/// whether Cues came after the last Cluster, if items are read.
 pub struct Player<A: Allocator = Global> {
     pub(crate) reader: FileReader<A>,
     pub(crate) decoder: FrameDecoder<A>,
     pub(crate) payload: Vec<u8, A>,
     pub(crate) notes: Notes,
     pub(crate) offset: u64,
+    pub(crate) cued: bool,
 }
 
 impl<A: Allocator> Drop for Player<A> {
@@ -145,6 +158,7 @@ impl<A: Allocator> Drop for Player<A> {
             payload: _payload,
             notes: _notes,
             offset: _offset,
+            cued: _cued,
         } = self;
     }
 }
@@ -158,6 +172,7 @@ pub(crate) fn player_of<A: Allocator + Copy>(
 ) -> Result<Player<A>, Fault>
     ensures reader { IfOk result (λ p. p.reader ≡ reader) }
     ensures decoder { IfOk result (λ p. p.decoder.accepted ≡ checked) }
+    ensures uncued { IfOk result (λ p. p.cued ≡ false) }
     ensures err { IfErr result (λ f. f ≡ fault.OutOfMemory) }
 {
     let decoder = FrameDecoder::new(alloc, checked)?;
@@ -167,11 +182,12 @@ pub(crate) fn player_of<A: Allocator + Copy>(
         payload: Vec::new(alloc),
         notes: Notes::NONE,
         offset: 0,
+        cued: false,
     })
 }
 
 /// Opens a file as `open_player` does. If the file is refused, the offset is how many bytes of
-/// it come before the element or chunk that is.
+/// it come before the element or chunk that is. No Cues have come.
 pub(crate) fn open_player_located<R: ByteIn, A: Allocator + Copy>(
     alloc: A,
     profile: Profile,
@@ -187,6 +203,7 @@ pub(crate) fn open_player_located<R: ByteIn, A: Allocator + Copy>(
     ensures located { IfOk result (λ p. Reached (scope_in profile) (R.remaining input.old)
         (R.remaining input.new) p.reader) }
     ensures ends { IfOk result (λ p. EndsThere p.reader) }
+    ensures uncued { IfOk result (λ p. p.cued ≡ false) }
     ensures noted { IfOk result (λ p. NotesReached (scope_in profile) (R.remaining input.old)
         (R.remaining input.new) p.reader) }
     ensures stopped { IfErr result (λ f. LocatedFault (scope_in profile)
@@ -266,21 +283,22 @@ pub(crate) fn read_payload<R: ByteIn, A: Allocator>(
     }
 }
 
-/// Reads the next frame and decodes it into a sink, and answers what it says of its picture; None
-/// at the end of the file, as `read_payload` does.
+/// Reads the next frame and decodes it into a sink, and answers what it says of its picture, or
+/// that it repeats the one before it, of which nothing is decoded; or that there is none, as
+/// `read_payload` does.
 pub(crate) fn play<R: ByteIn, S: LineSink, A: Allocator>(
     player: &mut Player<A>,
     input: &mut R,
     sink: &mut S,
-) -> Result<Option<Info>, Stop>
+) -> Result<NextFrame<Info>, Stop>
     requires sound { player.old.reader.fault ≡ None }
     ensures answer { StepAnswers S.takes S.refuses player.old.decoder.accepted
         player.old.reader.place player.new.reader.place player.new.payload.items
         player.new.decoder.tally player.new.notes
         (passage R.remaining R.failures input.old input.new) sink.old sink.new result }
     ensures sound { OnOk result (player.new.reader.fault ≡ None) }
-    ensures less { IfOk result (λ o. IfSome o (λ _.
-        amount player.new.reader.place < amount player.old.reader.place)) }
+    ensures less { IfOk result (λ next. IfMore next
+        (amount player.new.reader.place < amount player.old.reader.place)) }
     ensures same { player.new.decoder.accepted ≡ player.old.decoder.accepted }
     ensures container { container_of player.new.reader.place
         ≡ container_of player.old.reader.place }
@@ -295,11 +313,16 @@ pub(crate) fn play<R: ByteIn, S: LineSink, A: Allocator>(
         (2 * length player.new.payload.items + 65536) }
 {
     match read_payload(player, input) {
-        Ok(false) => Ok(None),
-        Ok(true) => match player.decoder.decode(&player.payload, sink) {
-            Ok(info) => Ok(Some(info)),
-            Err(fault) => Err(Stop::Payload(fault)),
-        },
+        Ok(false) => Ok(NextFrame::End),
+        Ok(true) => {
+            if player.payload.is_empty() {
+                return Ok(NextFrame::Again);
+            }
+            match player.decoder.decode(&player.payload, sink) {
+                Ok(info) => Ok(NextFrame::Coded(info)),
+                Err(fault) => Err(Stop::Payload(fault)),
+            }
+        }
         Err(fault) => Err(Stop::File(fault)),
     }
 }

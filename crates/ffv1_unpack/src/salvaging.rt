@@ -1,13 +1,16 @@
 //! Judges what a file gives that may be damaged, one after the other, and writes the picture of
 //! each frame, or the last good one again if the frame is refused; and a line of each fault.
 
-ghost use Rattle.std.specs.Prelude.{◌≡◌, IfErr, IfOk, List, None, OnOk, Some, [], true};
+ghost use Rattle.std.specs.Prelude.{◌≡◌, ◌⊎◌, ◌-◌, ◌^◌, ℕ, IfErr, IfOk, List, None, OnOk, Option};
+ghost use Rattle.std.specs.Prelude.{Some, [], false, length, true};
 ghost use Rattle.ffv1_wire.specs.Passage.{passage};
 ghost use Rattle.ffv1_record.specs.Accepted.{IsAccepted};
 ghost use Rattle.ffv1_record.specs.Configuration.{is_rct};
 ghost use Rattle.ffv1_codec.specs.SliceList.{Said};
 ghost use Rattle.ffv1_files.specs.Answers.{ReadsAs};
-ghost use Rattle.ffv1_files.specs.Items.{course_of, item_of, item_read};
+ghost use Rattle.ffv1_files.specs.Items.{course_of, cued_item, item_of, item_read};
+ghost use Rattle.ffv1_matroska.specs.CuedItems.{CuedBy};
+ghost use Rattle.ffv1_unpack.specs.ItemsEnd.{cued_left};
 ghost use Rattle.ffv1_files.specs.Places.{container_of};
 ghost use Rattle.ffv1_files.specs.declared.container.Container.TheVariants as container;
 ghost use Rattle.ffv1_matroska.specs.declared.items.Item.TheVariants as item;
@@ -15,16 +18,16 @@ ghost use Rattle.ffv1_video.specs.Faults.{cause_of};
 ghost use Rattle.ffv1_unpack.specs.Internal.Judged.{one_counted};
 ghost use Rattle.ffv1_unpack.specs.JudgedItems.{IsJudgedItem, ItemsFrom, JudgedItem};
 ghost use Rattle.ffv1_unpack.specs.Salvaged.{changed_fault, changed_line, changed_text, differs};
-ghost use Rattle.ffv1_unpack.specs.Salvaged.{good_frames, last_of, shown, those};
+ghost use Rattle.ffv1_unpack.specs.Salvaged.{good_frames, shown};
 ghost use Rattle.ffv1_unpack.specs.Internal.Opens.{stream_of};
 ghost use Rattle.ffv1_unpack.specs.Internal.Salvage.{FrameSalvaged, FrameTold, ItemSalvaged};
 ghost use Rattle.ffv1_unpack.specs.Internal.Salvage.{NoneGivenBy, PutsPictures, StandsAfter};
 ghost use Rattle.ffv1_unpack.specs.Internal.Told.{IsToldFault, WritesFrame};
 ghost use Rattle.ffv1_unpack.specs.Told.{is_telling_fault};
-ghost use Rattle.ffv1_unpack.specs.Stream.{AreAll, Frame, Stream};
+ghost use Rattle.ffv1_unpack.specs.Stream.{AreAll, CodedFrame, Stream, last_of, those};
 ghost use Rattle.ffv1_unpack.specs.UnpackAll.{AreSalvageCounts, SalvageStopsBy, SalvagesAll};
 ghost use Rattle.ffv1_unpack.specs.Unpacked.{HasText, is_ppm_stream};
-ghost use Rattle.ffv1_unpack.specs.Internal.Located.{StaysReached};
+ghost use Rattle.ffv1_unpack.specs.Internal.Located.{ComesToEnd, StaysReached};
 
 use crate::judging::{JudgedCounts, write_refused};
 use crate::judging_items::write_told;
@@ -87,6 +90,16 @@ fn read_item<R: ByteIn, A: Allocator>(
         container_of player.old.reader.place ≡ container.Avi →
         StaysReached player.old.reader player.new.reader
         (passage R.remaining R.failures input.old input.new)) }
+    ensures ended { IfOk result (λ i. i ≡ item.End →
+        container_of player.old.reader.place ≡ container.Avi →
+        ComesToEnd player.old.reader player.new.reader
+        (passage R.remaining R.failures input.old input.new)) }
+    ensures stays { IfOk result (λ i. (size : Option ℕ) →
+        container_of player.old.reader.place ≡ container.Matroska size →
+        player.new.reader ≡ player.old.reader) }
+    ensures cued { IfOk result (λ i. CuedBy
+        (cued_item player.old.reader.place course.old player.old.cued)
+        (R.remaining input.old) (R.remaining input.new) player.new.cued) }
 {
     match player.reader.container() {
         Container::Avi => match player.reader.next_frame(input, &mut player.payload) {
@@ -95,7 +108,10 @@ fn read_item<R: ByteIn, A: Allocator>(
             Err(fault) => Err(Fault::from(fault)),
         },
         Container::Matroska(_size) => {
-            match player.reader.next_item(input, course, &mut player.payload) {
+            match player
+                .reader
+                .next_item(input, course, &mut player.cued, &mut player.payload)
+            {
                 Ok(item) => Ok(item),
                 Err(fault) => Err(Fault::from(fault)),
             }
@@ -166,6 +182,7 @@ fn keep_good<A: Allocator>(player: &mut Player<A>, salvage: &mut Salvage<A>, inf
     ensures course { salvage.new.course ≡ salvage.old.course }
     ensures reader { player.new.reader ≡ player.old.reader }
     ensures same { player.new.decoder ≡ player.old.decoder }
+    ensures cued { player.new.cued ≡ player.old.cued }
 {
     swap(&mut player.payload, &mut salvage.last);
     if salvage.header.is_none() {
@@ -173,8 +190,9 @@ fn keep_good<A: Allocator>(player: &mut Player<A>, salvage: &mut Salvage<A>, inf
     }
 }
 
-/// Judges the payload that was read last, writes its line if it has a fault, and counts it. A good
-/// payload is kept as the last good one. If a picture is remembered then, it is that one's.
+/// Judges the payload that was read last, writes its line if it has a fault, and counts it; one
+/// that has no bytes is counted alone. A good payload is kept as the last good one. If a picture is
+/// remembered then, it is that one's.
 fn tell_frame<L: ByteOut, P: PictureOut, A: Allocator>(
     player: &mut Player<A>,
     lines: &mut L,
@@ -183,7 +201,7 @@ fn tell_frame<L: ByteOut, P: PictureOut, A: Allocator>(
 ) -> Result<(), Fault>
     requires accepted { IsAccepted player.old.decoder.accepted.configuration
         player.old.decoder.accepted.table }
-    ensures answer { (s : Stream) (before : List JudgedItem) (fs : List Frame) →
+    ensures answer { (s : Stream) (before : List JudgedItem) (fs : List CodedFrame) →
         s.accepted ≡ player.old.decoder.accepted → salvage.old.ppm ≡ is_ppm_stream s →
         StandsAfter s before salvage.old.counts salvage.old.header salvage.old.last.items →
         P.ready s fs output.old → FrameTold s before player.old.payload.items
@@ -191,15 +209,21 @@ fn tell_frame<L: ByteOut, P: PictureOut, A: Allocator>(
         salvage.new.last.items result }
     ensures silent { (P.contents output.new ≡ P.contents output.old)
         × (P.failures output.new ≡ P.failures output.old) }
-    ensures fits { OnOk result ((s : Stream) (fs : List Frame) →
+    ensures fits { OnOk result ((s : Stream) (fs : List CodedFrame) →
         s.accepted ≡ player.old.decoder.accepted → P.ready s fs output.old →
+        P.fits s salvage.old.last.items output.old →
         P.ready s fs output.new × P.fits s salvage.new.last.items output.new) }
     ensures kind { salvage.new.ppm ≡ salvage.old.ppm }
     ensures course { salvage.new.course ≡ salvage.old.course }
     ensures reader { player.new.reader ≡ player.old.reader }
     ensures same { player.new.decoder.accepted ≡ player.old.decoder.accepted }
     ensures own { IfErr result (λ f. is_telling_fault f ≡ true) }
+    ensures cued { player.new.cued ≡ player.old.cued }
 {
+    if player.payload.is_empty() {
+        salvage.counts.count(None);
+        return Ok(());
+    }
     match output.judge(&mut player.decoder, &player.payload) {
         Ok(info) => {
             tell_good(lines, salvage, info)?;
@@ -221,7 +245,7 @@ fn show_last<P: PictureOut, A: Allocator>(
     output: &mut P,
     salvage: &Salvage<A>,
 ) -> Result<(), Fault>
-    ensures answer { (s : Stream) (xs : List JudgedItem) (fs : List Frame) →
+    ensures answer { (s : Stream) (xs : List JudgedItem) (fs : List CodedFrame) →
         s.accepted ≡ player.old.decoder.accepted →
         IsAccepted s.accepted.configuration s.accepted.table → HasText s →
         AreAll (IsJudgedItem s.accepted) xs → P.ready s fs output.old →
@@ -229,9 +253,12 @@ fn show_last<P: PictureOut, A: Allocator>(
         StandsAfter s xs salvage.now.counts salvage.now.header salvage.now.last.items →
         PutsPictures P.ready s fs (those (last_of (good_frames xs)))
         (passage P.contents P.failures output.old output.new) output.new result }
+    ensures stays { (s : Stream) (other : List ℕ) → P.fits s other output.old →
+        P.fits s other output.new }
     ensures reader { player.new.reader ≡ player.old.reader }
     ensures same { player.new.decoder.accepted ≡ player.old.decoder.accepted }
     ensures own { IfErr result (λ f. is_telling_fault f ≡ true) }
+    ensures cued { player.new.cued ≡ player.old.cued }
 {
     match salvage.header {
         None => Ok(()),
@@ -256,16 +283,21 @@ fn salvage_frame<L: ByteOut, P: PictureOut, A: Allocator>(
         s.accepted ≡ player.old.decoder.accepted → salvage.old.ppm ≡ is_ppm_stream s →
         HasText s → AreAll (IsJudgedItem s.accepted) before →
         StandsAfter s before salvage.old.counts salvage.old.header salvage.old.last.items →
-        P.ready s (shown before) output.old →
+        P.ready s (shown before) output.old → P.fits s salvage.old.last.items output.old →
         FrameSalvaged P.ready s before (passage L.contents L.failures lines.old lines.new)
         (passage P.contents P.failures output.old output.new) output.new
         player.old.payload.items salvage.new.counts salvage.new.header salvage.new.last.items
         result }
+    ensures fits { OnOk result ((s : Stream) (fs : List CodedFrame) →
+        s.accepted ≡ player.old.decoder.accepted → P.ready s fs output.old →
+        P.fits s salvage.old.last.items output.old →
+        P.fits s salvage.new.last.items output.new) }
     ensures kind { salvage.new.ppm ≡ salvage.old.ppm }
     ensures course { salvage.new.course ≡ salvage.old.course }
     ensures reader { player.new.reader ≡ player.old.reader }
     ensures same { player.new.decoder.accepted ≡ player.old.decoder.accepted }
     ensures own { IfErr result (λ f. is_telling_fault f ≡ true) }
+    ensures cued { player.new.cued ≡ player.old.cued }
 {
     tell_frame(player, lines, output, salvage)?;
     show_last(player, output, salvage)?;
@@ -288,12 +320,16 @@ fn salvage_item<R: ByteIn, L: ByteOut, P: PictureOut, A: Allocator>(
         s.accepted ≡ player.old.decoder.accepted → salvage.old.ppm ≡ is_ppm_stream s →
         HasText s → AreAll (IsJudgedItem s.accepted) before →
         StandsAfter s before salvage.old.counts salvage.old.header salvage.old.last.items →
-        P.ready s (shown before) output.old →
+        P.ready s (shown before) output.old → P.fits s salvage.old.last.items output.old →
         ItemSalvaged s player.old.reader.place player.new.reader.place salvage.old.course
         salvage.new.course (passage R.remaining R.failures input.old input.new) P.ready before
         (passage L.contents L.failures lines.old lines.new)
         (passage P.contents P.failures output.old output.new) output.new salvage.new.counts
         salvage.new.header salvage.new.last.items result }
+    ensures fits { OnOk result ((s : Stream) (fs : List CodedFrame) →
+        s.accepted ≡ player.old.decoder.accepted → P.ready s fs output.old →
+        P.fits s salvage.old.last.items output.old →
+        P.fits s salvage.new.last.items output.new) }
     ensures sound { OnOk result (player.new.reader.fault ≡ None) }
     ensures kind { salvage.new.ppm ≡ salvage.old.ppm }
     ensures same { player.new.decoder.accepted ≡ player.old.decoder.accepted }
@@ -304,6 +340,16 @@ fn salvage_item<R: ByteIn, L: ByteOut, P: PictureOut, A: Allocator>(
         container_of player.old.reader.place ≡ container.Avi →
         StaysReached player.old.reader player.new.reader
         (passage R.remaining R.failures input.old input.new)) }
+    ensures ended { IfOk result (λ more. more ≡ false →
+        container_of player.old.reader.place ≡ container.Avi →
+        ComesToEnd player.old.reader player.new.reader
+        (passage R.remaining R.failures input.old input.new)) }
+    ensures stays { IfOk result (λ more. (size : Option ℕ) →
+        container_of player.old.reader.place ≡ container.Matroska size →
+        player.new.reader ≡ player.old.reader) }
+    ensures cued { IfOk result (λ more. CuedBy
+        (cued_item player.old.reader.place salvage.old.course player.old.cued)
+        (R.remaining input.old) (R.remaining input.new) player.new.cued) }
 {
     match read_item(player, input, &mut salvage.course) {
         Err(fault) => Err(fault),
@@ -323,7 +369,8 @@ fn salvage_item<R: ByteIn, L: ByteOut, P: PictureOut, A: Allocator>(
 }
 
 /// Salvages all items of a file that are left, at most 2^64 - 1. Answers how many frames there
-/// were, and how many faults of either kind.
+/// were, and how many faults of either kind. The player knows then whether Cues came after the last
+/// Cluster.
 pub(crate) fn salvage_items<R: ByteIn, L: ByteOut, P: PictureOut, A: Allocator + Copy>(
     alloc: A,
     player: &mut Player<A>,
@@ -338,6 +385,8 @@ pub(crate) fn salvage_items<R: ByteIn, L: ByteOut, P: PictureOut, A: Allocator +
     requires text { HasText (stream_of player.old.reader player.old.decoder.accepted) }
     requires ready { P.ready (stream_of player.old.reader player.old.decoder.accepted) []
         output.old }
+    requires fits { P.fits (stream_of player.old.reader player.old.decoder.accepted) []
+        output.old }
     requires kind { ppm ≡ is_rct player.old.decoder.accepted.configuration.colour }
     ensures ok { IfOk result (λ counts. (xs : List JudgedItem)
         × AreSalvageCounts (is_rct player.old.decoder.accepted.configuration.colour) counts xs
@@ -345,7 +394,10 @@ pub(crate) fn salvage_items<R: ByteIn, L: ByteOut, P: PictureOut, A: Allocator +
         (stream_of player.old.reader player.old.decoder.accepted)
         (passage R.remaining R.failures input.old input.new)
         (passage L.contents L.failures lines.old lines.new)
-        (passage P.contents P.failures output.old output.new) xs) }
+        (passage P.contents P.failures output.old output.new) xs
+        × (container_of player.old.reader.place ≡ container.Avi →
+        ComesToEnd player.old.reader player.new.reader
+        (passage R.remaining R.failures input.old input.new) ⊎ (length xs ≡ 2 ^ 64 - 1))) }
     ensures err { IfErr result (λ f. SalvageStopsBy
         (ItemsFrom player.old.reader.place (course_of player.old.reader))
         (stream_of player.old.reader player.old.decoder.accepted)
@@ -353,6 +405,14 @@ pub(crate) fn salvage_items<R: ByteIn, L: ByteOut, P: PictureOut, A: Allocator +
         (passage L.contents L.failures lines.old lines.new)
         (passage P.contents P.failures output.old output.new) f (cause_of f)) }
     ensures own { IfErr result (IsToldFault player.old.reader (R.remaining input.old)) }
+    ensures container { container_of player.new.reader.place
+        ≡ container_of player.old.reader.place }
+    ensures stays { IfOk result (λ counts. (size : Option ℕ) →
+        container_of player.old.reader.place ≡ container.Matroska size →
+        player.new.reader ≡ player.old.reader) }
+    ensures cued { IfOk result (λ counts. CuedBy
+        (cued_left player.old.reader.place (course_of player.old.reader) player.old.cued)
+        (R.remaining input.old) (R.remaining input.new) player.new.cued) }
 {
     let mut salvage = Salvage {
         ppm,

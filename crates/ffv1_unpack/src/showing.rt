@@ -116,6 +116,8 @@ fn tell_costs<R: ByteIn, W: ByteOut, A: Allocator + Copy>(
 /// cost frame {i}: ones {n} zeros {n} renormalisations {n}
 /// ```
 ///
+/// A frame of an AVI that has no bytes has `again` behind the colon.
+///
 /// Frames are counted from 0; a count of 64 bits stays at its greatest value. Without `cost`
 /// nothing after the header of the first `movi`, or of the first Cluster, is read, and no decoder
 /// is made; with it, beside what the decoder holds, one payload and one line are held.

@@ -5,7 +5,7 @@ ghost use Rattle.ffv1_wire.specs.Passage.{passage};
 ghost use Rattle.ffv1_range.specs.Counts.{saturated};
 ghost use Rattle.ffv1_record.specs.Accepted.{IsAccepted};
 ghost use Rattle.ffv1_files.specs.Places.{amount, container_of};
-ghost use Rattle.ffv1_unpack.specs.FrameLines.{frame_line, lines_from, place_text};
+ghost use Rattle.ffv1_unpack.specs.FrameLines.{again_line, frame_line, lines_from, place_text};
 ghost use Rattle.ffv1_unpack.specs.Located.{WritesLine, located_text};
 ghost use Rattle.ffv1_unpack.specs.Internal.Located.{EndsNoted, LocatedAfter, StaysReached};
 ghost use Rattle.ffv1_unpack.specs.Plays.{HasThen, has_more};
@@ -15,9 +15,9 @@ ghost use Rattle.ffv1_unpack.specs.Internal.Told.{FrameAnswers, IsToldFault, Tel
 ghost use Rattle.ffv1_unpack.specs.Internal.Told.{WritesFrame};
 ghost use Rattle.std.specs.Prelude.{false, ℕ};
 
-use crate::frame_line::{FrameLine, put_cost, put_sizes, write_offset, write_place};
+use crate::frame_line::{FrameLine, put_again, put_cost, put_sizes, write_offset, write_place};
 use crate::passing::has_more;
-use crate::player::{Player, Stop, play};
+use crate::player::{NextFrame, Player, Stop, play};
 use ffv1_codec::{DropLines, FrameDecoder, FrameFault, laws as codec_laws};
 use ffv1_video::Fault;
 use ffv1_wire::{ByteIn, ByteOut, write_all};
@@ -92,6 +92,23 @@ pub(crate) fn write_line<W: ByteOut, A: Allocator>(
     Ok(())
 }
 
+/// Writes the line of a frame that repeats the one before it.
+pub(crate) fn write_again<W: ByteOut, A: Allocator>(
+    output: &mut W,
+    text: &mut Vec<u8, A>,
+    kind: FrameLine,
+    number: u64,
+) -> Result<(), Fault>
+    ensures { WritesFrame (again_line kind number)
+        (passage W.contents W.failures output.old output.new) result }
+{
+    put_again(text, kind, number)?;
+    if write_all(output, text).is_err() {
+        return Err(Fault::Write);
+    }
+    Ok(())
+}
+
 /// Writes the line of the place where a frame is refused, if it is asked for. A write that fails
 /// is counted, and no fault.
 fn tell_place<W: ByteOut, A: Allocator>(
@@ -132,7 +149,8 @@ pub(crate) fn tell_byte<W: ByteOut>(
 }
 
 /// Reads the next frame, decodes it, and writes its line, or that of the place where it is refused,
-/// or of the byte where the file is. Answers false if there is none.
+/// or of the byte where the file is. One that repeats another is not decoded. Answers false if
+/// there is none.
 fn tell_frame<R: ByteIn, W: ByteOut, A: Allocator>(
     player: &mut Player<A>,
     input: &mut R,
@@ -165,10 +183,14 @@ fn tell_frame<R: ByteIn, W: ByteOut, A: Allocator>(
     codec_laws::sink::sinks_of_own_lines_refuse_none();
     let mut sink = DropLines::new(player.decoder.config());
     match play(player, input, &mut sink) {
-        Ok(None) => Ok(false),
-        Ok(Some(_info)) => {
+        Ok(NextFrame::End) => Ok(false),
+        Ok(NextFrame::Coded(_info)) => {
             let kind = telling.kind;
             write_line(output, text, kind, number, &player.payload, &player.decoder)?;
+            Ok(true)
+        }
+        Ok(NextFrame::Again) => {
+            write_again(output, text, telling.kind, number)?;
             Ok(true)
         }
         Err(Stop::File(fault)) => {

@@ -118,8 +118,9 @@ fn write_frames<R: ByteIn, W: ByteOut, A: Allocator + Copy>(
 /// hands the writer back.
 ///
 /// A picture of YCbCr is written when it is decoded, the header before the first one; a row of an
-/// image as soon as it is decoded. Beside what the decoder holds, one payload and one picture are
-/// held, for PPM three lines.
+/// image as soon as it is decoded. A frame of an AVI that has no bytes is the picture before once
+/// more, and nothing before the first one. Beside what the decoder holds, one payload and one
+/// picture are held, for PPM two payloads and three lines.
 ///
 /// The first fault ends it. Nothing is written if it is one of the file up to its first frame
 /// (`NotAvi`, `NoFfv1`, `Truncated`, `ChunkTooLong`) or of its record, or `NoY4mName` if

@@ -1,10 +1,21 @@
 //! Unpacks all frames of a file that may be damaged into pictures.
 
-ghost use Rattle.std.specs.Prelude.{◌≡◌, IfErr, IfOk, List, None, false, true};
+ghost use Rattle.std.specs.Prelude.{◌≡◌, ◌⊎◌, ◌-◌, ◌^◌, ℕ, IfErr, IfOk, List, None, Ok, Option};
+ghost use Rattle.std.specs.Prelude.{false, length, true};
 ghost use Rattle.ffv1_wire.specs.Passage.{passage};
 ghost use Rattle.ffv1_record.specs.Accepted.{IsAccepted};
 ghost use Rattle.ffv1_record.specs.Configuration.{is_rct};
 ghost use Rattle.ffv1_files.specs.Items.{course_of};
+ghost use Rattle.ffv1_files.specs.Noted.{NotedOf, NotesEnd};
+ghost use Rattle.ffv1_files.specs.Places.{container_of};
+ghost use Rattle.ffv1_files.specs.declared.container.Container.TheVariants as container;
+ghost use Rattle.ffv1_files.specs.declared.container.Scope.{Scope};
+ghost use Rattle.ffv1_files.specs.declared.notes.Notes.{Notes};
+ghost use Rattle.ffv1_matroska.specs.CuedItems.{CuedBy};
+ghost use Rattle.ffv1_unpack.specs.ItemsEnd.{cued_left};
+ghost use Rattle.ffv1_unpack.specs.Internal.ItemsEnd.{BehindAnswers, BehindFailsBy};
+ghost use Rattle.ffv1_unpack.specs.Internal.Located.{ComesToEnd};
+ghost use Rattle.ffv1_unpack.specs.declared.judging.JudgedCounts.{JudgedCounts};
 ghost use Rattle.ffv1_files.specs.Offsets.{Reached};
 ghost use Rattle.ffv1_video.specs.Faults.{cause_of};
 ghost use Rattle.ffv1_video.specs.declared.fault.Fault.TheVariants as fault;
@@ -12,12 +23,13 @@ ghost use Rattle.ffv1_video.specs.Profiles.{scope_in};
 ghost use Rattle.ffv1_unpack.specs.JudgedItems.{ItemsFrom, JudgedItem};
 ghost use Rattle.ffv1_unpack.specs.Internal.Opens.{OpensStream, stream_of};
 ghost use Rattle.ffv1_unpack.specs.Internal.Unpack.{IsWritingFault};
-ghost use Rattle.ffv1_unpack.specs.Unpack.{IsUnpackFaultIn, LacksUnpacking};
+ghost use Rattle.ffv1_unpack.specs.Unpack.{IsUnpackFault, IsUnpackFaultIn, LacksUnpacking};
 ghost use Rattle.ffv1_unpack.specs.UnpackAll.{AreSalvageCounts, SalvageStopsBy, SalvagesAll};
 ghost use Rattle.ffv1_unpack.specs.UnpackAll.{UnpackAllDone, UnpackAllStops};
 ghost use Rattle.ffv1_unpack.specs.Unpacked.{HasText};
 ghost use Rattle.ffv1_unpack.specs.Located.{Stands};
 
+use crate::behind::tell_behind;
 use crate::judging::JudgedCounts;
 use crate::picture_out::TextOut;
 use crate::pictures_out::text_head;
@@ -45,6 +57,7 @@ fn open_whole<R: ByteIn, A: Allocator + Copy>(
     ensures stands { IfOk result (λ p. Stands (scope_in profile) (R.remaining input.old)
         (R.remaining input.new) p.reader) }
     ensures text { IfOk result (λ p. HasText (stream_of p.reader p.decoder.accepted)) }
+    ensures uncued { IfOk result (λ p. p.cued ≡ false) }
     ensures err { IfErr result (LacksUnpacking profile
         (passage R.remaining R.failures input.old input.new)) }
     ensures own { IfErr result (IsUnpackFaultIn profile) }
@@ -74,7 +87,10 @@ fn salvage_text<R: ByteIn, L: ByteOut, W: ByteOut, A: Allocator + Copy>(
         (stream_of player.old.reader player.old.decoder.accepted)
         (passage R.remaining R.failures input.old input.new)
         (passage L.contents L.failures lines.old lines.new)
-        (passage W.contents W.failures output result.0) xs) }
+        (passage W.contents W.failures output result.0) xs
+        × (container_of player.old.reader.place ≡ container.Avi →
+        ComesToEnd player.old.reader player.new.reader
+        (passage R.remaining R.failures input.old input.new) ⊎ (length xs ≡ 2 ^ 64 - 1))) }
     ensures err { IfErr result.1 (λ f. SalvageStopsBy
         (ItemsFrom player.old.reader.place (course_of player.old.reader))
         (stream_of player.old.reader player.old.decoder.accepted)
@@ -82,6 +98,14 @@ fn salvage_text<R: ByteIn, L: ByteOut, W: ByteOut, A: Allocator + Copy>(
         (passage L.contents L.failures lines.old lines.new)
         (passage W.contents W.failures output result.0) f (cause_of f)) }
     ensures own { IfErr result.1 (IsWritingFault player.old.reader (R.remaining input.old)) }
+    ensures container { container_of player.new.reader.place
+        ≡ container_of player.old.reader.place }
+    ensures stays { IfOk result.1 (λ counts. (size : Option ℕ) →
+        container_of player.old.reader.place ≡ container.Matroska size →
+        player.new.reader ≡ player.old.reader) }
+    ensures cued { IfOk result.1 (λ counts. CuedBy
+        (cued_left player.old.reader.place (course_of player.old.reader) player.old.cued)
+        (R.remaining input.old) (R.remaining input.new) player.new.cued) }
 {
     let checked = player.decoder.config();
     match KeepLines::new(alloc, checked) {
@@ -120,7 +144,10 @@ fn salvage_images<R: ByteIn, L: ByteOut, W: ByteOut, A: Allocator + Copy>(
         (stream_of player.old.reader player.old.decoder.accepted)
         (passage R.remaining R.failures input.old input.new)
         (passage L.contents L.failures lines.old lines.new)
-        (passage W.contents W.failures output result.0) xs) }
+        (passage W.contents W.failures output result.0) xs
+        × (container_of player.old.reader.place ≡ container.Avi →
+        ComesToEnd player.old.reader player.new.reader
+        (passage R.remaining R.failures input.old input.new) ⊎ (length xs ≡ 2 ^ 64 - 1))) }
     ensures err { IfErr result.1 (λ f. SalvageStopsBy
         (ItemsFrom player.old.reader.place (course_of player.old.reader))
         (stream_of player.old.reader player.old.decoder.accepted)
@@ -128,6 +155,14 @@ fn salvage_images<R: ByteIn, L: ByteOut, W: ByteOut, A: Allocator + Copy>(
         (passage L.contents L.failures lines.old lines.new)
         (passage W.contents W.failures output result.0) f (cause_of f)) }
     ensures own { IfErr result.1 (IsWritingFault player.old.reader (R.remaining input.old)) }
+    ensures container { container_of player.new.reader.place
+        ≡ container_of player.old.reader.place }
+    ensures stays { IfOk result.1 (λ counts. (size : Option ℕ) →
+        container_of player.old.reader.place ≡ container.Matroska size →
+        player.new.reader ≡ player.old.reader) }
+    ensures cued { IfOk result.1 (λ counts. CuedBy
+        (cued_left player.old.reader.place (course_of player.old.reader) player.old.cued)
+        (R.remaining input.old) (R.remaining input.new) player.new.cued) }
 {
     record_laws::accepted_configuration_is_in_range();
     let checked = player.decoder.config();
@@ -159,7 +194,10 @@ fn salvage_file<R: ByteIn, L: ByteOut, W: ByteOut, A: Allocator + Copy>(
         (stream_of player.old.reader player.old.decoder.accepted)
         (passage R.remaining R.failures input.old input.new)
         (passage L.contents L.failures lines.old lines.new)
-        (passage W.contents W.failures output result.0) xs) }
+        (passage W.contents W.failures output result.0) xs
+        × (container_of player.old.reader.place ≡ container.Avi →
+        ComesToEnd player.old.reader player.new.reader
+        (passage R.remaining R.failures input.old input.new) ⊎ (length xs ≡ 2 ^ 64 - 1))) }
     ensures err { IfErr result.1 (λ f. SalvageStopsBy
         (ItemsFrom player.old.reader.place (course_of player.old.reader))
         (stream_of player.old.reader player.old.decoder.accepted)
@@ -167,6 +205,14 @@ fn salvage_file<R: ByteIn, L: ByteOut, W: ByteOut, A: Allocator + Copy>(
         (passage L.contents L.failures lines.old lines.new)
         (passage W.contents W.failures output result.0) f (cause_of f)) }
     ensures own { IfErr result.1 (IsWritingFault player.old.reader (R.remaining input.old)) }
+    ensures container { container_of player.new.reader.place
+        ≡ container_of player.old.reader.place }
+    ensures stays { IfOk result.1 (λ counts. (size : Option ℕ) →
+        container_of player.old.reader.place ≡ container.Matroska size →
+        player.new.reader ≡ player.old.reader) }
+    ensures cued { IfOk result.1 (λ counts. CuedBy
+        (cued_left player.old.reader.place (course_of player.old.reader) player.old.cued)
+        (R.remaining input.old) (R.remaining input.new) player.new.cued) }
 {
     match player.decoder.config().config().colour {
         Colour::YCbCr => salvage_text(alloc, player, input, lines, output),
@@ -189,12 +235,43 @@ fn found(counts: JudgedCounts) -> Result<JudgedCounts, Fault>
     Ok(counts)
 }
 
+/// Tells what stands behind the items of a file, of which these are the counts.
+fn end_all<R: ByteIn, L: ByteOut, A: Allocator + Copy>(
+    alloc: A,
+    player: &Player<A>,
+    input: &mut R,
+    lines: &mut L,
+    counts: JudgedCounts,
+) -> Result<(JudgedCounts, Notes), Fault>
+    ensures ok { IfOk result (λ told. BehindAnswers player.now.reader player.now.cued
+        (passage R.remaining R.failures input.old input.new)
+        (passage L.contents L.failures lines.old lines.new) counts told.0 (Ok told.1)
+        × (told.0.frames ≡ 0 → told.0.faults ≡ 0 → ⊥)) }
+    ensures err { IfErr result (λ f. BehindFailsBy player.now.reader player.now.cued
+        (passage R.remaining R.failures input.old input.new)
+        (passage L.contents L.failures lines.old lines.new) (cause_of f)
+        ⊎ ((f ≡ fault.NoFrames) × (new : JudgedCounts) × (new.frames ≡ 0) × (new.faults ≡ 0)
+        × (notes : Notes) × BehindAnswers player.now.reader player.now.cued
+        (passage R.remaining R.failures input.old input.new)
+        (passage L.contents L.failures lines.old lines.new) counts new (Ok notes))) }
+    ensures noted { container_of player.now.reader.place ≡ container.Avi →
+        (scope : Scope) (text : Option (List ℕ)) →
+        NotesEnd scope text (R.remaining input.old) player.now.reader →
+        IfOk result (λ told. NotedOf scope text (R.remaining input.new) told.1) }
+    ensures own { IfErr result IsUnpackFault }
+{
+    let mut counts = counts;
+    let notes = tell_behind(alloc, player, input, lines, &mut counts)?;
+    let counts = found(counts)?;
+    Ok((counts, notes))
+}
+
 /// Decodes all frames of a file that the profile reads, and goes on after a frame that is refused;
 /// in a Matroska file also after a fault of the file itself among its frames, as
 /// `MatroskaReader::next_item` does. Of each frame it writes a picture, as `unpack` does: its own,
-/// or, if it is refused, the last good one again; before the first good one none. So there are as
-/// many pictures as frames, less those before the first good one. It writes a line of each fault as
-/// soon as that is met, before the picture:
+/// or, if it is refused, or has no bytes, the last good one again; before the first good one none.
+/// So there are as many pictures as frames, less those before the first good one. It writes a line
+/// of each fault as soon as that is met, before the picture:
 ///
 /// ```text
 /// frame {i}: fault {number} {name}
@@ -217,8 +294,11 @@ fn found(counts: JudgedCounts) -> Result<JudgedCounts, Fault>
 /// file up to its first frame, of its record, `NoY4mName` and `NoPpm`, and of the chunks of its
 /// frames, if it is an AVI (`EmptyFrame`, too); `NoFrames` at the end if there was neither a frame
 /// nor a fault; `Read`, `OutOfMemory` and `Write` as they come. After `Write` a beginning of the
-/// next line or of the next picture is written. What stands behind the file is not looked at, and
-/// nothing is noted.
+/// next line or of the next picture is written.
+///
+/// After the last picture what stands behind the file is looked at, as `check_all` does: of a
+/// Matroska file another one that begins there is told, `Another`, and is one fault more; of an AVI
+/// that is its own fault, and ends it. Else the answer has what is noted of the end.
 pub fn unpack_all<R: ByteIn, L: ByteOut, W: ByteOut, A: Allocator + Copy>(
     alloc: A,
     profile: Profile,
@@ -242,8 +322,8 @@ pub fn unpack_all<R: ByteIn, L: ByteOut, W: ByteOut, A: Allocator + Copy>(
             let (output, answer) = salvage_file(alloc, &mut player, input, lines, output);
             match answer {
                 Err(fault) => (output, Err(fault)),
-                Ok(counts) => match found(counts) {
-                    Ok(counts) => (output, Ok((counts, Notes::NONE))),
+                Ok(counts) => match end_all(alloc, &player, input, lines, counts) {
+                    Ok(told) => (output, Ok(told)),
                     Err(fault) => (output, Err(fault)),
                 },
             }

@@ -51,7 +51,7 @@ MovesTo place p (Ok None) before after = ⊤
 MovesTo place p (Ok (Some next)) before after = ReadsUpTo place p.old p.new next before after
 MovesTo place p (Err f) before after = StopsAt place p f before after
 
--- what a call that came to the end tells of bytes behind it; nothing if the first movi alone is
+-- what a call that came to the end tells of bytes after it; nothing if the first movi alone is
 -- read
 abbrev pub TellsBehind : Extent → Place → Option (List ℕ) → Option (List ℕ) → ℕ → Option ℕ →
     Type 0

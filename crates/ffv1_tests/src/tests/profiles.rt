@@ -34,20 +34,26 @@ fn checks(
     found == answer && same
 }
 
-/// Whether the frames are unpacked as so many, and written as this text.
-fn unpacks(alloc: Global, profile: Profile, file: &[u8], count: u64, text: &[u8]) -> bool {
+/// Whether the frames are unpacked as so many, with these notes, and written as this text.
+fn unpacks(
+    alloc: Global,
+    profile: Profile,
+    file: &[u8],
+    answer: (u64, Notes),
+    text: &[u8],
+) -> bool {
     let output = ToWrite::new(Vec::new(alloc));
     let (written, found) = unpack(alloc, profile, &mut FromRead::new(file), output);
     let same = written.into_inner().as_slice() == text;
-    found == Ok((count, Notes::NONE)) && same
+    found == Ok(answer) && same
 }
 
-/// Whether what a file says ends with this text, with what its frames cost.
-fn is_shown(alloc: Global, profile: Profile, file: &[u8], end: &[u8]) -> bool {
+/// Whether what a file says ends with this text, with what its frames cost, and these notes.
+fn is_shown(alloc: Global, profile: Profile, file: &[u8], notes: Notes, end: &[u8]) -> bool {
     let mut output = ToWrite::new(Vec::new(alloc));
     let found = show(alloc, profile, &mut FromRead::new(file), &mut output, true);
     let same = output.into_inner().as_slice().ends_with(end);
-    found == Ok(Notes::NONE) && same
+    found == Ok(notes) && same
 }
 
 const ONE: &[u8] = b"frame 0: 5 bytes, 1 slices, 11 decisions\nframes 1\n";
@@ -63,6 +69,22 @@ static THREE: &[u8] =
 /// What the second of two frames cost.
 static COST: &[u8] = b"cost frame 1: ones 11 zeros 0 renormalisations 1\n";
 
+/// A `RIFF` after the first, of a frame of no bytes.
+static AGAIN: &[u8] = b"RIFF\x18\0\0\0AVIXLIST\x0C\0\0\0movi00dc\0\0\0\0";
+
+/// One frame repeats another.
+const REPEATED: Notes = Notes {
+    is_open: false,
+    repeated: 1,
+    after: None,
+};
+
+static LAST_AGAIN: &[u8] =
+    b"frame 0: 5 bytes, 1 slices, 11 decisions\nframe 1: 5 bytes, 1 slices, 11 decisions\n\
+    frame 2: again\nframes 3\n";
+
+static FIRST_AGAIN: &[u8] = b"frame 0: again\nframe 1: 5 bytes, 1 slices, 11 decisions\nframes 2\n";
+
 #[test]
 fn each_frame_is_checked(rt: HostRuntime) -> Result<(), Fail> {
     let file = file_of(rt.alloc(), 2, b"")?;
@@ -77,6 +99,7 @@ fn what_stands_behind_is_looked_at(rt: HostRuntime) -> Result<(), Fail> {
     let file = file_of(rt.alloc(), 2, b"\0\0\0")?;
     let noted = Notes {
         is_open: false,
+        repeated: 0,
         after: Some(file.len().saturating_sub(3) as u64),
     };
     assert!(rt; checks(rt.alloc(), Profile::Wide, &file, Ok(noted), THREE));
@@ -97,14 +120,78 @@ fn another_file_is_refused(rt: HostRuntime) -> Result<(), Fail> {
 fn each_frame_is_unpacked(rt: HostRuntime) -> Result<(), Fail> {
     let file = file_of(rt.alloc(), 1, b"")?;
     let two = b"YUV4MPEG2 W1 H1 F25:1 I? A0:0 Cmono\nFRAME\n\0FRAME\n\0";
-    assert!(rt; unpacks(rt.alloc(), Profile::Wide, &file, 2, two));
-    assert!(rt; unpacks(rt.alloc(), Profile::Strict, &file, 1, &two[..43]));
+    assert!(rt; unpacks(rt.alloc(), Profile::Wide, &file, (2, Notes::NONE), two));
+    assert!(rt;
+        unpacks(
+            rt.alloc(),
+            Profile::Strict,
+            &file,
+            (1, Notes::NONE),
+            &two[..43]
+        )
+    );
     Ok(())
 }
 
 #[test]
 fn each_frame_is_shown(rt: HostRuntime) -> Result<(), Fail> {
     let file = file_of(rt.alloc(), 1, b"")?;
-    assert!(rt; is_shown(rt.alloc(), Profile::Wide, &file, COST));
+    assert!(rt; is_shown(rt.alloc(), Profile::Wide, &file, Notes::NONE, COST));
+    Ok(())
+}
+
+/// A file whose first frame has no bytes, with one more in a further `RIFF`.
+fn first_again(alloc: Global) -> Result<Vec<u8>, Fault> {
+    let config = made::mono(alloc, 1, 1, 1, false)?;
+    let mut file = shows::file_of(alloc, config, 25, 1, b"", 1)?;
+    file.extend_from_slice(&MORE)?;
+    Ok(file)
+}
+
+/// A chunk of no bytes repeats the frame before it at the wide profile, and is noted; the strict
+/// one refuses it.
+#[test]
+fn empty_chunks_are_checked(rt: HostRuntime) -> Result<(), Fail> {
+    let last = file_of(rt.alloc(), 1, AGAIN)?;
+    assert!(rt; checks(rt.alloc(), Profile::Wide, &last, Ok(REPEATED), LAST_AGAIN));
+    assert!(rt; checks(rt.alloc(), Profile::Strict, &last, Ok(Notes::NONE), ONE));
+    let first = first_again(rt.alloc())?;
+    assert!(rt; checks(rt.alloc(), Profile::Wide, &first, Ok(REPEATED), FIRST_AGAIN));
+    assert!(rt;
+        checks(
+            rt.alloc(),
+            Profile::Strict,
+            &first,
+            Err(Fault::EmptyFrame),
+            b""
+        )
+    );
+    Ok(())
+}
+
+/// The picture before is written once more, and none before the first.
+#[test]
+fn empty_chunks_are_unpacked(rt: HostRuntime) -> Result<(), Fail> {
+    let three = b"YUV4MPEG2 W1 H1 F25:1 I? A0:0 Cmono\nFRAME\n\0FRAME\n\0FRAME\n\0";
+    let last = file_of(rt.alloc(), 1, AGAIN)?;
+    assert!(rt; unpacks(rt.alloc(), Profile::Wide, &last, (3, REPEATED), three));
+    let first = first_again(rt.alloc())?;
+    assert!(rt;
+        unpacks(
+            rt.alloc(),
+            Profile::Wide,
+            &first,
+            (2, REPEATED),
+            &three[..43]
+        )
+    );
+    Ok(())
+}
+
+#[test]
+fn empty_chunks_are_shown(rt: HostRuntime) -> Result<(), Fail> {
+    let last = file_of(rt.alloc(), 1, AGAIN)?;
+    let end = b"renormalisations 1\ncost frame 2: again\n";
+    assert!(rt; is_shown(rt.alloc(), Profile::Wide, &last, REPEATED, end));
     Ok(())
 }

@@ -14,8 +14,8 @@ use Rattle.ffv1_video.specs.Faults.{is_matroska_fault}
 use Rattle.ffv1_unpack.specs.Located.{Stands}
 
 -- the faults of a position beside those that every file has, by what is left of the file there: in
--- a Segment those of Matroska; in an AVI another file behind its last RIFF, which is looked for only
--- if all of the file is read
+-- a Segment those of Matroska; in an AVI another file after its last RIFF, which is looked for
+-- only if all of the file is read
 abbrev pub told_at : Standing → Option (List ℕ) → Place → Fault → Type 0
 told_at r left (InAvi place) f =
     (f ≡ fault.Another)

@@ -15,9 +15,7 @@ use Rattle.ffv1_video.specs.declared.fault.Fault.{Fault}
 use Rattle.ffv1_video.specs.Faults.{Cause, cause_of, of_codec}
 use Rattle.ffv1_video.specs.Faults.Cause.{Reading, Writing, Memory, Content}
 use Rattle.ffv1_unpack.specs.Internal.Play.{ReadsEnd, ReadsPayload}
-use Rattle.ffv1_codec.specs.Outcome.{FaultsOf}
-use Rattle.ffv1_unpack.specs.Stream.{Frame, IsFrame}
-use Rattle.ffv1_unpack.specs.Stream.{frame_payload}
+use Rattle.ffv1_unpack.specs.Stream.{Frame, IsFrame, IsRefusedPayload, frame_payload}
 use Rattle.ffv1_video.specs.Output.{Silent}
 use Rattle.ffv1_unpack.specs.Plays.{AtMost, NextBehind, NextHasFault, NextLacks, NextReadFails}
 use Rattle.ffv1_unpack.specs.Plays.{PlaysThen}
@@ -73,7 +71,7 @@ pub record PayloadFaults (a : Accepted) (from to : Place) (input : Passage) (f :
   pub fault : FrameFault
   pub tally : Tally
   pub reads : ReadsPayload from to payload input
-  pub faulty : FaultsOf a payload fault tally
+  pub faulty : IsRefusedPayload a payload fault tally
   pub is : f ≡ of_codec fault.fault
   pub content : cause_of f ≡ Content
 

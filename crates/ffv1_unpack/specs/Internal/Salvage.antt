@@ -32,9 +32,9 @@ use Rattle.ffv1_unpack.specs.Internal.PicturesOut.{text_behind, writer_behind}
 use Rattle.ffv1_unpack.specs.Internal.Told.{WritesFrame}
 use Rattle.ffv1_unpack.specs.Judged.{IsJudged, Judged, payload_of}
 use Rattle.ffv1_unpack.specs.JudgedItems.{IsJudgedItem, JudgedItem, OfFrame, given_as}
-use Rattle.ffv1_unpack.specs.Salvaged.{changed_text, good_frames, last_of, line_for}
+use Rattle.ffv1_unpack.specs.Salvaged.{changed_text, good_frames, line_for}
 use Rattle.ffv1_unpack.specs.Salvaged.{picture_for, said_of, shown}
-use Rattle.ffv1_unpack.specs.Stream.{Frame, Stream}
+use Rattle.ffv1_unpack.specs.Stream.{CodedFrame, Stream, last_of}
 use Rattle.ffv1_unpack.specs.UnpackAll.{AreSalvageCounts, FaultNext, LacksNext, ReadFailsNext}
 use Rattle.ffv1_unpack.specs.Unpacked.{is_ppm_stream, rows_by, text_of, video_of}
 
@@ -69,7 +69,7 @@ ContinuesText depth h begun said planes p after (Err f) =
 
 -- a text that has the pictures of these frames, and is ready for the next one
 pub record IsTextOf (depth : ℕ) (h : VideoHead) (begun : Begun) (kept : Kept) (s : Stream)
-    (fs : List Frame) : Type 0 where
+    (fs : List CodedFrame) : Type 0 where
   pub plain : is_ppm_stream s ≡ false
   pub deep : depth ≡ s.accepted.configuration.depth
   pub heads : (said : Said) → head_saying h said ≡ video_of s said
@@ -77,26 +77,26 @@ pub record IsTextOf (depth : ℕ) (h : VideoHead) (begun : Begun) (kept : Kept) 
   pub is : begun ≡ begun_behind s.accepted.configuration.depth h fs
 
 -- a sink of images that has taken those of these frames, and is ready for the next one
-pub record IsImagesOf {W : Type 0} (sink : PpmSink W) (s : Stream) (fs : List Frame)
+pub record IsImagesOf {W : Type 0} (sink : PpmSink W) (s : Stream) (fs : List CodedFrame)
     : Type 0 where
   pub colours : is_ppm_stream s ≡ true
   pub takes : IsSinkFor s.accepted.configuration sink
 
 -- the text of these, after those, was not written whole: a beginning of it; or of an image the rows
 -- before one that a line was to bring, and of that a beginning
-abbrev pub CutBy : Bool → Stream → List Frame → List Frame → Passage → Type 0
+abbrev pub CutBy : Bool → Stream → List CodedFrame → List CodedFrame → Passage → Type 0
 CutBy false s fs gs p =
     (piece : List ℕ) × (text_of s (fs ++ gs) ≡ text_of s fs ++ piece)
     × AppendsBeginning p.old p.new piece
 CutBy true s fs gs p =
-    (f : Frame) × (gs ≡ f ∷ []) × (ls : List Line) × (next : Line)
+    (f : CodedFrame) × (gs ≡ f ∷ []) × (ls : List Line) × (next : Line)
     × OffersLine s.accepted f.payload ls next
     × WritesUpTo p.old p.new (length (rows_by true s ls)) (rows_by true s (ls ++ (next ∷ [])))
 
 -- what writing the pictures of these frames, after those, answers: it is ready for the next one,
 -- and their text is written; or a write failed, which was counted, after a beginning of it
-abbrev pub PutsPictures : {P : Type 0} → (Stream → List Frame → P → Type 0) → Stream → List Frame →
-    List Frame → Passage → P → Result (Unit {0}) Fault → Type 0
+abbrev pub PutsPictures : {P : Type 0} → (Stream → List CodedFrame → P → Type 0) → Stream →
+    List CodedFrame → List CodedFrame → Passage → P → Result (Unit {0}) Fault → Type 0
 PutsPictures ready s fs gs p new (Ok done) =
     ready s (fs ++ gs) new × (p.after ≡ p.before)
     × (piece : List ℕ) × (text_of s (fs ++ gs) ≡ text_of s fs ++ piece)
@@ -111,7 +111,7 @@ pub record StandsAfter (s : Stream) (before : List JudgedItem) (counts : JudgedC
     (header : Option Said) (payload : List ℕ) : Type 0 where
   pub counted : AreSalvageCounts (is_ppm_stream s) counts before
   pub first : header ≡ said_of (good_frames before)
-  pub last : (f : Frame) → last_of (good_frames before) ≡ Some f → payload ≡ f.payload
+  pub last : (f : CodedFrame) → last_of (good_frames before) ≡ Some f → payload ≡ f.payload
 
 -- ---- one frame, of this payload
 
@@ -137,7 +137,7 @@ module _ (s : Stream) (before : List JudgedItem) (payload : List ℕ) (lines : P
 
 -- the lines and the pictures of an item: they were written, and the next one can be; or they were
 -- not
-module _ {P : Type 0} (ready : Stream → List Frame → P → Type 0) (s : Stream)
+module _ {P : Type 0} (ready : Stream → List CodedFrame → P → Type 0) (s : Stream)
     (before : List JudgedItem) (lines output : Passage) (new : P) where
   abbrev pub ItemShown : JudgedItem → Result (Unit {0}) Fault → Type 0
   ItemShown x (Ok done) =
@@ -178,7 +178,7 @@ module _ (s : Stream) (from to : Place) (c d : Course) (input : Passage) where
     pub next : Known input.old input.new (λ text rest.
         item_read from c text ≡ Ok (Some (given_as x, to, d), rest))
 
-  module _ {P : Type 0} (ready : Stream → List Frame → P → Type 0) (before : List JudgedItem)
+  module _ {P : Type 0} (ready : Stream → List CodedFrame → P → Type 0) (before : List JudgedItem)
       (lines output : Passage) (new : P) where
     -- what salvaging it answers
     abbrev pub ItemSalvaged : JudgedCounts → Option Said → List ℕ → Result Bool Fault → Type 0

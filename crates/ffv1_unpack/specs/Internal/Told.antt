@@ -1,6 +1,6 @@
 -- Writing lines of frames one after the other: what a step of that answers.
-use Rattle.std.specs.Prelude.{◌≡◌, ◌⊎◌, ℕ, Bool, true, false, List, []}
-use Rattle.std.specs.Prelude.{Option, Some, None, Result, Ok, Err, ⊤}
+use Rattle.std.specs.Prelude.{◌≡◌, ◌⊎◌, ◌<◌, ℕ, Bool, true, false, List, [], length}
+use Rattle.std.specs.Prelude.{Option, Result, Ok, Err, ⊤}
 use Rattle.std.specs.Io.KnownBytes.{Appends, Keeps}
 use Rattle.ffv1_range.specs.declared.tally.Tally.{Tally}
 use Rattle.ffv1_wire.specs.Failures.{one_more}
@@ -21,6 +21,8 @@ use Rattle.ffv1_reads.specs.Known.{Known}
 use Rattle.ffv1_reads.specs.declared.fault.FileFault.{FileFault}
 use Rattle.ffv1_video.specs.declared.fault.Fault.{Fault}
 use Rattle.ffv1_video.specs.declared.fault.Fault.TheVariants as fault
+use Rattle.ffv1_unpack.specs.declared.player.NextFrame.{NextFrame}
+use Rattle.ffv1_unpack.specs.declared.player.NextFrame.TheVariants as next
 use Rattle.ffv1_unpack.specs.declared.player.Stop.{Stop}
 use Rattle.ffv1_unpack.specs.declared.player.Stop.TheVariants as stop
 use Rattle.ffv1_unpack.specs.declared.frame_line.FrameLine.{FrameLine}
@@ -34,7 +36,7 @@ use Rattle.ffv1_unpack.specs.Plays.{GoesFrom, NextHasFault, NextPayloadLacks, Ne
 use Rattle.ffv1_unpack.specs.Ranges.{number_in}
 use Rattle.ffv1_unpack.specs.Internal.Plays.{OneStopsBy, PayloadFaults}
 use Rattle.ffv1_unpack.specs.Internal.Plays.{PlaysFrame}
-use Rattle.ffv1_unpack.specs.FrameLines.{frame_line, lines_from, place_text}
+use Rattle.ffv1_unpack.specs.FrameLines.{line_of, lines_from, place_text}
 use Rattle.ffv1_unpack.specs.Located.{WritesLine, WritesLocated}
 use Rattle.ffv1_unpack.specs.Internal.Located.{LocatedAfter}
 use Rattle.ffv1_video.specs.Output.{Silent}
@@ -78,21 +80,31 @@ ReadAnswers from to payload notes p (Ok true) = ReadsPayload from to payload p
 ReadAnswers from to payload notes p (Ok false) = ReadsEnd from notes p
 ReadAnswers from to payload notes p (Err f) = StopsFrom from p (of_avi f)
 
--- the payload was decoded, or is refused, or was not read
+-- the payload was decoded, or has no bytes, or is refused, or was not read
 abbrev pub StepAnswers : {S : Type 0} → LineStep S → LineStep S → Accepted → Place → Place →
-    List ℕ → Tally → Notes → Passage → S → S → Result (Option Said) Stop → Type 0
-StepAnswers takes refuses a from to payload tally notes p old new (Ok None) =
+    List ℕ → Tally → Notes → Passage → S → S → Result (NextFrame Said) Stop → Type 0
+StepAnswers takes refuses a from to payload tally notes p old new (Ok next.End) =
     ReadsEnd from notes p × (new ≡ old)
-StepAnswers takes refuses a from to payload tally notes p old new (Ok (Some info)) =
+StepAnswers takes refuses a from to payload tally notes p old new (Ok (next.Coded info)) =
     ReadsPayload from to payload p × Answers takes refuses a payload old new tally (Ok info)
+    × (0 < length payload)
+StepAnswers takes refuses a from to payload tally notes p old new (Ok next.Again) =
+    ReadsPayload from to [] p × (new ≡ old)
 StepAnswers takes refuses a from to payload tally notes p old new (Err (stop.File f)) =
     StopsFrom from p (of_avi f) × (new ≡ old)
 StepAnswers takes refuses a from to payload tally notes p old new (Err (stop.Payload f)) =
-    ReadsPayload from to payload p × Answers takes refuses a payload old new tally (Err f)
+    ReadsPayload from to payload p × (0 < length payload)
+    × Answers takes refuses a payload old new tally (Err f)
+
+-- if a frame comes
+abbrev pub IfMore : {I : Type 0} → NextFrame I → Type 0 → Type 0
+IfMore next.End P = ⊤
+IfMore next.Again P = P
+IfMore (next.Coded info) P = P
 
 -- the lines of frames
 abbrev pub told_line : FrameLine → Configuration → ℕ → Frame → List ℕ
-told_line kind c i f = frame_line kind c i f.payload f.tally
+told_line kind c i f = line_of kind c i f
 
 -- by how a file has payloads
 module _ (Has : List (List ℕ) → (Place → List ℕ → List ℕ → Type 0) → List ℕ → List ℕ → Type 0)

@@ -1,4 +1,4 @@
--- If a reader came to the end and tells no bytes behind the last RIFF, none stand there.
+-- If a reader came to the end and tells no bytes after the last RIFF, none stand there.
 use Rattle.ffv1_avi.proofs.BehindLaws.{none_behind, some_behind}
 use Rattle.ffv1_avi.proofs.laws.no_bytes_told_are_none.Goals as goal
 

@@ -1,4 +1,4 @@
--- Behind the last RIFF no other file may begin.
+-- After the last RIFF no other file may begin.
 use Rattle.ffv1_avi.proofs.AfterLaws.{file_after, form_after, small_after}
 use Rattle.ffv1_avi.proofs.EdgeLaws.{owed_other}
 use Rattle.ffv1_avi.proofs.GivenFrames.{gives_refused}

@@ -182,6 +182,7 @@ fn long_frames_of_all(rt: HostRuntime) {
     assert!(rt; first_of_all(rt.alloc(), &long(1073741825)) == Ok((long_one, 0, 6)));
     assert!(rt; first_of_all(rt.alloc(), &long(1073741824)) == Ok((short, 6, 0)));
     assert!(rt; first_of_all(rt.alloc(), &long(67108865)) == Ok((short, 6, 0)));
+    assert!(rt; first_of_all(rt.alloc(), &long(0)) == Ok((Ok(true), 0, 6)));
 }
 
 #[test]

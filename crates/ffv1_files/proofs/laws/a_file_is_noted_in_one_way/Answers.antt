@@ -1,4 +1,4 @@
--- What is noted of a file is told by its bytes, and so is what is left behind those that were
+-- What is noted of a file is told by its bytes, and so is what is left after those that were
 -- looked at.
 use Rattle.ffv1_files.proofs.NotedOnce.{riffs_once}
 use Rattle.ffv1_files.proofs.NotedSegments.{segments_once}

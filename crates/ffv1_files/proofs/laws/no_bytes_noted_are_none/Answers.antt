@@ -1,4 +1,4 @@
--- If no bytes are noted behind a file, and no other file was met there, none stand there.
+-- If no bytes are noted after a file, and no other file was met there, none stand there.
 use Rattle.ffv1_files.proofs.Behinds.{lists_bare, segment_bare}
 use Rattle.ffv1_files.proofs.laws.no_bytes_noted_are_none.Goals as goal
 

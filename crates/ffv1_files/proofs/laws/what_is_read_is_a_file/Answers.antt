@@ -1,5 +1,5 @@
 -- What is read is a file of that head and those frames: up to the end of the first `movi` an AVI by
--- its chunks, after which this is left; and all of it an AVI by the chunks of every RIFF, behind
+-- its chunks, after which this is left; and all of it an AVI by the chunks of every RIFF, after
 -- which no other file begins, or a Matroska file by its elements, after whose Segment this is left.
 use Rattle.ffv1_files.proofs.FileLaws.{read_first, read_whole}
 use Rattle.ffv1_files.proofs.laws.what_is_read_is_a_file.Goals as goal

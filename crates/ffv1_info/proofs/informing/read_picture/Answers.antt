@@ -24,13 +24,13 @@ returns-in_err-decoder-clause-own g c =
     let p = err_from_is_err_and c.from_residual.result c.from_residual.ensures.1 in
     rw (p.1, p.2) (inl (ap (λ z. is_telling_fault (of_codec z)) c.in_err-decoder.ensures.err))
 
-pub returns-in_err-said-clause-err : goal.returns-in_err-said-clause-err
-returns-in_err-said-clause-err g c =
-    let p = err_from_is_err_and c.from_residual-in_err-said.result
-    c.from_residual-in_err-said.ensures.1 in
+pub returns-in_err-next-clause-err : goal.returns-in_err-next-clause-err
+returns-in_err-next-clause-err g c =
+    let p = err_from_is_err_and c.from_residual-in_err-next.result
+    c.from_residual-in_err-next.ensures.1 in
     rw (p.1, p.2) (rw (ap (λ (z : Decoder). z.accepted) c.in_ok-decoder.ensures.ok) at
-    c.in_err-said.ensures.err)
+    c.in_err-next.ensures.err)
 
 pub returns-clause-ok : goal.returns-clause-ok
 returns-clause-ok g c = rw (ap (λ (z : Decoder). z.accepted) c.in_ok-decoder.ensures.ok) at
-    c.in_ok-said.ensures.ok
+    c.in_ok-next.ensures.ok

@@ -113,9 +113,10 @@ fn items(alloc: Global, file: &[u8]) -> [Came; 5] {
         return came;
     };
     let mut course = reader.course();
+    let mut cued = false;
     let mut bytes = Vec::new(alloc);
     for place in &mut came {
-        match reader.next_item(&mut input, &mut course, &mut bytes) {
+        match reader.next_item(&mut input, &mut course, &mut cued, &mut bytes) {
             Ok(Item::Frame) => *place = frame(bytes.get(1).copied().unwrap_or(0)),
             Ok(Item::Told { fault, offset }) => *place = told(fault, offset),
             Ok(Item::End) => *place = frame(0),

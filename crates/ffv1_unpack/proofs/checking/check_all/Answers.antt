@@ -4,7 +4,11 @@ use Rattle.std.proofs.Common.{rules, ◌≡◌, true, false, ap, sym, ◌∙◌,
 use Rattle.std.proofs.lemmas.Result.{err_from_is_err_and}
 use Rattle.ffv1_files.specs.Places.{container_of}
 use Rattle.ffv1_unpack.specs.Internal.Containers.{is_segment}
+use Rattle.ffv1_wire.specs.Passage.{passage}
+use Rattle.ffv1_unpack.specs.Internal.Opens.{stream_of}
+use Rattle.ffv1_unpack.specs.Located.{Stands}
 use Rattle.ffv1_unpack.proofs.FileRead.{holds_payloads}
+use Rattle.ffv1_unpack.proofs.FileEnded.{all_ended, behind_fails, behind_told}
 use Rattle.ffv1_unpack.proofs.AllJudged.{all_judged, all_none, all_stop, all_uncounted}
 use Rattle.ffv1_unpack.proofs.FileChecked.{lacks_opening}
 use Rattle.ffv1_unpack.proofs.FileItems.{count_fails, items_done, items_stop, items_unopened}
@@ -209,6 +213,49 @@ returns-in_err-counts-in-Matroska-clause-err g c =
           c.in_err-counts-in-Matroska.field-0.0 c.in_err-counts-in-Matroska.ensures.err,
     ))
 
+pub returns-in_err-notes-in-Matroska-clause-err : goal.returns-in_err-notes-in-Matroska-clause-err
+returns-in_err-notes-in-Matroska-clause-err g c =
+    let p = err_from_is_err_and c.from_residual-in_err-notes-in-Matroska.result
+    c.from_residual-in_err-notes-in-Matroska.ensures.1 in
+    let kind : is_segment (container_of c.in-Ok.player.reader.place) ≡ true =
+    ap is_segment (sym c.container.ensures ∙ c.in-Matroska.is) in
+    let read = read_as c.args.profile (g.R.ByteIn.remaining c.args.input.now)
+    (g.R.ByteIn.remaining c.open_player_located.new.input) c.in-Ok.player.reader.head
+    c.in-Ok.player.reader.place c.in-Ok.ensures.ok.known true kind in
+    let told = c.in_ok-counts-in-Matroska.ensures.ok in
+    let counts = c.in_ok-counts-in-Matroska.counts in
+    let r = c.in-Ok.player.reader in
+    let cued = c.judge_items.new.player.cued in
+    let stands : Stands (scope_in c.args.profile) (g.R.ByteIn.remaining c.args.input.now)
+    (g.R.ByteIn.remaining c.open_player_located.new.input) r = record {
+      reached = c.in-Ok.ensures.located;
+      ends = c.in-Ok.ensures.ends;
+      noted = c.in-Ok.ensures.noted;
+    } in
+    let cues = rw c.in-Ok.ensures.uncued at c.in_ok-counts-in-Matroska.ensures.cued in
+    let stays = c.in_ok-counts-in-Matroska.ensures.reader in
+    rw (p.1, p.2) (inr (
+      read,
+      behind_fails c.args.profile (g.R.ByteIn.remaining c.args.input.now)
+          (g.R.ByteIn.remaining c.open_player_located.new.input)
+          (g.R.ByteIn.remaining c.judge_items.new.input) (g.R.ByteIn.remaining c.tell_behind.new.input)
+          (g.R.ByteIn.failures c.args.input.now) (g.R.ByteIn.failures c.open_player_located.new.input)
+          (g.R.ByteIn.failures c.judge_items.new.input) (g.R.ByteIn.failures c.tell_behind.new.input)
+          r c.in-Ok.player.decoder.accepted c.in-Ok.ensures.ok stands kind cued cues c.args.place
+          (g.W.ByteOut.contents c.args.output.now) (g.W.ByteOut.contents c.judge_items.new.output)
+          (g.W.ByteOut.contents c.tell_behind.new.output) (g.W.ByteOut.failures c.args.output.now)
+          (g.W.ByteOut.failures c.judge_items.new.output) (g.W.ByteOut.failures c.tell_behind.new.output)
+          told.0 counts told.1 told.2
+          c.in_err-notes-in-Matroska.field-0.0
+          (rw stays at c.in_err-notes-in-Matroska.ensures.answer),
+    ))
+
+pub returns-in_err-notes-in-Matroska-clause-own : goal.returns-in_err-notes-in-Matroska-clause-own
+returns-in_err-notes-in-Matroska-clause-own g c =
+    let p = err_from_is_err_and c.from_residual-in_err-notes-in-Matroska.result
+    c.from_residual-in_err-notes-in-Matroska.ensures.1 in
+    rw (p.1, p.2) (inr (inl c.in_err-notes-in-Matroska.ensures.own))
+
 pub returns-then-counts-eq0-3-clause-err : goal.returns-then-counts-eq0-3-clause-err
 returns-then-counts-eq0-3-clause-err g c =
     let kind : is_segment (container_of c.in-Ok.player.reader.place) ≡ true =
@@ -217,21 +264,52 @@ returns-then-counts-eq0-3-clause-err g c =
     (g.R.ByteIn.remaining c.open_player_located.new.input) c.in-Ok.player.reader.head
     c.in-Ok.player.reader.place c.in-Ok.ensures.ok.known true kind in
     let told = c.in_ok-counts-in-Matroska.ensures.ok in
-    let frames : c.in_ok-counts-in-Matroska.counts.frames ≡ 0 = search rules in
-    let faults : c.in_ok-counts-in-Matroska.counts.faults ≡ 0 = search rules in
+    let counts = c.in_ok-counts-in-Matroska.counts in
+    let r = c.in-Ok.player.reader in
+    let cued = c.judge_items.new.player.cued in
+    let stands : Stands (scope_in c.args.profile) (g.R.ByteIn.remaining c.args.input.now)
+    (g.R.ByteIn.remaining c.open_player_located.new.input) r = record {
+      reached = c.in-Ok.ensures.located;
+      ends = c.in-Ok.ensures.ends;
+      noted = c.in-Ok.ensures.noted;
+    } in
+    let cues = rw c.in-Ok.ensures.uncued at c.in_ok-counts-in-Matroska.ensures.cued in
+    let stays = c.in_ok-counts-in-Matroska.ensures.reader in
+    let notes = c.in_ok-notes-in-Matroska.notes in
+    let new = c.tell_behind.new.counts in
+    let behind = behind_told c.args.profile (g.R.ByteIn.remaining c.args.input.now)
+    (g.R.ByteIn.remaining c.open_player_located.new.input)
+    (g.R.ByteIn.remaining c.judge_items.new.input) (g.R.ByteIn.remaining c.tell_behind.new.input)
+    (g.R.ByteIn.failures c.args.input.now) (g.R.ByteIn.failures c.open_player_located.new.input)
+    (g.R.ByteIn.failures c.judge_items.new.input) (g.R.ByteIn.failures c.tell_behind.new.input)
+    r c.in-Ok.player.decoder.accepted c.in-Ok.ensures.ok stands kind cued cues c.args.place
+    (g.W.ByteOut.contents c.args.output.now) (g.W.ByteOut.contents c.judge_items.new.output)
+    (g.W.ByteOut.contents c.tell_behind.new.output) (g.W.ByteOut.failures c.args.output.now)
+    (g.W.ByteOut.failures c.judge_items.new.output) (g.W.ByteOut.failures c.tell_behind.new.output)
+    told.0 counts told.1 told.2 new notes
+    (rw stays at c.in_ok-notes-in-Matroska.ensures.answer) in
+    let ended = all_ended c.args.profile (g.R.ByteIn.remaining c.args.input.now)
+    (g.R.ByteIn.remaining c.open_player_located.new.input)
+    (g.R.ByteIn.remaining c.judge_items.new.input) (g.R.ByteIn.remaining c.tell_behind.new.input)
+    (g.R.ByteIn.failures c.args.input.now) (g.R.ByteIn.failures c.open_player_located.new.input)
+    (g.R.ByteIn.failures c.judge_items.new.input) (g.R.ByteIn.failures c.tell_behind.new.input)
+    r c.in-Ok.player.decoder.accepted c.in-Ok.ensures.ok stands kind cued cues c.args.place
+    (g.W.ByteOut.contents c.args.output.now) (g.W.ByteOut.contents c.judge_items.new.output)
+    (g.W.ByteOut.contents c.tell_behind.new.output) (g.W.ByteOut.failures c.args.output.now)
+    (g.W.ByteOut.failures c.judge_items.new.output) (g.W.ByteOut.failures c.tell_behind.new.output)
+    told.0 counts told.1 told.2 new notes behind in
+    let frames : new.frames ≡ 0 = search rules in
+    let faults : new.faults ≡ 0 = search rules in
     inr (
       read,
-      no_items c.args.profile (g.R.ByteIn.remaining c.args.input.now)
-          (g.R.ByteIn.remaining c.open_player_located.new.input)
-          (g.R.ByteIn.remaining c.judge_items.new.input)
-          (g.R.ByteIn.failures c.args.input.now)
-          (g.R.ByteIn.failures c.open_player_located.new.input)
-          (g.R.ByteIn.failures c.judge_items.new.input)
-          c.in-Ok.player.reader c.in-Ok.player.decoder.accepted c.in-Ok.ensures.ok
-          c.in-Ok.ensures.located c.args.place (g.W.ByteOut.contents c.args.output.now)
-          (g.W.ByteOut.contents c.judge_items.new.output) (g.W.ByteOut.failures c.args.output.now)
-          (g.W.ByteOut.failures c.judge_items.new.output)
-          told.0 c.in_ok-counts-in-Matroska.counts told.1 told.2 frames faults,
+      no_items c.args.profile c.args.place
+          (passage g.R.ByteIn.remaining g.R.ByteIn.failures c.args.input.now
+          c.tell_behind.new.input)
+          (g.W.ByteOut.contents c.args.output.now) (g.W.ByteOut.contents c.tell_behind.new.output)
+          (g.W.ByteOut.failures c.args.output.now) (g.W.ByteOut.failures c.tell_behind.new.output)
+          (stream_of r c.in-Ok.player.decoder.accepted) told.0 behind.behind notes new ended
+          behind.counted (behind.written ∙ told.2.wrote.written) behind.writes
+          frames faults,
     )
 
 pub returns-in_err-write_counts-in-Matroska-clause-err :
@@ -245,19 +323,49 @@ returns-in_err-write_counts-in-Matroska-clause-err g c =
     (g.R.ByteIn.remaining c.open_player_located.new.input) c.in-Ok.player.reader.head
     c.in-Ok.player.reader.place c.in-Ok.ensures.ok.known true kind in
     let told = c.in_ok-counts-in-Matroska.ensures.ok in
+    let counts = c.in_ok-counts-in-Matroska.counts in
+    let r = c.in-Ok.player.reader in
+    let cued = c.judge_items.new.player.cued in
+    let stands : Stands (scope_in c.args.profile) (g.R.ByteIn.remaining c.args.input.now)
+    (g.R.ByteIn.remaining c.open_player_located.new.input) r = record {
+      reached = c.in-Ok.ensures.located;
+      ends = c.in-Ok.ensures.ends;
+      noted = c.in-Ok.ensures.noted;
+    } in
+    let cues = rw c.in-Ok.ensures.uncued at c.in_ok-counts-in-Matroska.ensures.cued in
+    let stays = c.in_ok-counts-in-Matroska.ensures.reader in
+    let notes = c.in_ok-notes-in-Matroska.notes in
+    let new = c.tell_behind.new.counts in
+    let behind = behind_told c.args.profile (g.R.ByteIn.remaining c.args.input.now)
+    (g.R.ByteIn.remaining c.open_player_located.new.input)
+    (g.R.ByteIn.remaining c.judge_items.new.input) (g.R.ByteIn.remaining c.tell_behind.new.input)
+    (g.R.ByteIn.failures c.args.input.now) (g.R.ByteIn.failures c.open_player_located.new.input)
+    (g.R.ByteIn.failures c.judge_items.new.input) (g.R.ByteIn.failures c.tell_behind.new.input)
+    r c.in-Ok.player.decoder.accepted c.in-Ok.ensures.ok stands kind cued cues c.args.place
+    (g.W.ByteOut.contents c.args.output.now) (g.W.ByteOut.contents c.judge_items.new.output)
+    (g.W.ByteOut.contents c.tell_behind.new.output) (g.W.ByteOut.failures c.args.output.now)
+    (g.W.ByteOut.failures c.judge_items.new.output) (g.W.ByteOut.failures c.tell_behind.new.output)
+    told.0 counts told.1 told.2 new notes
+    (rw stays at c.in_ok-notes-in-Matroska.ensures.answer) in
+    let ended = all_ended c.args.profile (g.R.ByteIn.remaining c.args.input.now)
+    (g.R.ByteIn.remaining c.open_player_located.new.input)
+    (g.R.ByteIn.remaining c.judge_items.new.input) (g.R.ByteIn.remaining c.tell_behind.new.input)
+    (g.R.ByteIn.failures c.args.input.now) (g.R.ByteIn.failures c.open_player_located.new.input)
+    (g.R.ByteIn.failures c.judge_items.new.input) (g.R.ByteIn.failures c.tell_behind.new.input)
+    r c.in-Ok.player.decoder.accepted c.in-Ok.ensures.ok stands kind cued cues c.args.place
+    (g.W.ByteOut.contents c.args.output.now) (g.W.ByteOut.contents c.judge_items.new.output)
+    (g.W.ByteOut.contents c.tell_behind.new.output) (g.W.ByteOut.failures c.args.output.now)
+    (g.W.ByteOut.failures c.judge_items.new.output) (g.W.ByteOut.failures c.tell_behind.new.output)
+    told.0 counts told.1 told.2 new notes behind in
     rw (p.1, p.2) (inr (
       read,
-      count_fails c.args.profile (g.R.ByteIn.remaining c.args.input.now)
-          (g.R.ByteIn.remaining c.open_player_located.new.input)
-          (g.R.ByteIn.remaining c.judge_items.new.input)
-          (g.R.ByteIn.failures c.args.input.now)
-          (g.R.ByteIn.failures c.open_player_located.new.input)
-          (g.R.ByteIn.failures c.judge_items.new.input)
-          c.in-Ok.player.reader c.in-Ok.player.decoder.accepted c.in-Ok.ensures.ok
-          c.in-Ok.ensures.located c.args.place (g.W.ByteOut.contents c.args.output.now)
-          (g.W.ByteOut.contents c.judge_items.new.output) (g.W.ByteOut.failures c.args.output.now)
-          (g.W.ByteOut.failures c.judge_items.new.output)
-          told.0 c.in_ok-counts-in-Matroska.counts told.1 told.2
+      count_fails c.args.profile c.args.place
+          (passage g.R.ByteIn.remaining g.R.ByteIn.failures c.args.input.now
+          c.tell_behind.new.input)
+          (g.W.ByteOut.contents c.args.output.now) (g.W.ByteOut.contents c.tell_behind.new.output)
+          (g.W.ByteOut.failures c.args.output.now) (g.W.ByteOut.failures c.tell_behind.new.output)
+          (stream_of r c.in-Ok.player.decoder.accepted) told.0 behind.behind notes new ended
+          behind.counted (behind.written ∙ told.2.wrote.written) behind.writes
           (g.W.ByteOut.contents c.write_counts-in-Matroska.new.output)
           (g.W.ByteOut.failures c.write_counts-in-Matroska.new.output)
           c.in_err-write_counts-in-Matroska.field-0.0 c.in_err-write_counts-in-Matroska.ensures,
@@ -280,24 +388,53 @@ returns-clause-ok g c =
     c.in-Ok.player.reader.place c.in-Ok.ensures.ok.known true kind in
     let told = c.in_ok-counts-in-Matroska.ensures.ok in
     let counts = c.in_ok-counts-in-Matroska.counts in
-    let some : counts.frames ≡ 0 → counts.faults ≡ 0 → ⊥ = elim c.else-counts-eq0-2.branch [
+    let r = c.in-Ok.player.reader in
+    let cued = c.judge_items.new.player.cued in
+    let stands : Stands (scope_in c.args.profile) (g.R.ByteIn.remaining c.args.input.now)
+    (g.R.ByteIn.remaining c.open_player_located.new.input) r = record {
+      reached = c.in-Ok.ensures.located;
+      ends = c.in-Ok.ensures.ends;
+      noted = c.in-Ok.ensures.noted;
+    } in
+    let cues = rw c.in-Ok.ensures.uncued at c.in_ok-counts-in-Matroska.ensures.cued in
+    let stays = c.in_ok-counts-in-Matroska.ensures.reader in
+    let notes = c.in_ok-notes-in-Matroska.notes in
+    let new = c.tell_behind.new.counts in
+    let behind = behind_told c.args.profile (g.R.ByteIn.remaining c.args.input.now)
+    (g.R.ByteIn.remaining c.open_player_located.new.input)
+    (g.R.ByteIn.remaining c.judge_items.new.input) (g.R.ByteIn.remaining c.tell_behind.new.input)
+    (g.R.ByteIn.failures c.args.input.now) (g.R.ByteIn.failures c.open_player_located.new.input)
+    (g.R.ByteIn.failures c.judge_items.new.input) (g.R.ByteIn.failures c.tell_behind.new.input)
+    r c.in-Ok.player.decoder.accepted c.in-Ok.ensures.ok stands kind cued cues c.args.place
+    (g.W.ByteOut.contents c.args.output.now) (g.W.ByteOut.contents c.judge_items.new.output)
+    (g.W.ByteOut.contents c.tell_behind.new.output) (g.W.ByteOut.failures c.args.output.now)
+    (g.W.ByteOut.failures c.judge_items.new.output) (g.W.ByteOut.failures c.tell_behind.new.output)
+    told.0 counts told.1 told.2 new notes
+    (rw stays at c.in_ok-notes-in-Matroska.ensures.answer) in
+    let ended = all_ended c.args.profile (g.R.ByteIn.remaining c.args.input.now)
+    (g.R.ByteIn.remaining c.open_player_located.new.input)
+    (g.R.ByteIn.remaining c.judge_items.new.input) (g.R.ByteIn.remaining c.tell_behind.new.input)
+    (g.R.ByteIn.failures c.args.input.now) (g.R.ByteIn.failures c.open_player_located.new.input)
+    (g.R.ByteIn.failures c.judge_items.new.input) (g.R.ByteIn.failures c.tell_behind.new.input)
+    r c.in-Ok.player.decoder.accepted c.in-Ok.ensures.ok stands kind cued cues c.args.place
+    (g.W.ByteOut.contents c.args.output.now) (g.W.ByteOut.contents c.judge_items.new.output)
+    (g.W.ByteOut.contents c.tell_behind.new.output) (g.W.ByteOut.failures c.args.output.now)
+    (g.W.ByteOut.failures c.judge_items.new.output) (g.W.ByteOut.failures c.tell_behind.new.output)
+    told.0 counts told.1 told.2 new notes behind in
+    let some : new.frames ≡ 0 → new.faults ≡ 0 → ⊥ = elim c.else-counts-eq0-2.branch [
       | else-counts-eq0-2-via-then-counts-eq0-2+else-counts-eq0-3 w ↦
           λ frames faults. w.if-counts-eq0-3.false faults
       | else-counts-eq0-2-via-else-counts-eq0-2 w ↦ λ frames faults. w.if-counts-eq0-2.false frames
     ] in
     inr (
       read,
-      items_done c.args.profile (g.R.ByteIn.remaining c.args.input.now)
-          (g.R.ByteIn.remaining c.open_player_located.new.input)
-          (g.R.ByteIn.remaining c.judge_items.new.input)
-          (g.R.ByteIn.failures c.args.input.now)
-          (g.R.ByteIn.failures c.open_player_located.new.input)
-          (g.R.ByteIn.failures c.judge_items.new.input)
-          c.in-Ok.player.reader c.in-Ok.player.decoder.accepted c.in-Ok.ensures.ok
-          c.in-Ok.ensures.located c.args.place (g.W.ByteOut.contents c.args.output.now)
-          (g.W.ByteOut.contents c.judge_items.new.output) (g.W.ByteOut.failures c.args.output.now)
-          (g.W.ByteOut.failures c.judge_items.new.output)
-          told.0 counts told.1 told.2
+      items_done c.args.profile c.args.place
+          (passage g.R.ByteIn.remaining g.R.ByteIn.failures c.args.input.now
+          c.tell_behind.new.input)
+          (g.W.ByteOut.contents c.args.output.now) (g.W.ByteOut.contents c.tell_behind.new.output)
+          (g.W.ByteOut.failures c.args.output.now) (g.W.ByteOut.failures c.tell_behind.new.output)
+          (stream_of r c.in-Ok.player.decoder.accepted) told.0 behind.behind notes new ended
+          behind.counted (behind.written ∙ told.2.wrote.written) behind.writes
           (g.W.ByteOut.contents c.write_counts-in-Matroska.new.output)
           (g.W.ByteOut.failures c.write_counts-in-Matroska.new.output)
           some c.in_ok-write_counts-in-Matroska.ensures.0 c.in_ok-write_counts-in-Matroska.ensures.1,

@@ -25,71 +25,71 @@ returns-in_err-player-clause-own g c =
     rw (p.1, p.2) (opening_checks c.args.profile c.in_err-player.field-0.0
     c.in_err-player.ensures.own)
 
-pub returns-in_err-number-clause-err : goal.returns-in_err-number-clause-err
-returns-in_err-number-clause-err g c =
-    let p = err_from_is_err_and c.from_residual-in_err-number.result
-    c.from_residual-in_err-number.ensures.1 in
+pub returns-in_err-compared-clause-err : goal.returns-in_err-compared-clause-err
+returns-in_err-compared-clause-err g c =
+    let p = err_from_is_err_and c.from_residual-in_err-compared.result
+    c.from_residual-in_err-compared.ensures.1 in
     rw (p.1, p.2)
     (comparing_stops c.args.profile c.args.md5s.now (g.R.ByteIn.remaining c.args.input.now)
     (g.R.ByteIn.remaining c.open_player.new.input)
     (g.R.ByteIn.remaining c.compare_frames.new.input) (g.R.ByteIn.failures c.args.input.now)
     (g.R.ByteIn.failures c.open_player.new.input)
     (g.R.ByteIn.failures c.compare_frames.new.input) c.in_ok-player.player.reader
-    c.in_ok-player.player.decoder.accepted c.in_ok-player.ensures.ok c.in_err-number.field-0.0
-    c.in_err-number.ensures.err)
+    c.in_ok-player.player.decoder.accepted c.in_ok-player.ensures.ok c.in_err-compared.field-0.0
+    c.in_err-compared.ensures.err)
 
-pub returns-in_err-number-clause-own : goal.returns-in_err-number-clause-own
-returns-in_err-number-clause-own g c =
-    let p = err_from_is_err_and c.from_residual-in_err-number.result
-    c.from_residual-in_err-number.ensures.1 in
+pub returns-in_err-compared-clause-own : goal.returns-in_err-compared-clause-own
+returns-in_err-compared-clause-own g c =
+    let p = err_from_is_err_and c.from_residual-in_err-compared.result
+    c.from_residual-in_err-compared.ensures.1 in
     rw (p.1, p.2) (unlike_checks c.args.profile c.in_ok-player.player.reader
     (g.R.ByteIn.remaining c.args.input.now)
     (g.R.ByteIn.remaining c.open_player.new.input)
-    c.in_err-number.field-0.0 c.in_ok-player.ensures.located
-    c.in_ok-player.ensures.ok.within c.in_err-number.ensures.own)
+    c.in_err-compared.field-0.0 c.in_ok-player.ensures.located
+    c.in_ok-player.ensures.ok.within c.in_err-compared.ensures.own)
 
-pub returns-then-number-eq0-clause-err : goal.returns-then-number-eq0-clause-err
-returns-then-number-eq0-clause-err g c =
-    let all = c.in_ok-number.ensures.ok in
-    let none : c.in_ok-number.number ≡ 0 = search rules in
+pub returns-then-compared-eq0-clause-err : goal.returns-then-compared-eq0-clause-err
+returns-then-compared-eq0-clause-err g c =
+    let all = c.in_ok-compared.ensures.ok in
+    let none : c.in_ok-compared.compared.frames ≡ 0 = search rules in
     comparing_none c.args.profile c.args.md5s.now (g.R.ByteIn.remaining c.args.input.now)
     (g.R.ByteIn.remaining c.open_player.new.input)
     (g.R.ByteIn.remaining c.compare_frames.new.input) (g.R.ByteIn.failures c.args.input.now)
     (g.R.ByteIn.failures c.open_player.new.input)
     (g.R.ByteIn.failures c.compare_frames.new.input) c.in_ok-player.player.reader
     c.in_ok-player.player.decoder.accepted c.in_ok-player.ensures.ok
-    c.compare_frames.new.player.notes all.0 c.in_ok-number.number all.1 all.3 none
+    c.compare_frames.new.player.notes all.0 c.in_ok-compared.compared all.1 all.2 all.4 none
 
-pub returns-then-number-md5s-clause-err : goal.returns-then-number-md5s-clause-err
-returns-then-number-md5s-clause-err g c =
-    let all = c.in_ok-number.ensures.ok in
+pub returns-then-compared-md5s-clause-err : goal.returns-then-compared-md5s-clause-err
+returns-then-compared-md5s-clause-err g c =
+    let all = c.in_ok-compared.ensures.ok in
     comparing_short c.args.profile c.args.md5s.now (g.R.ByteIn.remaining c.args.input.now)
     (g.R.ByteIn.remaining c.open_player.new.input)
     (g.R.ByteIn.remaining c.compare_frames.new.input) (g.R.ByteIn.failures c.args.input.now)
     (g.R.ByteIn.failures c.open_player.new.input)
     (g.R.ByteIn.failures c.compare_frames.new.input) c.in_ok-player.player.reader
     c.in_ok-player.player.decoder.accepted c.in_ok-player.ensures.ok
-    c.compare_frames.new.player.notes all.0 c.in_ok-number.number all.1 all.3 c.if-number-eq0.false c.if-number-md5s.true
+    c.compare_frames.new.player.notes all.0 c.in_ok-compared.compared all.1 all.2 all.4 c.if-compared-eq0.false c.if-compared-md5s.true
 
 pub returns-clause-ok : goal.returns-clause-ok
 returns-clause-ok g c =
-    let all = c.in_ok-number.ensures.ok in
+    let all = c.in_ok-compared.ensures.ok in
     let opens = c.in_ok-player.ensures.ok in
     let i0 = g.R.ByteIn.remaining c.args.input.now in
     let i1 = g.R.ByteIn.remaining c.open_player.new.input in
     let i2 = g.R.ByteIn.remaining c.compare_frames.new.input in
     let r = c.in_ok-player.player.reader in
     let a = c.in_ok-player.player.decoder.accepted in
-    let least = all.2 in
-    let most = c.if-number-md5s.false in
-    let whole : c.in_ok-number.number ≡ length c.args.md5s.now = omega (arith, least, most) in
+    let least = all.3 in
+    let most = c.if-compared-md5s.false in
+    let whole : c.in_ok-compared.compared.md5s ≡ length c.args.md5s.now = omega (arith, least, most) in
     let reads = reads_file c.frames_come_in_turn.ensures c.what_is_read_is_a_file.ensures.first
     c.what_is_read_is_a_file.ensures.whole c.args.profile c.compare_frames.new.player.notes
     i0 i1 i2 (stream_of r a) r.place all.0
-    opens.known all.3.plays.goes.has in
+    opens.known all.4.plays.goes.has in
     comparing_done c.args.profile c.args.md5s.now i0 i1 i2
     (g.R.ByteIn.failures c.args.input.now) (g.R.ByteIn.failures c.open_player.new.input)
     (g.R.ByteIn.failures c.compare_frames.new.input) r a opens
-    c.compare_frames.new.player.notes all.0 c.in_ok-number.number all.1
-    all.3 c.if-number-eq0.false whole reads
-    (c.in_ok-number.ensures.noted (scope_in c.args.profile) i0 c.in_ok-player.ensures.located)
+    c.compare_frames.new.player.notes all.0 c.in_ok-compared.compared all.1 all.2
+    all.4 c.if-compared-eq0.false whole reads
+    (c.in_ok-compared.ensures.noted (scope_in c.args.profile) i0 c.in_ok-player.ensures.located)

@@ -11,7 +11,7 @@ invariant-loop-kept g l =
     (l.player.reader.fault ≡ None) × (l.player.decoder.accepted ≡ l.fn.player.decoder.accepted)
     × IsKeptFor l.fn.player.decoder.accepted l.kept
     × ComparedSo l.fn.player.decoder.accepted l.md5s l.fn.player.reader.place
-    (passage g.R.ByteIn.remaining g.R.ByteIn.failures l.initial.input l.input) l.number
+    (passage g.R.ByteIn.remaining g.R.ByteIn.failures l.initial.input l.input) l.so_far
     l.player.reader.place
     × (container_of l.player.reader.place ≡ container_of l.fn.player.reader.place)
     × StaysReached l.fn.player.reader l.player.reader

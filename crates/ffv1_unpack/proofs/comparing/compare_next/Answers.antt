@@ -1,6 +1,6 @@
 -- Reads the next frame, decodes it, and compares its picture with the MD5 of the list that has its
 -- number.
-use Rattle.std.proofs.Common.{◌≡◌, true, false, Some, take, [], ◌∷◌, inl, inr, ap, sym, refl, subst, ◌∙◌}
+use Rattle.std.proofs.Common.{◌≡◌, true, false, Some, map, take, [], ◌∷◌, inl, inr, ap, sym, refl, rules, subst, ◌∙◌}
 use Rattle.std.specs.Prelude.{slice_get}
 use Rattle.ffv1_wire.specs.Passage.{at_rest, passage}
 use Rattle.ffv1_record.specs.Accepted.{Accepted}
@@ -14,7 +14,7 @@ use Rattle.ffv1_video.specs.Output.{Silent}
 use Rattle.ffv1_video.proofs.Output.{silent}
 use Rattle.ffv1_unpack.specs.Compared.{frame_number, is_md5, picture_number}
 use Rattle.ffv1_unpack.specs.Internal.Plays.{OneStopsBy}
-use Rattle.ffv1_unpack.specs.Stream.{Frame, IsFrame, frame_payload}
+use Rattle.ffv1_unpack.specs.Stream.{Again, Coded, Frame, IsFrame, coded_frames, frame_payload}
 use Rattle.ffv1_unpack.specs.Told.{is_telling_fault}
 use Rattle.ffv1_unpack.proofs.FrameDecoded.{is_decided, is_faulty}
 use Rattle.ffv1_unpack.proofs.FramesCompared.{has_more}
@@ -27,9 +27,9 @@ pub picture_number-md5-requires : goal.picture_number-md5-requires
 picture_number-md5-requires g c =
     let a = c.args.player.now.decoder.accepted in
     let sink = c.play.new.sink in
-    let answer = rw c.in-Ok-Some.field-0-is at c.in-Ok-Some.ensures.answer in
+    let answer = rw c.in-Ok-Coded.field-0-is at c.in-Ok-Coded.ensures.answer in
     let found = c.answer_is_ok_for_coded_pictures.ensures.found a c.play.new.player.payload.items
-    c.args.kept.now sink c.play.new.player.decoder.tally c.in-Ok-Some._info c.requires.accepted
+    c.args.kept.now sink c.play.new.player.decoder.tally c.in-Ok-Coded._info c.requires.accepted
     answer.1 in
     let kept = c.kept_lines_make_up_the_picture.ensures.picture a found.0 c.args.kept.now sink
     c.requires.accepted found.1.picture.fits c.requires.kept.grid c.requires.kept.planes
@@ -40,13 +40,20 @@ picture_number-md5-requires g c =
     subst (AreOf (division_of c.config-checked.result.now.configuration)) c.planes.ensures.value
     (subst (λ (d : Division). AreOf d sink.planes) grid c.planes.ensures.sizes)
 
+-- one more is no more than the list has
+pub overflow_add-met : goal.overflow_add-met
+overflow_add-met g c =
+    let within = has_more c.args.md5s.now c.args.before.md5s c.picture_number-md5.result
+    (sym c.has_md5.ensures ∙ c.if-has_md5.true) in
+    search (rules, within)
+
 pub returns-then-has_md5-clause-answer : goal.returns-then-has_md5-clause-answer
 returns-then-has_md5-clause-answer g c =
     let a = c.args.player.now.decoder.accepted in
     let payload = c.play.new.player.payload.items in
     let tally = c.play.new.player.decoder.tally in
-    let info = c.in-Ok-Some._info in
-    let answer = rw c.in-Ok-Some.field-0-is at c.in-Ok-Some.ensures.answer in
+    let info = c.in-Ok-Coded._info in
+    let answer = rw c.in-Ok-Coded.field-0-is at c.in-Ok-Coded.ensures.answer in
     let found = c.answer_is_ok_for_coded_pictures.ensures.found a payload c.args.kept.now
     c.play.new.sink tally info c.requires.accepted answer.1 in
     let kept = c.kept_lines_make_up_the_picture.ensures.picture a found.0 c.args.kept.now
@@ -57,7 +64,7 @@ returns-then-has_md5-clause-answer g c =
     let md5 : c.picture_number-md5.result ≡ picture_number a found.0 =
     c.picture_number-md5.ensures ∙ ap (λ (x : Accepted). picture_number x (planes_of
     c.planes.result.now)) same ∙ ap (λ (z : Planes). picture_number a z) planes in (
-      record { payload = payload; planes = found.0; said = info; tally = tally },
+      Coded (record { payload = payload; planes = found.0; said = info; tally = tally }),
       record {
         is = record {
           codes = found.1;
@@ -66,21 +73,17 @@ returns-then-has_md5-clause-answer g c =
         };
         reads = answer.0;
       },
-      subst (λ m. is_md5 (slice_get c.args.md5s.now c.args.number) m ≡ true) md5
+      subst (λ m. is_md5 (slice_get c.args.md5s.now c.args.before.md5s) m ≡ true) md5
           (sym c.has_md5.ensures ∙ c.if-has_md5.true),
+      rw c.saturating_add.ensures refl,
     )
-
-pub returns-then-has_md5-clause-within : goal.returns-then-has_md5-clause-within
-returns-then-has_md5-clause-within g c = λ _.
-    has_more c.args.md5s.now c.args.number c.picture_number-md5.result
-    (sym c.has_md5.ensures ∙ c.if-has_md5.true)
 
 pub returns-then-has_md5-clause-kept : goal.returns-then-has_md5-clause-kept
 returns-then-has_md5-clause-kept g c =
     let a = c.args.player.now.decoder.accepted in
-    let answer = rw c.in-Ok-Some.field-0-is at c.in-Ok-Some.ensures.answer in
+    let answer = rw c.in-Ok-Coded.field-0-is at c.in-Ok-Coded.ensures.answer in
     let found = c.answer_is_ok_for_coded_pictures.ensures.found a c.play.new.player.payload.items
-    c.args.kept.now c.play.new.sink c.play.new.player.decoder.tally c.in-Ok-Some._info
+    c.args.kept.now c.play.new.sink c.play.new.player.decoder.tally c.in-Ok-Coded._info
     c.requires.accepted answer.1 in
     let kept = c.kept_lines_make_up_the_picture.ensures.picture a found.0 c.args.kept.now
     c.play.new.sink c.requires.accepted found.1.picture.fits c.requires.kept.grid
@@ -96,8 +99,8 @@ returns-else-has_md5-clause-answer g c =
     let a = c.args.player.now.decoder.accepted in
     let payload = c.play.new.player.payload.items in
     let tally = c.play.new.player.decoder.tally in
-    let info = c.in-Ok-Some._info in
-    let answer = rw c.in-Ok-Some.field-0-is at c.in-Ok-Some.ensures.answer in
+    let info = c.in-Ok-Coded._info in
+    let answer = rw c.in-Ok-Coded.field-0-is at c.in-Ok-Coded.ensures.answer in
     let found = c.answer_is_ok_for_coded_pictures.ensures.found a payload c.args.kept.now
     c.play.new.sink tally info c.requires.accepted answer.1 in
     let kept = c.kept_lines_make_up_the_picture.ensures.picture a found.0 c.args.kept.now
@@ -109,33 +112,45 @@ returns-else-has_md5-clause-answer g c =
     c.picture_number-md5.ensures ∙ ap (λ (x : Accepted). picture_number x (planes_of
     c.planes.result.now)) same ∙ ap (λ (z : Planes). picture_number a z) planes in (
       refl,
-      (
-        record { payload = payload; planes = found.0; said = info; tally = tally },
-        record {
-          is = record {
-            codes = found.1;
-            decided = is_decided Keeps KeepsNot a payload c.args.kept.now c.play.new.sink tally
-                info answer.1;
-          };
-          reads = answer.0;
-        },
-        subst (λ m. is_md5 (slice_get c.args.md5s.now c.args.number) m ≡ false) md5
-            (sym c.has_md5.ensures ∙ c.if-has_md5.false),
-      ),
+      record { payload = payload; planes = found.0; said = info; tally = tally },
+      record {
+        is = record {
+          codes = found.1;
+          decided = is_decided Keeps KeepsNot a payload c.args.kept.now c.play.new.sink tally
+              info answer.1;
+        };
+        reads = answer.0;
+      },
+      subst (λ m. is_md5 (slice_get c.args.md5s.now c.args.before.md5s) m ≡ false) md5
+          (sym c.has_md5.ensures ∙ c.if-has_md5.false),
     )
+
+pub returns-in-Ok-Again-clause-answer : goal.returns-in-Ok-Again-clause-answer
+returns-in-Ok-Again-clause-answer g c =
+    let answer = rw c.in-Ok-Again.field-0-is at c.in-Ok-Again.ensures.answer in (
+      Again,
+      record { is = tt; reads = answer.0 },
+      tt,
+      rw c.saturating_add-in-Ok-Again.ensures refl,
+    )
+
+pub returns-in-Ok-Again-clause-kept : goal.returns-in-Ok-Again-clause-kept
+returns-in-Ok-Again-clause-kept g c =
+    let answer = rw c.in-Ok-Again.field-0-is at c.in-Ok-Again.ensures.answer in
+    subst (IsKeptFor c.args.player.now.decoder.accepted) (sym answer.1) c.requires.kept
 
 pub returns-in-Err-File-clause-answer : goal.returns-in-Err-File-clause-answer
 returns-in-Err-File-clause-answer g c =
     let a = c.args.player.now.decoder.accepted in
-    let line = λ (frame : Frame). frame_number a frame ∷ [] in
+    let line = λ (frame : Frame). map (frame_number a) (coded_frames (frame ∷ [])) in
     let f = of_avi c.in-Err-File.fault in
     let input = passage g.R.ByteIn.remaining g.R.ByteIn.failures c.args.input.now
     c.play.new.input in
-    let old = Some (take c.args.number c.args.md5s.now) in
+    let old = Some (take c.args.before.md5s c.args.md5s.now) in
     let answer = rw c.in-Err-File.field-0-is at c.in-Err-File.ensures.answer in
     inr (subst (λ z. OneStopsBy (IsFrame a) frame_payload line (λ y. Silent (at_rest old 0))
     c.args.player.now.reader.place c.play.new.player.reader.place input (at_rest old 0) z
-    (cause_of z)) (sym c.from.ensures)
+    (cause_of z)) (sym (rw c.in-Err-File.field-0-is at c.from.ensures))
     (file_stops (IsFrame a) frame_payload line c.args.player.now.reader.place
     c.play.new.player.reader.place input old 0 f (cause_of f) answer.0))
 
@@ -147,19 +162,22 @@ returns-in-Err-Payload-clause-answer g c =
     let f = c.in-Err-Payload.fault in
     let answer = rw c.in-Err-Payload.field-0-is at c.in-Err-Payload.ensures.answer in
     let own = c.sinks_of_own_lines_refuse_none.ensures.kept a payload c.args.kept.now
-    c.play.new.sink tally f c.requires.accepted answer.1 c.requires.kept.grid in
+    c.play.new.sink tally f c.requires.accepted answer.2 c.requires.kept.grid in
     let content = decode_cause f.fault (c.answered_fault_is_of_decoding.ensures a payload
-    c.args.kept.now c.play.new.sink tally f answer.1) own in
-    let is = c.from-in-Err-Payload.ensures in
+    c.args.kept.now c.play.new.sink tally f answer.2) own in
+    let is = rw c.in-Err-Payload.field-0-is at c.from-in-Err-Payload.ensures in
     inl (
-      silent (Some (take c.args.number c.args.md5s.now)) 0,
+      silent (Some (take c.args.before.md5s c.args.md5s.now)) 0,
       record {
         payload = payload;
         fault = f;
         tally = tally;
         reads = answer.0;
-        faulty = is_faulty Keeps KeepsNot a payload c.args.kept.now c.play.new.sink tally f own
-            answer.1;
+        faulty = record {
+          some = answer.1;
+          faulty = is_faulty Keeps KeepsNot a payload c.args.kept.now c.play.new.sink tally f own
+              answer.2;
+        };
         is = is;
         content = subst (λ z. cause_of z ≡ Content) (sym is) content;
       },
@@ -173,7 +191,7 @@ returns-in-Err-Payload-clause-own g c =
     let f = c.in-Err-Payload.fault in
     let answer = rw c.in-Err-Payload.field-0-is at c.in-Err-Payload.ensures.answer in
     let own = c.sinks_of_own_lines_refuse_none.ensures.kept a payload c.args.kept.now
-    c.play.new.sink tally f c.requires.accepted answer.1 c.requires.kept.grid in
+    c.play.new.sink tally f c.requires.accepted answer.2 c.requires.kept.grid in
     let decode = c.answered_fault_is_of_decoding.ensures a payload c.args.kept.now c.play.new.sink
-    tally f answer.1 in
-    inl (ap is_telling_fault c.from-in-Err-Payload.ensures ∙ payload_tells f.fault decode own)
+    tally f answer.2 in
+    inl (ap is_telling_fault (rw c.in-Err-Payload.field-0-is at c.from-in-Err-Payload.ensures) ∙ payload_tells f.fault decode own)

@@ -1,22 +1,21 @@
 -- Decodes all frames that are left, and writes the line of each picture as soon as it is decoded.
-use Rattle.std.proofs.Common.{◌≡◌, refl, Ok, Err, subst, sym, ◌∙◌, ◌==◌, [], ◌∷◌, ◌++◌, length, arith}
+use Rattle.std.proofs.Common.{◌≡◌, refl, Ok, Err, ap, not, subst, sym, ◌∙◌, [], ◌∷◌, ◌++◌, length, arith}
 use Rattle.std.proofs.lemmas.Result.{err_from_is_err_and}
 use Rattle.ffv1_range.specs.Counts.{saturated}
 use Rattle.ffv1_wire.specs.Passage.{passage}
 use Rattle.ffv1_codec.specs.SliceList.{Said}
 use Rattle.ffv1_unpack.specs.FrameMd5.{md5_from}
-use Rattle.ffv1_unpack.specs.Internal.FrameMd5.{frame_md5}
+use Rattle.ffv1_unpack.specs.Internal.FrameMd5.{Md5Answers, begun_by, frame_md5}
 use Rattle.ffv1_unpack.specs.Internal.Opens.{stream_of}
 use Rattle.ffv1_video.specs.KeptLines.{IsKeptFor}
 use Rattle.ffv1_unpack.specs.Internal.PicturesOut.{head_saying}
-use Rattle.ffv1_unpack.specs.Internal.Plays.{NextAnswers}
 use Rattle.ffv1_unpack.specs.Ranges.{number_in}
 use Rattle.ffv1_unpack.specs.Stream.{IsFrame, frame_payload}
 use Rattle.ffv1_unpack.specs.Unpacked.{video_of}
 use Rattle.ffv1_unpack.proofs.FramesPlayed.{none_at_most, one_at_most, play_stops, played_more}
 use Rattle.ffv1_unpack.proofs.FramesPlayed.{played_none, played_over, plays_full, wants_memory}
 use Rattle.ffv1_unpack.proofs.FramesInTurn.{counted_more}
-use Rattle.ffv1_unpack.proofs.Md5sSoFar.{text_more}
+use Rattle.ffv1_unpack.proofs.Md5sSoFar.{begun_more, text_more}
 use Rattle.ffv1_unpack.proofs.PicturesWritten.{heads_of}
 use Rattle.ffv1_video.proofs.KeptLines.{zeros_kept}
 use Rattle.std.proofs.Common.{true, false}
@@ -51,6 +50,7 @@ frames-init g c =
             (g.W.ByteOut.contents c.args.output.now)
             (g.R.ByteIn.failures c.args.input.now) (g.W.ByteOut.failures c.args.output.now),
         none_at_most c.args.range.count,
+        refl,
       ),
       refl,
       (λ scope text stands. stands),
@@ -65,8 +65,8 @@ returns-in_err-write_next-clause-err g c =
     let h = c.frames.lines.head in
     let i = c.frames.invariant in
     let so = i.4.0 in
-    let numbered : c.saturating_add.result ≡ number_in c.args.range (length so.frames) =
-    omega (arith, c.saturating_add.ensures, so.is) in
+    let numbered : c.saturating_add-number.result ≡ number_in c.args.range (length so.frames) =
+    omega (arith, c.saturating_add-number.ensures, so.is) in
     let f = c.in_err-write_next.field-0.0 in
     let to = c.frames.player.reader.place in
     let last = c.write_next.new.player.reader.place in
@@ -74,8 +74,8 @@ returns-in_err-write_next-clause-err g c =
     c.write_next.new.input in
     let output = passage g.W.ByteOut.contents g.W.ByteOut.failures c.frames.output
     c.write_next.new.output in
-    let answer = subst (λ z. NextAnswers z (frame_md5 z h (c.frames.count == 0) c.saturating_add.result) to last input output c.write_next.new.player.notes
-    (Err f)) i.1 c.in_err-write_next.ensures.answer in
+    let answer = subst (λ z. Md5Answers z h c.frames.lines.begun c.saturating_add-number.result to last input output c.write_next.new.player.notes
+    c.write_next.new.lines.begun (Err f)) i.1 c.in_err-write_next.ensures.answer in
     rw (p.1, p.2)
     (play_stops a (md5_from c.args.range.first s) c.args.player.now.reader.place to last c.frames.count
     (g.R.ByteIn.remaining c.args.input.now) (g.R.ByteIn.remaining c.frames.input)
@@ -86,8 +86,8 @@ returns-in_err-write_next-clause-err g c =
     (g.R.ByteIn.failures c.write_next.new.input)
     (g.W.ByteOut.failures c.args.output.now) (g.W.ByteOut.failures c.frames.output)
     (g.W.ByteOut.failures c.write_next.new.output)
-    so (frame_md5 a h (c.frames.count == 0) c.saturating_add.result) (λ z. text_more s h i.3 c.args.range so.frames z c.frames.count
-    c.saturating_add.result so.is numbered) f answer)
+    so (frame_md5 a h (not c.frames.lines.begun) c.saturating_add-number.result) (λ z. text_more s h i.3 c.args.range so.frames z c.frames.lines.begun
+    c.saturating_add-number.result i.4.2 numbered) f answer)
 
 pub returns-in_err-write_next-clause-own : goal.returns-in_err-write_next-clause-own
 returns-in_err-write_next-clause-own g c =
@@ -106,8 +106,8 @@ frames-preserved g c =
     let h = c.frames.lines.head in
     let i = c.frames.invariant in
     let so = i.4.0 in
-    let numbered : c.saturating_add.result ≡ number_in c.args.range (length so.frames) =
-    omega (arith, c.saturating_add.ensures, so.is) in
+    let numbered : c.saturating_add-number.result ≡ number_in c.args.range (length so.frames) =
+    omega (arith, c.saturating_add-number.ensures, so.is) in
     let room = sym (c.has_more.ensures (length so.frames) so.is) ∙ c.frames-test.true in
     let to = c.frames.player.reader.place in
     let last = c.write_next.new.player.reader.place in
@@ -116,10 +116,11 @@ frames-preserved g c =
     let output = passage g.W.ByteOut.contents g.W.ByteOut.failures c.frames.output
     c.write_next.new.output in
     let answer =
-    subst (λ b. NextAnswers a (frame_md5 a h (c.frames.count == 0) c.saturating_add.result) to last input output c.write_next.new.player.notes (Ok b))
+    subst (λ b. Md5Answers a h c.frames.lines.begun c.saturating_add-number.result to last input output c.write_next.new.player.notes
+    c.write_next.new.lines.begun (Ok b))
     c.if-not-branch.false
-    (subst (λ z. NextAnswers z (frame_md5 z h (c.frames.count == 0) c.saturating_add.result) to last input output c.write_next.new.player.notes
-    (Ok c.in_ok-write_next.field-0)) i.1 c.in_ok-write_next.ensures.answer) in
+    (subst (λ z. Md5Answers z h c.frames.lines.begun c.saturating_add-number.result to last input output c.write_next.new.player.notes
+    c.write_next.new.lines.begun (Ok c.in_ok-write_next.field-0)) i.1 c.in_ok-write_next.ensures.answer) in
     let f = answer.0 in
     let next : c.saturating_add-count.result ≡ saturated (length (so.frames ++ (f ∷ []))) =
     omega (arith, c.saturating_add-count.ensures, so.is, counted_more so.frames f) in (
@@ -138,11 +139,12 @@ frames-preserved g c =
             (g.R.ByteIn.failures c.write_next.new.input)
             (g.W.ByteOut.failures c.args.output.now) (g.W.ByteOut.failures c.frames.output)
             (g.W.ByteOut.failures c.write_next.new.output)
-            so (frame_md5 a h (c.frames.count == 0) c.saturating_add.result)
-            (λ z. text_more s h i.3 c.args.range so.frames z c.frames.count
-            c.saturating_add.result so.is numbered) f
+            so (frame_md5 a h (not c.frames.lines.begun) c.saturating_add-number.result)
+            (λ z. text_more s h i.3 c.args.range so.frames z c.frames.lines.begun
+            c.saturating_add-number.result i.4.2 numbered) f
             c.saturating_add-count.result next answer.1 answer.2 answer.3,
         one_at_most c.args.range.count so.frames f room,
+        answer.4 ∙ ap (λ b. begun_by b f) i.4.2 ∙ begun_more so.frames f,
       ),
       c.in_ok-write_next.ensures.container ∙ i.5,
       (λ scope text stands. c.in_ok-write_next.ensures.reached c.if-not-branch.false scope text
@@ -163,10 +165,11 @@ returns-then-not-branch-clause-ok g c =
     let output = passage g.W.ByteOut.contents g.W.ByteOut.failures c.frames.output
     c.write_next.new.output in
     let answer =
-    subst (λ b. NextAnswers a (frame_md5 a h (c.frames.count == 0) c.saturating_add.result) to last input output c.write_next.new.player.notes (Ok b))
+    subst (λ b. Md5Answers a h c.frames.lines.begun c.saturating_add-number.result to last input output c.write_next.new.player.notes
+    c.write_next.new.lines.begun (Ok b))
     c.if-not-branch.true
-    (subst (λ z. NextAnswers z (frame_md5 z h (c.frames.count == 0) c.saturating_add.result) to last input output c.write_next.new.player.notes
-    (Ok c.in_ok-write_next.field-0)) i.1 c.in_ok-write_next.ensures.answer) in (
+    (subst (λ z. Md5Answers z h c.frames.lines.begun c.saturating_add-number.result to last input output c.write_next.new.player.notes
+    c.write_next.new.lines.begun (Ok c.in_ok-write_next.field-0)) i.1 c.in_ok-write_next.ensures.answer) in (
       so.frames,
       so.is,
       played_over a (md5_from c.args.range.first (stream_of c.args.player.now.reader a))
@@ -179,7 +182,7 @@ returns-then-not-branch-clause-ok g c =
           (g.R.ByteIn.failures c.write_next.new.input)
           (g.W.ByteOut.failures c.args.output.now) (g.W.ByteOut.failures c.frames.output)
           (g.W.ByteOut.failures c.write_next.new.output)
-          so c.write_next.new.player.notes c.args.range.count room i.4.1 answer.0 answer.1,
+          so c.write_next.new.player.notes c.args.range.count room i.4.1 answer.0.0 answer.0.1,
     )
 
 pub returns-then-not-branch-clause-noted : goal.returns-then-not-branch-clause-noted

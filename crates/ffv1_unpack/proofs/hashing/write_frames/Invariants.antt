@@ -4,6 +4,7 @@ use Rattle.ffv1_codec.specs.SliceList.{Said}
 use Rattle.ffv1_files.specs.Places.{amount, container_of}
 use Rattle.ffv1_unpack.specs.FrameMd5.{md5_from}
 use Rattle.ffv1_unpack.specs.Plays.{AtMost}
+use Rattle.ffv1_unpack.specs.Internal.FrameMd5.{is_begun}
 use Rattle.ffv1_unpack.specs.Internal.Located.{StaysReached}
 use Rattle.ffv1_unpack.specs.Internal.Opens.{stream_of}
 use Rattle.ffv1_video.specs.KeptLines.{IsKeptFor}
@@ -22,7 +23,8 @@ invariant-frames g l =
     (stream_of l.fn.player.reader l.fn.player.decoder.accepted)) l.fn.player.reader.place
     (passage g.R.ByteIn.remaining g.R.ByteIn.failures l.initial.input l.input)
     (passage g.W.ByteOut.contents g.W.ByteOut.failures l.initial.output l.output) l.count
-    l.player.reader.place) × AtMost l.range.count (length so.frames))
+    l.player.reader.place) × AtMost l.range.count (length so.frames)
+    × (l.lines.begun ≡ is_begun so.frames))
     × (container_of l.player.reader.place ≡ container_of l.fn.player.reader.place)
     × StaysReached l.fn.player.reader l.player.reader
     (passage g.R.ByteIn.remaining g.R.ByteIn.failures l.initial.input l.input)

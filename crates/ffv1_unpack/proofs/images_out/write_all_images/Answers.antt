@@ -6,6 +6,7 @@ use Rattle.ffv1_wire.specs.Passage.{passage}
 use Rattle.ffv1_video.specs.Faults.{cause_of}
 use Rattle.ffv1_unpack.specs.Internal.ImagesOut.{WritesImage}
 use Rattle.ffv1_unpack.specs.Internal.Opens.{stream_of}
+use Rattle.ffv1_unpack.specs.Stream.{AreFrames}
 use Rattle.ffv1_unpack.proofs.FramesInTurn.{counted_more}
 use Rattle.ffv1_unpack.proofs.FramesPlayed.{none_at_most, one_at_most}
 use Rattle.ffv1_unpack.proofs.FramesUnpacked.{unpacks_full}
@@ -32,6 +33,7 @@ frames-init g c =
               (g.W.ByteOut.failures c.args.sink.now.out);
         },
         none_at_most c.args.most,
+        c.new-last.ensures.items,
       ),
       refl,
       (λ scope text stands. stands),
@@ -55,7 +57,9 @@ returns-in_err-write_next-clause-err g c =
     (g.R.ByteIn.failures c.write_next.new.input)
     (g.W.ByteOut.failures c.args.sink.now.out) (g.W.ByteOut.failures c.frames.sink.out)
     (g.W.ByteOut.failures c.write_next.new.sink.out)
-    so.frames so.un f (cause_of f) (rw same at c.in_err-write_next.ensures.answer))
+    so.frames so.un f (cause_of f) (rw same at
+    (c.in_err-write_next.ensures.answer so.frames
+    (subst (λ z. AreFrames z so.frames) (sym same) so.un.so.are) c.frames.invariant.3.2)))
 
 pub returns-in_err-write_next-clause-own : goal.returns-in_err-write_next-clause-own
 returns-in_err-write_next-clause-own g c =
@@ -75,17 +79,20 @@ frames-preserved g c =
     c.write_next.new.input in
     let writing = passage g.W.ByteOut.contents g.W.ByteOut.failures c.frames.sink.out
     c.write_next.new.sink.out in
-    let answer = subst (λ b. WritesImage a c.frames.player.reader.place
-    c.write_next.new.player.reader.place reading writing c.write_next.new.player.notes (Ok b)) c.if-not-branch.false
-    (subst (λ z. WritesImage z c.frames.player.reader.place c.write_next.new.player.reader.place
-    reading writing c.write_next.new.player.notes (Ok c.in_ok-write_next.field-0)) same
-    c.in_ok-write_next.ensures.answer) in
+    let answer = subst (λ b. WritesImage a so.frames c.frames.player.reader.place
+    c.write_next.new.player.reader.place reading writing c.write_next.new.player.notes c.write_next.new.last.items (Ok b)) c.if-not-branch.false
+    (subst (λ z. WritesImage z so.frames c.frames.player.reader.place c.write_next.new.player.reader.place
+    reading writing c.write_next.new.player.notes c.write_next.new.last.items (Ok c.in_ok-write_next.field-0)) same
+    (c.in_ok-write_next.ensures.answer so.frames
+    (subst (λ z. AreFrames z so.frames) (sym same) so.un.so.are) c.frames.invariant.3.2)) in
     let f = answer.0 in
     let next : c.saturating_add-count.result ≡ saturated (length (so.frames ++ (f ∷ []))) =
     omega (arith, c.saturating_add-count.ensures, so.is, counted_more so.frames f) in (
       c.in_ok-write_next.ensures.sound,
       c.in_ok-write_next.ensures.same ∙ same,
-      rw same at c.in_ok-write_next.ensures.sink,
+      rw same at
+          (c.in_ok-write_next.ensures.sink so.frames
+          (subst (λ z. AreFrames z so.frames) (sym same) so.un.so.are) c.frames.invariant.3.2),
       (
         record {
           frames = so.frames ++ (f ∷ []);
@@ -105,6 +112,7 @@ frames-preserved g c =
               so.frames so.un f answer.1 answer.2 answer.3;
         },
         one_at_most c.args.most so.frames f room,
+        answer.4,
       ),
       c.in_ok-write_next.ensures.container ∙ c.frames.invariant.4,
       (λ scope text stands. c.in_ok-write_next.ensures.reached c.if-not-branch.false scope text
@@ -121,11 +129,12 @@ returns-then-not-branch-clause-ok g c =
     c.write_next.new.input in
     let writing = passage g.W.ByteOut.contents g.W.ByteOut.failures c.frames.sink.out
     c.write_next.new.sink.out in
-    let answer = subst (λ b. WritesImage a c.frames.player.reader.place
-    c.write_next.new.player.reader.place reading writing c.write_next.new.player.notes (Ok b)) c.if-not-branch.true
-    (subst (λ z. WritesImage z c.frames.player.reader.place c.write_next.new.player.reader.place
-    reading writing c.write_next.new.player.notes (Ok c.in_ok-write_next.field-0)) same
-    c.in_ok-write_next.ensures.answer) in (
+    let answer = subst (λ b. WritesImage a so.frames c.frames.player.reader.place
+    c.write_next.new.player.reader.place reading writing c.write_next.new.player.notes c.write_next.new.last.items (Ok b)) c.if-not-branch.true
+    (subst (λ z. WritesImage z so.frames c.frames.player.reader.place c.write_next.new.player.reader.place
+    reading writing c.write_next.new.player.notes c.write_next.new.last.items (Ok c.in_ok-write_next.field-0)) same
+    (c.in_ok-write_next.ensures.answer so.frames
+    (subst (λ z. AreFrames z so.frames) (sym same) so.un.so.are) c.frames.invariant.3.2)) in (
       so.frames,
       so.is,
       images_over (stream_of c.args.player.now.reader a) c.requires.colour

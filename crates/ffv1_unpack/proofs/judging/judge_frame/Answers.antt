@@ -11,24 +11,24 @@ use Rattle.ffv1_unpack.specs.Located.{WritesLine, WritesLocated, located_text}
 use Rattle.ffv1_unpack.specs.Internal.Located.{LocatedAfter}
 use Rattle.ffv1_unpack.specs.Judged.{IsJudged, judged_line, payload_of}
 use Rattle.ffv1_unpack.specs.Internal.Judged.{JudgeStopsBy, one_counted}
-use Rattle.ffv1_unpack.specs.Judged.Judged.{Decoded, Refused}
-use Rattle.ffv1_unpack.specs.Stream.{Frame}
+use Rattle.ffv1_unpack.specs.Judged.Judged.{Decoded, Refused, Repeats}
+use Rattle.ffv1_unpack.specs.Stream.{CodedFrame}
 use Rattle.ffv1_unpack.proofs.FrameDecoded.{is_decided, is_faulty}
 use Rattle.ffv1_unpack.proofs.FramesPlayed.{file_refused, line_stops}
 use Rattle.ffv1_unpack.proofs.judging.judge_frame.Goals as goal
 
-pub returns-in_err-write_line-in-Ok-Some-clause-answer :
-    goal.returns-in_err-write_line-in-Ok-Some-clause-answer
-returns-in_err-write_line-in-Ok-Some-clause-answer g c =
+pub returns-in_err-write_line-in-Ok-Coded-clause-answer :
+    goal.returns-in_err-write_line-in-Ok-Coded-clause-answer
+returns-in_err-write_line-in-Ok-Coded-clause-answer g c =
     let p = err_from_is_err_and c.from_residual.result c.from_residual.ensures.1 in
     let a = c.args.player.now.decoder.accepted in
     let payload = c.play.new.player.payload.items in
     let tally = c.play.new.player.decoder.tally in
-    let info = c.in-Ok-Some._info in
-    let answer = rw c.in-Ok-Some.field-0-is at c.in-Ok-Some.ensures.answer in
+    let info = c.in-Ok-Coded._info in
+    let answer = rw c.in-Ok-Coded.field-0-is at c.in-Ok-Coded.ensures.answer in
     let found = c.answer_is_ok_for_coded_pictures.ensures.found a payload c.new-sink.result
     c.play.new.sink tally info c.requires.accepted answer.1 in
-    let frame : Frame = record {
+    let frame : CodedFrame = record {
       payload = payload;
       planes = found.0;
       said = info;
@@ -46,21 +46,21 @@ returns-in_err-write_line-in-Ok-Some-clause-answer g c =
     (λ z. WritesLocated (LocatedAfter c.args.player.now.reader reading) c.args.judging.places.byte
     c.args.judging.number [] z writing) c.args.player.now.reader.place
     c.play.new.player.reader.place
-    reading writing (Decoded frame) c.in_err-write_line-in-Ok-Some.field-0.0
+    reading writing (Decoded frame) c.in_err-write_line-in-Ok-Coded.field-0.0
     (record { is = record { codes = found.1; decided = decided }; reads = answer.0 })
-    (rw (c.play.ensures.same, c.deref.ensures.value) at c.in_err-write_line-in-Ok-Some.ensures))
+    (rw (c.play.ensures.same, c.deref.ensures.value) at c.in_err-write_line-in-Ok-Coded.ensures))
 
-pub returns-in_ok-write_line-in-Ok-Some-clause-answer :
-    goal.returns-in_ok-write_line-in-Ok-Some-clause-answer
-returns-in_ok-write_line-in-Ok-Some-clause-answer g c =
+pub returns-in_ok-write_line-in-Ok-Coded-clause-answer :
+    goal.returns-in_ok-write_line-in-Ok-Coded-clause-answer
+returns-in_ok-write_line-in-Ok-Coded-clause-answer g c =
     let a = c.args.player.now.decoder.accepted in
     let payload = c.play.new.player.payload.items in
     let tally = c.play.new.player.decoder.tally in
-    let info = c.in-Ok-Some._info in
-    let answer = rw c.in-Ok-Some.field-0-is at c.in-Ok-Some.ensures.answer in
+    let info = c.in-Ok-Coded._info in
+    let answer = rw c.in-Ok-Coded.field-0-is at c.in-Ok-Coded.ensures.answer in
     let found = c.answer_is_ok_for_coded_pictures.ensures.found a payload c.new-sink.result
     c.play.new.sink tally info c.requires.accepted answer.1 in
-    let frame : Frame = record {
+    let frame : CodedFrame = record {
       payload = payload;
       planes = found.0;
       said = info;
@@ -69,12 +69,44 @@ returns-in_ok-write_line-in-Ok-Some-clause-answer g c =
     let decided = is_decided Drops DropsNot a payload c.new-sink.result c.play.new.sink tally info
     answer.1 in
     let writes = rw (c.play.ensures.same, c.deref.ensures.value) at
-    c.in_ok-write_line-in-Ok-Some.ensures in (
+    c.in_ok-write_line-in-Ok-Coded.ensures in (
       Decoded frame,
       record { is = record { codes = found.1; decided = decided }; reads = answer.0 },
       writes.0,
       writes.1,
       c.count.ensures,
+    )
+
+pub returns-in_err-write_again-in-Ok-Again-clause-answer :
+    goal.returns-in_err-write_again-in-Ok-Again-clause-answer
+returns-in_err-write_again-in-Ok-Again-clause-answer g c =
+    let p = err_from_is_err_and c.from_residual-in_err-write_again-in-Ok-Again.result
+    c.from_residual-in_err-write_again-in-Ok-Again.ensures.1 in
+    let a = c.args.player.now.decoder.accepted in
+    let answer = rw c.in-Ok-Again.field-0-is at c.in-Ok-Again.ensures.answer in
+    let reading = passage g.R.ByteIn.remaining g.R.ByteIn.failures c.args.input.now
+    c.play.new.input in
+    let writing = passage g.W.ByteOut.contents g.W.ByteOut.failures c.args.output.now
+    c.write_again.new.output in
+    rw (p.1, p.2)
+    (line_stops (IsJudged a) payload_of (judged_line c.args.judging.places.place a.configuration
+    c.args.judging.number)
+    (λ z. WritesLocated (LocatedAfter c.args.player.now.reader reading) c.args.judging.places.byte
+    c.args.judging.number [] z writing) c.args.player.now.reader.place
+    c.play.new.player.reader.place
+    reading writing Repeats c.in_err-write_again-in-Ok-Again.field-0.0
+    (record { is = tt; reads = answer.0 }) c.in_err-write_again-in-Ok-Again.ensures)
+
+pub returns-in_ok-write_again-in-Ok-Again-clause-answer :
+    goal.returns-in_ok-write_again-in-Ok-Again-clause-answer
+returns-in_ok-write_again-in-Ok-Again-clause-answer g c =
+    let answer = rw c.in-Ok-Again.field-0-is at c.in-Ok-Again.ensures.answer in
+    let writes = c.in_ok-write_again-in-Ok-Again.ensures in (
+      Repeats,
+      record { is = tt; reads = answer.0 },
+      writes.0,
+      writes.1,
+      c.count-in-Ok-Again.ensures,
     )
 
 pub returns-in_err-write_refusal-in-Err-Payload-clause-answer :
@@ -90,7 +122,7 @@ returns-in_err-write_refusal-in-Err-Payload-clause-answer g c =
     let grid = ap (λ (z : Dropped). z.grid) c.new-sink.ensures ∙
     ap (λ (z : Accepted). division_of z.configuration) c.config.ensures in
     let own = c.sinks_of_own_lines_refuse_none.ensures.dropped a payload c.new-sink.result
-    c.play.new.sink tally f c.requires.accepted answer.1 grid in
+    c.play.new.sink tally f c.requires.accepted answer.2 grid in
     let reading = passage g.R.ByteIn.remaining g.R.ByteIn.failures c.args.input.now
     c.play.new.input in
     let writing = passage g.W.ByteOut.contents g.W.ByteOut.failures c.args.output.now
@@ -103,8 +135,11 @@ returns-in_err-write_refusal-in-Err-Payload-clause-answer g c =
     c.play.new.player.reader.place
     reading writing (Refused payload f tally) c.in_err-write_refusal-in-Err-Payload.field-0.0
     (record {
-      is = is_faulty Drops DropsNot a payload c.new-sink.result c.play.new.sink tally f own
-          answer.1;
+      is = record {
+        some = answer.1;
+        faulty = is_faulty Drops DropsNot a payload c.new-sink.result c.play.new.sink tally f own
+            answer.2;
+      };
       reads = answer.0;
     })
     c.in_err-write_refusal-in-Err-Payload.ensures)
@@ -120,12 +155,15 @@ returns-in_ok-write_refusal-in-Err-Payload-clause-answer g c =
     let grid = ap (λ (z : Dropped). z.grid) c.new-sink.ensures ∙
     ap (λ (z : Accepted). division_of z.configuration) c.config.ensures in
     let own = c.sinks_of_own_lines_refuse_none.ensures.dropped a payload c.new-sink.result
-    c.play.new.sink tally f c.requires.accepted answer.1 grid in
+    c.play.new.sink tally f c.requires.accepted answer.2 grid in
     let writes = c.in_ok-write_refusal-in-Err-Payload.ensures in (
       Refused payload f tally,
       record {
-        is = is_faulty Drops DropsNot a payload c.new-sink.result c.play.new.sink tally f own
-            answer.1;
+        is = record {
+          some = answer.1;
+          faulty = is_faulty Drops DropsNot a payload c.new-sink.result c.play.new.sink tally f own
+              answer.2;
+        };
         reads = answer.0;
       },
       writes.0,

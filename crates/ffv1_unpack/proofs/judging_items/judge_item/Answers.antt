@@ -150,3 +150,14 @@ returns-in_ok-write_told-in-Told-clause-answer g c =
       writes.1,
       c.tell.ensures ∙ ap (told_counted c.args.judging.now.counts) c.from-in-Told.ensures,
     )
+
+pub returns-in-End-clause-cued : goal.returns-in-End-clause-cued
+returns-in-End-clause-cued g c = c.in-Ok.ensures.cued c.requires.sound
+
+pub returns-in_ok-judge_payload-in-Frame-clause-cued :
+    goal.returns-in_ok-judge_payload-in-Frame-clause-cued
+returns-in_ok-judge_payload-in-Frame-clause-cued g c =
+    rw c.judge_payload.ensures.cued (c.in-Ok.ensures.cued c.requires.sound)
+
+pub returns-in_ok-write_told-in-Told-clause-cued : goal.returns-in_ok-write_told-in-Told-clause-cued
+returns-in_ok-write_told-in-Told-clause-cued g c = c.in-Ok.ensures.cued c.requires.sound

@@ -1,13 +1,18 @@
 -- Judges all items of a Segment that are left, and writes the lines of each as soon as it is judged.
-use Rattle.std.proofs.Common.{◌≡◌, refl, ◌∙◌, arith}
+use Rattle.std.proofs.Common.{◌≡◌, ◌-◌, ◌+◌, suc, None, Some, refl, ◌∙◌, arith}
 use Rattle.std.proofs.lemmas.Result.{err_from_is_err_and}
 use Rattle.ffv1_range.specs.Counts.{saturated}
 use Rattle.ffv1_files.specs.Items.{course_of}
 use Rattle.ffv1_video.specs.Faults.{cause_of}
+use Rattle.ffv1_matroska.proofs.CuedTurns.{cued_begins, cued_told}
+use Rattle.ffv1_unpack.specs.ItemsEnd.{cued_left}
+use Rattle.ffv1_unpack.specs.JudgedItems.{given_as}
+use Rattle.ffv1_unpack.proofs.ItemsCued.{cued_came, cued_many}
 use Rattle.ffv1_unpack.proofs.ItemsJudged.{so_more, so_none, so_stops}
 use Rattle.ffv1_unpack.proofs.judging_items.judge_items.Goals as goal
 
 pub loop-item-init : goal.loop-item-init
+unfolding cued_left
 loop-item-init g c =
     let none : 0 ≡ saturated 0 = omega arith in
     rw c.course.ensures (
@@ -18,6 +23,8 @@ loop-item-init g c =
           (g.W.ByteOut.contents c.args.output.now) (g.R.ByteIn.failures c.args.input.now)
           (g.W.ByteOut.failures c.args.output.now) _
           (record { frames = none; faults = none; first = refl }),
+      cued_begins (cued_left c.args.player.now.reader.place (course_of c.args.player.now.reader)
+          c.args.player.now.cued) _,
     )
 
 pub returns-in_err-judge_item-clause-err : goal.returns-in_err-judge_item-clause-err
@@ -58,6 +65,9 @@ loop-item-preserved g c =
     let accepted = c.loop-item.invariant.1 in
     let so = c.loop-item.invariant.2 in
     let last = c.judge_item.ensures.reader ∙ reader in
+    let most = 18446744073709551615 - (c.loop-item._item + 1) in
+    let left : 18446744073709551615 - c.loop-item._item ≡ suc most = omega
+    (arith, c.loop-item-test.true) in
     let answer = rw (c.if-not-branch.false, last, reader, accepted) at
     c.in_ok-judge_item.ensures.answer in (
       last,
@@ -72,4 +82,37 @@ loop-item-preserved g c =
           (g.W.ByteOut.failures c.args.output.now) (g.W.ByteOut.failures c.loop-item.output)
           (g.W.ByteOut.failures c.judge_item.new.output) so
           c.judge_item.new.judging.counts answer.0 answer.1 answer.2 answer.3 answer.4,
+      cued_came (cued_left from course c.args.player.now.cued) most from at
+          c.loop-item.player.cued _ (Some (given_as answer.0, from, next)) _ _ _
+          (rw left at c.loop-item.invariant.3)
+          (rw reader at c.in_ok-judge_item.ensures.cued) answer.1.next,
     )
+
+pub returns-then-not-branch-clause-cued : goal.returns-then-not-branch-clause-cued
+returns-then-not-branch-clause-cued g c =
+    let from = c.args.player.now.reader.place in
+    let course = course_of c.args.player.now.reader in
+    let at = c.loop-item.judging.course in
+    let reader = c.loop-item.invariant.0 in
+    let most = 18446744073709551615 - (c.loop-item._item + 1) in
+    let left : 18446744073709551615 - c.loop-item._item ≡ suc most = omega
+    (arith, c.loop-item-test.true) in
+    let answer = rw (c.if-not-branch.true, reader) at c.in_ok-judge_item.ensures.answer in
+    cued_told (cued_left from course c.args.player.now.cued) _ _ _
+    (cued_came (cued_left from course c.args.player.now.cued) most from at
+    c.loop-item.player.cued _ None _ _ _ (rw left at c.loop-item.invariant.3)
+    (rw reader at c.in_ok-judge_item.ensures.cued) answer.1)
+
+pub returns-clause-cued : goal.returns-clause-cued
+returns-clause-cued g c =
+    let left = 18446744073709551615 - c.loop-item._item in
+    let none : left ≡ 0 = omega (arith, c.loop-item-test.false) in
+    cued_many (cued_left c.args.player.now.reader.place (course_of c.args.player.now.reader)
+    c.args.player.now.cued) left c.args.player.now.reader.place c.loop-item.judging.course
+    c.loop-item.player.cued _ _ none c.loop-item.invariant.3
+
+pub returns-then-not-branch-clause-reader : goal.returns-then-not-branch-clause-reader
+returns-then-not-branch-clause-reader g c = c.judge_item.ensures.reader ∙ c.loop-item.invariant.0
+
+pub returns-clause-reader : goal.returns-clause-reader
+returns-clause-reader g c = c.loop-item.invariant.0

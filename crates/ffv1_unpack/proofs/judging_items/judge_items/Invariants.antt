@@ -1,4 +1,6 @@
-use Rattle.std.proofs.Common.{◌≡◌}
+use Rattle.std.proofs.Common.{◌≡◌, ◌-◌}
+use Rattle.ffv1_matroska.proofs.CuedTurns.{CuedSoFar}
+use Rattle.ffv1_unpack.specs.ItemsEnd.{cued_left, cued_up_to}
 use Rattle.ffv1_wire.specs.Passage.{passage}
 use Rattle.ffv1_files.specs.Items.{course_of}
 use Rattle.ffv1_unpack.proofs.ItemsJudged.{ItemsSo}
@@ -13,3 +15,6 @@ invariant-loop-item g l =
     (passage g.R.ByteIn.remaining g.R.ByteIn.failures l.initial.input l.input)
     (passage g.W.ByteOut.contents g.W.ByteOut.failures l.initial.output l.output) l._item
     l.judging.counts l.fn.player.reader.place l.judging.course
+    × CuedSoFar (cued_left l.fn.player.reader.place (course_of l.fn.player.reader) l.fn.player.cued)
+    (cued_up_to (18446744073709551615 - l._item) l.fn.player.reader.place l.judging.course
+    l.player.cued) (g.R.ByteIn.remaining l.initial.input) (g.R.ByteIn.remaining l.input)

@@ -2,7 +2,7 @@
 use Rattle.std.proofs.Common.{◌∙◌, inl, inr, refl}
 use Rattle.ffv1_codec.specs.Lines.{lines_of}
 use Rattle.ffv1_codec.specs.Outcome.{lines_before}
-use Rattle.ffv1_unpack.specs.Stream.{Frame}
+use Rattle.ffv1_unpack.specs.Stream.{CodedFrame}
 use Rattle.ffv1_unpack.proofs.picture_out.keep_picture.Goals as goal
 
 pub returns-in-Ok-clause-ok : goal.returns-in-Ok-clause-ok
@@ -12,7 +12,7 @@ returns-in-Ok-clause-ok g c =
     let tally = c.decode.new.self.tally in
     let info = c.in-Ok.info in
     let found = c.in-Ok.ensures.headline.found info refl in
-    let frame : Frame = record {
+    let frame : CodedFrame = record {
       payload = payload;
       planes = found.0;
       said = info;

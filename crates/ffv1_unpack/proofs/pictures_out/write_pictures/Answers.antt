@@ -7,13 +7,14 @@ use Rattle.ffv1_codec.specs.SliceList.{Said}
 use Rattle.ffv1_video.specs.Faults.{cause_of}
 use Rattle.ffv1_unpack.specs.Internal.Opens.{stream_of}
 use Rattle.ffv1_video.specs.KeptLines.{IsKeptFor}
-use Rattle.ffv1_unpack.specs.Internal.PicturesOut.{WritesNext, begun_behind, head_saying, said_in}
-use Rattle.ffv1_unpack.specs.Unpacked.{video_of}
+use Rattle.ffv1_unpack.specs.Internal.PicturesOut.{KeepsLast, WritesNext, begun_behind, head_saying}
+use Rattle.ffv1_unpack.specs.Stream.{shown_frames}
+use Rattle.ffv1_unpack.specs.Unpacked.{AlikeBy, video_of}
 use Rattle.ffv1_unpack.specs.Plays.{AtMost}
 use Rattle.ffv1_unpack.proofs.FramesInTurn.{counted_more}
 use Rattle.ffv1_unpack.proofs.FramesPlayed.{none_at_most, one_at_most}
 use Rattle.ffv1_unpack.proofs.FramesUnpacked.{unpacks_full}
-use Rattle.ffv1_unpack.proofs.PicturesWritten.{UnpackedSo, begun_more, heads_of}
+use Rattle.ffv1_unpack.proofs.PicturesWritten.{UnpackedSo, begun_then, heads_of, keeps_next, keeps_none}
 use Rattle.ffv1_unpack.proofs.PicturesWritten.{unpacked_more, unpacked_none, unpacked_over}
 use Rattle.ffv1_unpack.proofs.PicturesWritten.{unpacking_stops, wants_memory}
 use Rattle.ffv1_video.proofs.KeptLines.{zeros_kept}
@@ -50,6 +51,7 @@ frames-init g c =
               (g.R.ByteIn.remaining c.args.input.now) (g.W.ByteOut.contents c.args.output.now)
               (g.R.ByteIn.failures c.args.input.now) (g.W.ByteOut.failures c.args.output.now);
           begun_is = refl;
+          keeps = keeps_none c.in_ok-kept.kept.planes;
         },
         none_at_most c.args.most,
       ),
@@ -73,10 +75,10 @@ returns-in_err-write_next-clause-err g c =
     let output = passage g.W.ByteOut.contents g.W.ByteOut.failures c.frames.output
     c.write_next.new.output in
     let answer =
-    subst (λ z. WritesNext a h (said_in z) to last input output c.write_next.new.player.notes c.write_next.new.text.begun (Err f))
+    subst (λ z. WritesNext a h z c.frames.kept.planes to last input output c.write_next.new.player.notes c.write_next.new.text.begun c.write_next.new.kept.planes (Err f))
     so.begun_is
-    (subst (λ z. WritesNext z h (said_in c.frames.text.begun) to last input output c.write_next.new.player.notes
-    c.write_next.new.text.begun (Err f)) i.1 c.in_err-write_next.ensures.answer) in
+    (subst (λ z. WritesNext z h c.frames.text.begun c.frames.kept.planes to last input output c.write_next.new.player.notes
+    c.write_next.new.text.begun c.write_next.new.kept.planes (Err f)) i.1 c.in_err-write_next.ensures.answer) in
     rw (p.1, p.2)
     (unpacking_stops (stream_of c.args.player.now.reader a) h i.3 c.requires.colour
     c.args.player.now.reader.place to last
@@ -88,7 +90,7 @@ returns-in_err-write_next-clause-err g c =
     (g.R.ByteIn.failures c.write_next.new.input)
     (g.W.ByteOut.failures c.args.output.now) (g.W.ByteOut.failures c.frames.output)
     (g.W.ByteOut.failures c.write_next.new.output)
-    so.frames so.un f (cause_of f) answer)
+    so.frames so.un c.frames.kept.planes so.keeps f (cause_of f) answer)
 
 pub returns-in_err-write_next-clause-own : goal.returns-in_err-write_next-clause-own
 returns-in_err-write_next-clause-own g c =
@@ -114,12 +116,12 @@ frames-preserved g c =
     let output = passage g.W.ByteOut.contents g.W.ByteOut.failures c.frames.output
     c.write_next.new.output in
     let answer =
-    subst (λ b. WritesNext a h (said_in (begun_behind a.configuration.depth h so.frames)) to last
-    input output c.write_next.new.player.notes c.write_next.new.text.begun (Ok b)) c.if-not-branch.false
-    (subst (λ z. WritesNext a h (said_in z) to last input output c.write_next.new.player.notes c.write_next.new.text.begun
-    (Ok c.in_ok-write_next.field-0)) so.begun_is
-    (subst (λ z. WritesNext z h (said_in c.frames.text.begun) to last input output c.write_next.new.player.notes
-    c.write_next.new.text.begun (Ok c.in_ok-write_next.field-0)) i.1
+    subst (λ b. WritesNext a h (begun_behind a.configuration.depth h (shown_frames so.frames)) c.frames.kept.planes to last
+    input output c.write_next.new.player.notes c.write_next.new.text.begun c.write_next.new.kept.planes (Ok b)) c.if-not-branch.false
+    (subst (λ z. WritesNext a h z c.frames.kept.planes to last input output c.write_next.new.player.notes c.write_next.new.text.begun
+    c.write_next.new.kept.planes (Ok c.in_ok-write_next.field-0)) so.begun_is
+    (subst (λ z. WritesNext z h c.frames.text.begun c.frames.kept.planes to last input output c.write_next.new.player.notes
+    c.write_next.new.text.begun c.write_next.new.kept.planes (Ok c.in_ok-write_next.field-0)) i.1
     c.in_ok-write_next.ensures.answer)) in
     let f = answer.0 in
     let next : c.saturating_add-count.result ≡ saturated (length (so.frames ++ (f ∷ []))) =
@@ -129,7 +131,7 @@ frames-preserved g c =
     let all_output = passage g.W.ByteOut.contents g.W.ByteOut.failures c.args.output.now
     c.write_next.new.output in
     let unpacked : UnpackedSo s h c.args.player.now.reader.place all_input all_output
-    c.write_next.new.text.begun c.saturating_add-count.result last =
+    c.write_next.new.text.begun c.write_next.new.kept.planes c.saturating_add-count.result last =
     record {
       frames = so.frames ++ (f ∷ []);
       is = next;
@@ -143,8 +145,11 @@ frames-preserved g c =
           (g.R.ByteIn.failures c.write_next.new.input)
           (g.W.ByteOut.failures c.args.output.now) (g.W.ByteOut.failures c.frames.output)
           (g.W.ByteOut.failures c.write_next.new.output)
-          so.frames so.un f answer.1 answer.2 answer.3 answer.4;
-      begun_is = answer.5 ∙ begun_more a.configuration.depth h so.frames f answer.2;
+          so.frames so.un c.frames.kept.planes so.keeps f answer.1 answer.2 answer.3 answer.4;
+      begun_is = answer.5 ∙ begun_then a.configuration.depth h so.frames f
+          (subst (λ b. AlikeBy b (shown_frames so.frames)) c.requires.colour so.un.alike) answer.2;
+      keeps = subst (λ z. KeepsLast z (so.frames ++ (f ∷ []))) (sym answer.6)
+          (keeps_next c.frames.kept.planes so.frames f so.keeps);
     } in
     let head = sym c.in_ok-write_next.ensures.head in (
       c.in_ok-write_next.ensures.sound,
@@ -152,7 +157,8 @@ frames-preserved g c =
       subst (λ z. IsKeptFor z c.write_next.new.kept) i.1 c.in_ok-write_next.ensures.kept,
       subst (λ z. (said : Said) → head_saying z said ≡ video_of s said) head i.3,
       subst (λ z. (so : UnpackedSo s z c.args.player.now.reader.place all_input all_output
-          c.write_next.new.text.begun c.saturating_add-count.result last) × AtMost c.args.most
+          c.write_next.new.text.begun c.write_next.new.kept.planes c.saturating_add-count.result last)
+          × AtMost c.args.most
           (length so.frames)) head (unpacked, one_at_most c.args.most so.frames f room),
       c.in_ok-write_next.ensures.container ∙ i.5,
       (λ scope text stands. c.in_ok-write_next.ensures.reached c.if-not-branch.false scope text
@@ -173,10 +179,10 @@ returns-then-not-branch-clause-ok g c =
     let output = passage g.W.ByteOut.contents g.W.ByteOut.failures c.frames.output
     c.write_next.new.output in
     let answer =
-    subst (λ b. WritesNext a h (said_in c.frames.text.begun) to last input output c.write_next.new.player.notes
-    c.write_next.new.text.begun (Ok b)) c.if-not-branch.true
-    (subst (λ z. WritesNext z h (said_in c.frames.text.begun) to last input output c.write_next.new.player.notes
-    c.write_next.new.text.begun (Ok c.in_ok-write_next.field-0)) i.1
+    subst (λ b. WritesNext a h c.frames.text.begun c.frames.kept.planes to last input output c.write_next.new.player.notes
+    c.write_next.new.text.begun c.write_next.new.kept.planes (Ok b)) c.if-not-branch.true
+    (subst (λ z. WritesNext z h c.frames.text.begun c.frames.kept.planes to last input output c.write_next.new.player.notes
+    c.write_next.new.text.begun c.write_next.new.kept.planes (Ok c.in_ok-write_next.field-0)) i.1
     c.in_ok-write_next.ensures.answer) in (
       so.frames,
       so.is,
@@ -190,7 +196,7 @@ returns-then-not-branch-clause-ok g c =
           (g.R.ByteIn.failures c.write_next.new.input)
           (g.W.ByteOut.failures c.args.output.now) (g.W.ByteOut.failures c.frames.output)
           (g.W.ByteOut.failures c.write_next.new.output)
-          so.frames so.un c.write_next.new.player.notes c.args.most room i.4.1 answer.0 answer.1,
+          so.frames so.un c.frames.kept.planes so.keeps c.write_next.new.player.notes c.args.most room i.4.1 answer.0 answer.1,
     )
 
 pub returns-then-not-branch-clause-noted : goal.returns-then-not-branch-clause-noted

@@ -9,6 +9,7 @@ use Rattle.std.proofs.Common.{Ok, refl}
 use Rattle.ffv1_files.specs.Noted.{NotesNext}
 use Rattle.ffv1_files.specs.Offsets.{LocatedNext}
 use Rattle.ffv1_unpack.proofs.OwnFaults.{frame_tells}
+use Rattle.ffv1_unpack.proofs.ItemsCued.{avi_uncued}
 use Rattle.ffv1_unpack.proofs.salvaging.read_item.Goals as goal
 
 pub returns-in-Ok-true-clause-ok : goal.returns-in-Ok-true-clause-ok
@@ -55,3 +56,39 @@ returns-in-Err-clause-own g c =
     rw c.from.ensures (frame_tells c.args.player.now.reader
     (g.R.ByteIn.remaining c.args.input.now) c.in-Err.fault
     (c.in-Err.ensures.own c.requires.sound))
+
+pub returns-in-Ok-true-clause-cued : goal.returns-in-Ok-true-clause-cued
+returns-in-Ok-true-clause-cued g c =
+    avi_uncued c.args.player.now.reader.place c.args.course.now c.args.player.now.cued _ _ _
+    (sym c.container.ensures ∙ c.in-Avi.is) (c.in-Ok-true.ensures.answer c.requires.sound).1
+
+pub returns-in-Ok-false-clause-cued : goal.returns-in-Ok-false-clause-cued
+returns-in-Ok-false-clause-cued g c =
+    avi_uncued c.args.player.now.reader.place c.args.course.now c.args.player.now.cued _ _ _
+    (sym c.container.ensures ∙ c.in-Avi.is) (c.in-Ok-false.ensures.answer c.requires.sound).1
+
+pub returns-in-Ok-true-clause-ended : goal.returns-in-Ok-true-clause-ended
+returns-in-Ok-true-clause-ended g c = λ end avi. absurd (cc (end))
+
+pub returns-in-Ok-false-clause-ended : goal.returns-in-Ok-false-clause-ended
+returns-in-Ok-false-clause-ended g c =
+    let i = passage g.R.ByteIn.remaining g.R.ByteIn.failures c.args.input.now
+    c.next_frame.new.input in
+    λ end avi scope text stands. subst (λ (b : Bool). NotesNext scope text i (Ok b)
+    c.next_frame.new.self) c.in-Ok-false.field-0-test
+    (c.in-Ok-false.ensures.noted c.requires.sound scope text stands.reached stands.noted)
+
+pub returns-in-Ok-true-clause-stays : goal.returns-in-Ok-true-clause-stays
+returns-in-Ok-true-clause-stays g c = λ size segment.
+    absurd (let no = sym (sym c.container.ensures ∙ c.in-Avi.is) ∙ segment in cc)
+
+pub returns-in-Ok-false-clause-stays : goal.returns-in-Ok-false-clause-stays
+returns-in-Ok-false-clause-stays g c = λ size segment.
+    absurd (let no = sym (sym c.container.ensures ∙ c.in-Avi.is) ∙ segment in cc)
+
+pub returns-in-Ok-clause-ended : goal.returns-in-Ok-clause-ended
+returns-in-Ok-clause-ended g c = λ end avi.
+    absurd (let no = sym avi ∙ (sym c.container.ensures ∙ c.in-Matroska.is) in cc)
+
+pub returns-in-Ok-clause-cued : goal.returns-in-Ok-clause-cued
+returns-in-Ok-clause-cued g c = c.in-Ok.ensures.cued c.requires.sound

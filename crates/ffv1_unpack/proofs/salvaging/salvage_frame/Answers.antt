@@ -12,7 +12,7 @@ use Rattle.ffv1_unpack.proofs.SalvageLists.{picture_last}
 use Rattle.ffv1_unpack.proofs.salvaging.salvage_frame.Goals as goal
 
 pub returns-in_err-tell_frame-clause-answer : goal.returns-in_err-tell_frame-clause-answer
-returns-in_err-tell_frame-clause-answer g c = λ s before same kind text are stands ready.
+returns-in_err-tell_frame-clause-answer g c = λ s before same kind text are stands ready held.
     let p = err_from_is_err_and c.from_residual.result c.from_residual.ensures.1 in
     let told = c.in_err-tell_frame.ensures.answer s before (shown before) same kind stands ready in
     let out = c.args.output.now in
@@ -28,13 +28,13 @@ returns-in_err-tell_frame-clause-answer g c = λ s before same kind text are sta
     )
 
 pub returns-in_err-show_last-clause-answer : goal.returns-in_err-show_last-clause-answer
-returns-in_err-show_last-clause-answer g c = λ s before same kind text are stands ready.
+returns-in_err-show_last-clause-answer g c = λ s before same kind text are stands ready held.
     let p = err_from_is_err_and c.from_residual-in_err-show_last.result
     c.from_residual-in_err-show_last.ensures.1 in
     let told = c.in_ok-tell_frame.ensures.answer s before (shown before) same kind stands ready in
     let j = told.0 in
     let e = c.in_err-show_last.field-0.0 in
-    let here = c.in_ok-tell_frame.ensures.fits s (shown before) same ready in
+    let here = c.in_ok-tell_frame.ensures.fits s (shown before) same ready held in
     let shows = c.in_err-show_last.ensures.answer s (before ++ (OfFrame j ∷ [])) (shown before)
     (same ∙ sym c.tell_frame.ensures.same)
     (subst (λ (z : Accepted). IsAccepted z.configuration z.table) (sym same) c.requires.accepted)
@@ -58,10 +58,10 @@ returns-in_err-show_last-clause-answer g c = λ s before same kind text are stan
     )
 
 pub returns-clause-answer : goal.returns-clause-answer
-returns-clause-answer g c = λ s before same kind text are stands ready.
+returns-clause-answer g c = λ s before same kind text are stands ready held.
     let told = c.in_ok-tell_frame.ensures.answer s before (shown before) same kind stands ready in
     let j = told.0 in
-    let here = c.in_ok-tell_frame.ensures.fits s (shown before) same ready in
+    let here = c.in_ok-tell_frame.ensures.fits s (shown before) same ready held in
     let shows = c.in_ok-show_last.ensures.answer s (before ++ (OfFrame j ∷ [])) (shown before)
     (same ∙ sym c.tell_frame.ensures.same)
     (subst (λ (z : Accepted). IsAccepted z.configuration z.table) (sym same) c.requires.accepted)
@@ -83,3 +83,8 @@ returns-clause-answer g c = λ s before same kind text are stands ready.
       ),
       told.4,
     )
+
+pub returns-clause-fits : goal.returns-clause-fits
+returns-clause-fits g c = λ s fs same ready held.
+    c.in_ok-show_last.ensures.stays s c.tell_frame.new.salvage.last.items
+    (c.in_ok-tell_frame.ensures.fits s fs same ready held).1

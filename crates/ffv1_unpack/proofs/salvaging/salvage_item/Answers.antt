@@ -14,7 +14,7 @@ use Rattle.ffv1_unpack.proofs.SalvageSteps.{frame_given, told_given}
 use Rattle.ffv1_unpack.proofs.salvaging.salvage_item.Goals as goal
 
 pub returns-in-Err-clause-answer : goal.returns-in-Err-clause-answer
-returns-in-Err-clause-answer g c = λ s before same kind text are stands ready.
+returns-in-Err-clause-answer g c = λ s before same kind text are stands ready held.
     inl (
       c.in-Err.ensures.err,
       silent (g.L.ByteOut.contents c.args.lines.now) (g.L.ByteOut.failures c.args.lines.now),
@@ -23,7 +23,7 @@ returns-in-Err-clause-answer g c = λ s before same kind text are stands ready.
     )
 
 pub returns-in-End-clause-answer : goal.returns-in-End-clause-answer
-returns-in-End-clause-answer g c = λ s before same kind text are stands ready.
+returns-in-End-clause-answer g c = λ s before same kind text are stands ready held.
     let from = c.args.player.now.reader.place in
     let to = c.read_item.new.player.reader.place in
     let course = c.args.salvage.now.course in
@@ -44,7 +44,7 @@ returns-in-End-clause-answer g c = λ s before same kind text are stands ready.
 pub returns-in_err-salvage_frame-in-Frame-clause-answer :
     goal.returns-in_err-salvage_frame-in-Frame-clause-answer
 returns-in_err-salvage_frame-in-Frame-clause-answer g c =
-    λ s before same kind text are stands ready.
+    λ s before same kind text are stands ready held.
     let p = err_from_is_err_and c.from_residual.result c.from_residual.ensures.1 in
     let from = c.args.player.now.reader.place in
     let to = c.read_item.new.player.reader.place in
@@ -56,7 +56,7 @@ returns-in_err-salvage_frame-in-Frame-clause-answer g c =
     let read = subst (λ z. ReadsAs (item_read from course) reading
     (item_of z bytes to next)) c.in-Frame.is c.in-Ok.ensures.ok in
     let done = c.in_err-salvage_frame-in-Frame.ensures.answer s before
-    (same ∙ sym (ap (λ z. z.accepted) c.read_item.ensures.same)) kind text are stands ready in
+    (same ∙ sym (ap (λ z. z.accepted) c.read_item.ensures.same)) kind text are stands ready held in
     rw (p.1, p.2, c.salvage_frame.ensures.reader, c.salvage_frame.ensures.course)
     (inr (
       OfFrame done.0,
@@ -67,7 +67,7 @@ returns-in_err-salvage_frame-in-Frame-clause-answer g c =
 pub returns-in_ok-salvage_frame-in-Frame-clause-answer :
     goal.returns-in_ok-salvage_frame-in-Frame-clause-answer
 returns-in_ok-salvage_frame-in-Frame-clause-answer g c =
-    λ s before same kind text are stands ready.
+    λ s before same kind text are stands ready held.
     let from = c.args.player.now.reader.place in
     let to = c.read_item.new.player.reader.place in
     let course = c.args.salvage.now.course in
@@ -78,7 +78,7 @@ returns-in_ok-salvage_frame-in-Frame-clause-answer g c =
     let read = subst (λ z. ReadsAs (item_read from course) reading
     (item_of z bytes to next)) c.in-Frame.is c.in-Ok.ensures.ok in
     let done = c.in_ok-salvage_frame-in-Frame.ensures.answer s before
-    (same ∙ sym (ap (λ z. z.accepted) c.read_item.ensures.same)) kind text are stands ready in
+    (same ∙ sym (ap (λ z. z.accepted) c.read_item.ensures.same)) kind text are stands ready held in
     rw (c.salvage_frame.ensures.reader, c.salvage_frame.ensures.course) (
       OfFrame done.0,
       frame_given to course next bytes reading s from read done.0 done.1.is done.1.of,
@@ -89,7 +89,7 @@ returns-in_ok-salvage_frame-in-Frame-clause-answer g c =
 pub returns-in_err-write_told-in-Told-clause-answer :
     goal.returns-in_err-write_told-in-Told-clause-answer
 returns-in_err-write_told-in-Told-clause-answer g c =
-    λ s before same kind text are stands ready.
+    λ s before same kind text are stands ready held.
     let p = err_from_is_err_and c.from_residual-in_err-write_told-in-Told.result
     c.from_residual-in_err-write_told-in-Told.ensures.1 in
     let from = c.args.player.now.reader.place in
@@ -121,7 +121,7 @@ returns-in_err-write_told-in-Told-clause-own g c =
 pub returns-in_ok-write_told-in-Told-clause-answer :
     goal.returns-in_ok-write_told-in-Told-clause-answer
 returns-in_ok-write_told-in-Told-clause-answer g c =
-    λ s before same kind text are stands ready.
+    λ s before same kind text are stands ready held.
     let from = c.args.player.now.reader.place in
     let to = c.read_item.new.player.reader.place in
     let course = c.args.salvage.now.course in
@@ -156,3 +156,31 @@ pub returns-in_ok-write_told-in-Told-clause-reached :
     goal.returns-in_ok-write_told-in-Told-clause-reached
 returns-in_ok-write_told-in-Told-clause-reached g c = λ more avi.
     c.in-Ok.ensures.reached (λ e. let no = sym c.in-Told.is ∙ e in cc) avi
+
+pub returns-in_ok-salvage_frame-in-Frame-clause-fits :
+    goal.returns-in_ok-salvage_frame-in-Frame-clause-fits
+returns-in_ok-salvage_frame-in-Frame-clause-fits g c = λ s fs same ready held.
+    c.in_ok-salvage_frame-in-Frame.ensures.fits s fs
+    (same ∙ sym (ap (λ z. z.accepted) c.read_item.ensures.same)) ready held
+
+pub returns-in_ok-salvage_frame-in-Frame-clause-cued :
+    goal.returns-in_ok-salvage_frame-in-Frame-clause-cued
+returns-in_ok-salvage_frame-in-Frame-clause-cued g c =
+    rw c.salvage_frame.ensures.cued c.in-Ok.ensures.cued
+
+pub returns-in_ok-salvage_frame-in-Frame-clause-stays :
+    goal.returns-in_ok-salvage_frame-in-Frame-clause-stays
+returns-in_ok-salvage_frame-in-Frame-clause-stays g c = λ size segment.
+    c.salvage_frame.ensures.reader ∙ c.in-Ok.ensures.stays size segment
+
+pub returns-in-End-clause-ended : goal.returns-in-End-clause-ended
+returns-in-End-clause-ended g c = λ none avi. c.in-Ok.ensures.ended c.in-End.is avi
+
+pub returns-in-End-clause-fits : goal.returns-in-End-clause-fits
+returns-in-End-clause-fits g c = λ s fs same ready held. held
+
+pub returns-in_ok-write_told-in-Told-clause-fits : goal.returns-in_ok-write_told-in-Told-clause-fits
+returns-in_ok-write_told-in-Told-clause-fits g c = λ s fs same ready held. held
+
+pub returns-in_ok-write_told-in-Told-clause-cued : goal.returns-in_ok-write_told-in-Told-clause-cued
+returns-in_ok-write_told-in-Told-clause-cued g c = c.in-Ok.ensures.cued

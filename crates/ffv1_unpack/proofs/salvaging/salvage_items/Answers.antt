@@ -1,9 +1,15 @@
 -- Salvages all items of a file that are left.
-use Rattle.std.proofs.Common.{◌≡◌, ◌^◌, ◌-◌, refl, [], ◌∷◌, ◌++◌, sym, ◌∙◌, arith}
+use Rattle.std.proofs.Common.{◌≡◌, ◌^◌, ◌-◌, ◌+◌, suc, None, Some, refl, [], ◌∷◌, ◌++◌, sym, ◌∙◌}
+use Rattle.std.proofs.Common.{arith, inl, inr, subst}
+use Rattle.ffv1_matroska.proofs.CuedTurns.{cued_begins, cued_told}
+use Rattle.ffv1_unpack.specs.ItemsEnd.{cued_left}
+use Rattle.ffv1_unpack.specs.JudgedItems.{given_as}
+use Rattle.ffv1_unpack.proofs.ItemsCued.{cued_came, cued_many}
 use Rattle.std.proofs.lemmas.Result.{err_from_is_err_and}
 use Rattle.ffv1_wire.specs.Passage.{passage}
 use Rattle.ffv1_files.specs.Items.{course_of}
 use Rattle.ffv1_unpack.specs.Internal.Opens.{stream_of}
+use Rattle.ffv1_unpack.specs.Salvaged.{shown}
 use Rattle.ffv1_unpack.proofs.FramesInTurn.{counted_more}
 use Rattle.ffv1_unpack.proofs.SalvageSteps.{none_yet, ready_more, salvage_stops, salvaged_many}
 use Rattle.ffv1_unpack.proofs.SalvageSteps.{salvaged_more, salvaged_over}
@@ -11,6 +17,7 @@ use Rattle.ffv1_unpack.proofs.OwnFaults.{told_after}
 use Rattle.ffv1_unpack.proofs.salvaging.salvage_items.Goals as goal
 
 pub loop-item-init : goal.loop-item-init
+unfolding cued_left
 loop-item-init g c =
     rw c.course.ensures (
       c.requires.sound,
@@ -25,6 +32,12 @@ loop-item-init g c =
           (g.L.ByteOut.failures c.args.lines.now) (g.P.PictureOut.failures c.args.output.now) _ _
           refl refl refl c.requires.ready,
       (λ avi scope text stands. stands),
+      (λ size segment. refl),
+      cued_begins (cued_left c.args.player.now.reader.place (course_of c.args.player.now.reader)
+          c.args.player.now.cued) _,
+      subst (λ z. g.P.PictureOut.fits (stream_of c.args.player.now.reader
+          c.args.player.now.decoder.accepted) z c.args.output.now) (sym c.new.ensures.items)
+          c.requires.fits,
     )
 
 pub returns-in_err-salvage_item-clause-err : goal.returns-in_err-salvage_item-clause-err
@@ -40,7 +53,7 @@ returns-in_err-salvage_item-clause-err g c =
     let last = c.salvage_item.new.player.reader.place in
     let next = c.salvage_item.new.salvage.course in
     let answer = c.in_err-salvage_item.ensures.answer s to.xs (sym i.1) i.3 c.requires.text
-    to.so.are to.stands to.ready_is in
+    to.so.are to.stands to.ready_is i.8 in
     rw (p.1, p.2)
     (salvage_stops s from place last course at next
     (g.R.ByteIn.remaining c.args.input.now) (g.R.ByteIn.remaining c.loop-item.input)
@@ -78,8 +91,11 @@ loop-item-preserved g c =
     let at = c.loop-item.salvage.course in
     let last = c.salvage_item.new.player.reader.place in
     let next = c.salvage_item.new.salvage.course in
+    let most = 18446744073709551615 - (c.loop-item._item + 1) in
+    let left : 18446744073709551615 - c.loop-item._item ≡ suc most = omega
+    (arith, c.loop-item-test.true) in
     let answer = rw c.if-not-branch.false at c.in_ok-salvage_item.ensures.answer s to.xs (sym i.1) i.3 c.requires.text
-    to.so.are to.stands to.ready_is in (
+    to.so.are to.stands to.ready_is i.8 in (
       c.in_ok-salvage_item.ensures.sound,
       c.salvage_item.ensures.same ∙ i.1,
       c.salvage_item.ensures.container ∙ i.2,
@@ -119,6 +135,11 @@ loop-item-preserved g c =
       },
       (λ avi scope text stands. c.in_ok-salvage_item.ensures.reached c.if-not-branch.false
           (i.2 ∙ avi) scope text (i.5 avi scope text stands)),
+      (λ size segment. c.in_ok-salvage_item.ensures.stays size (i.2 ∙ segment) ∙ i.6 size segment),
+      cued_came (cued_left from course c.args.player.now.cued) most place at
+          c.loop-item.player.cued _ (Some (given_as answer.0, last, next)) _ _ _
+          (rw left at i.7) c.in_ok-salvage_item.ensures.cued answer.1.next,
+      c.in_ok-salvage_item.ensures.fits s (shown to.xs) (sym i.1) to.ready_is i.8,
     )
 
 pub returns-then-not-branch-clause-ok : goal.returns-then-not-branch-clause-ok
@@ -133,7 +154,7 @@ returns-then-not-branch-clause-ok g c =
     let last = c.salvage_item.new.player.reader.place in
     let next = c.salvage_item.new.salvage.course in
     let answer = rw c.if-not-branch.true at c.in_ok-salvage_item.ensures.answer s to.xs (sym i.1)
-    i.3 c.requires.text to.so.are to.stands to.ready_is in (
+    i.3 c.requires.text to.so.are to.stands to.ready_is i.8 in (
       to.xs,
       answer.4.counted,
       salvaged_over s from place last course at next
@@ -150,7 +171,40 @@ returns-then-not-branch-clause-ok g c =
           (g.P.PictureOut.failures c.args.output.now) (g.P.PictureOut.failures c.loop-item.output)
           (g.P.PictureOut.failures c.salvage_item.new.output) to.xs to.so
           g.P.PictureOut.ready c.salvage_item.new.output answer.0 answer.1 answer.2 answer.3,
+      (λ avi. inl (λ scope text stands. c.in_ok-salvage_item.ensures.ended c.if-not-branch.true
+          (i.2 ∙ avi) scope text (i.5 avi scope text stands))),
     )
+
+pub returns-then-not-branch-clause-stays : goal.returns-then-not-branch-clause-stays
+returns-then-not-branch-clause-stays g c =
+    let i = c.loop-item.invariant in
+    λ size segment. c.in_ok-salvage_item.ensures.stays size (i.2 ∙ segment) ∙ i.6 size segment
+
+pub returns-then-not-branch-clause-cued : goal.returns-then-not-branch-clause-cued
+returns-then-not-branch-clause-cued g c =
+    let from = c.args.player.now.reader.place in
+    let course = course_of c.args.player.now.reader in
+    let s = stream_of c.args.player.now.reader c.args.player.now.decoder.accepted in
+    let i = c.loop-item.invariant in
+    let to = i.4 in
+    let most = 18446744073709551615 - (c.loop-item._item + 1) in
+    let left : 18446744073709551615 - c.loop-item._item ≡ suc most = omega
+    (arith, c.loop-item-test.true) in
+    let answer = rw c.if-not-branch.true at c.in_ok-salvage_item.ensures.answer s to.xs (sym i.1)
+    i.3 c.requires.text to.so.are to.stands to.ready_is i.8 in
+    cued_told (cued_left from course c.args.player.now.cued) _ _ _
+    (cued_came (cued_left from course c.args.player.now.cued) most c.loop-item.player.reader.place
+    c.loop-item.salvage.course c.loop-item.player.cued _ None _ _ _ (rw left at i.7)
+    c.in_ok-salvage_item.ensures.cued answer.1)
+
+pub returns-clause-cued : goal.returns-clause-cued
+returns-clause-cued g c =
+    let none : 18446744073709551615 - c.loop-item._item ≡ 0 = omega
+    (arith, c.loop-item-test.false) in
+    cued_many (cued_left c.args.player.now.reader.place (course_of c.args.player.now.reader)
+    c.args.player.now.cued) (18446744073709551615 - c.loop-item._item)
+    c.loop-item.player.reader.place c.loop-item.salvage.course c.loop-item.player.cued _ _ none
+    c.loop-item.invariant.7
 
 pub returns-clause-ok : goal.returns-clause-ok
 returns-clause-ok g c =
@@ -165,4 +219,19 @@ returns-clause-ok g c =
           (passage g.L.ByteOut.contents g.L.ByteOut.failures c.args.lines.now c.loop-item.lines)
           (passage g.P.PictureOut.contents g.P.PictureOut.failures c.args.output.now
           c.loop-item.output) to.xs to.so (to.many ∙ full),
+      (λ avi. inr (to.many ∙ full)),
     )
+
+pub returns-in_err-salvage_item-clause-container : goal.returns-in_err-salvage_item-clause-container
+returns-in_err-salvage_item-clause-container g c =
+    c.salvage_item.ensures.container ∙ c.loop-item.invariant.2
+
+pub returns-then-not-branch-clause-container : goal.returns-then-not-branch-clause-container
+returns-then-not-branch-clause-container g c =
+    c.salvage_item.ensures.container ∙ c.loop-item.invariant.2
+
+pub returns-clause-container : goal.returns-clause-container
+returns-clause-container g c = c.loop-item.invariant.2
+
+pub returns-clause-stays : goal.returns-clause-stays
+returns-clause-stays g c = c.loop-item.invariant.6

@@ -1,4 +1,6 @@
-use Rattle.std.proofs.Common.{◌≡◌, None}
+use Rattle.std.proofs.Common.{◌≡◌, ◌-◌, ℕ, None, Option}
+use Rattle.ffv1_matroska.proofs.CuedTurns.{CuedSoFar}
+use Rattle.ffv1_unpack.specs.ItemsEnd.{cued_left, cued_up_to}
 use Rattle.ffv1_wire.specs.Passage.{passage}
 use Rattle.ffv1_files.specs.Items.{course_of}
 use Rattle.ffv1_files.specs.Places.{container_of}
@@ -25,3 +27,9 @@ invariant-loop-item g l =
     × (container_of l.fn.player.reader.place ≡ container.Avi →
     StaysReached l.fn.player.reader l.player.reader
     (passage g.R.ByteIn.remaining g.R.ByteIn.failures l.initial.input l.input))
+    × ((size : Option ℕ) → container_of l.fn.player.reader.place ≡ container.Matroska size →
+    l.player.reader ≡ l.fn.player.reader)
+    × CuedSoFar (cued_left l.fn.player.reader.place (course_of l.fn.player.reader) l.fn.player.cued)
+    (cued_up_to (18446744073709551615 - l._item) l.player.reader.place l.salvage.course
+    l.player.cued) (g.R.ByteIn.remaining l.initial.input) (g.R.ByteIn.remaining l.input)
+    × g.P.PictureOut.fits s l.salvage.last.items l.output

@@ -3,7 +3,8 @@ use Rattle.std.proofs.Common.{Ok, Err, sym, subst, ◌∙◌}
 use Rattle.std.proofs.lemmas.Result.{err_from_is_err_and}
 use Rattle.ffv1_wire.specs.Passage.{passage}
 use Rattle.ffv1_unpack.specs.Internal.Salvage.{PutsPictures}
-use Rattle.ffv1_unpack.specs.Salvaged.{good_frames, last_of, those}
+use Rattle.ffv1_unpack.specs.Salvaged.{good_frames}
+use Rattle.ffv1_unpack.specs.Stream.{last_of, those}
 use Rattle.ffv1_unpack.proofs.PicturesPut.{puts_none}
 use Rattle.ffv1_unpack.proofs.SalvageLists.{last_good, none_said, said_last}
 use Rattle.ffv1_unpack.proofs.salvaging.show_last.Goals as goal

@@ -1,5 +1,6 @@
 -- Judges the payload that was read last, and writes its line if it has a fault.
-use Rattle.std.proofs.Common.{List, ℕ, Some, Err, ap, refl, sym, subst, ◌∙◌}
+use Rattle.std.proofs.Common.{List, ℕ, Some, Err, ap, refl, sym, subst, ◌∙◌, arith}
+use Rattle.std.proofs.lemmas.Grind.{common_steps}
 use Rattle.std.specs.Io.KnownBytes.{Appends}
 use Rattle.std.proofs.lemmas.Result.{err_from_is_err_and}
 use Rattle.ffv1_wire.specs.Passage.{passage}
@@ -7,10 +8,27 @@ use Rattle.ffv1_record.specs.Accepted.{Accepted}
 use Rattle.ffv1_codec.specs.Outcome.{FaultsOf}
 use Rattle.ffv1_unpack.specs.Internal.Judged.{one_counted}
 use Rattle.ffv1_unpack.specs.Internal.Told.{WritesFrame}
-use Rattle.ffv1_unpack.specs.Judged.{Decoded, Refused}
-use Rattle.ffv1_unpack.specs.Stream.{IsFrame}
-use Rattle.ffv1_unpack.proofs.SalvageLists.{bad_line, good_counts, good_line, stands_bad, stands_good}
+use Rattle.ffv1_unpack.specs.Judged.{Decoded, Refused, Repeats}
+use Rattle.ffv1_unpack.specs.Stream.{IsCoded, IsRefusedPayload}
+use Rattle.ffv1_unpack.proofs.SalvageLists.{bad_line, good_counts, good_line, stands_again, stands_bad}
+use Rattle.ffv1_unpack.proofs.SalvageLists.{stands_good}
+use Rattle.std.proofs.KnownBytes.{Appends-nil}
+use Rattle.ffv1_unpack.proofs.FramesInTurn.{no_bytes}
 use Rattle.ffv1_unpack.proofs.salvaging.tell_frame.Goals as goal
+
+-- a payload without bytes is counted alone
+pub returns-then-is_empty-clause-answer : goal.returns-then-is_empty-clause-answer
+returns-then-is_empty-clause-answer g c = λ s before fs same kind stands ready. (
+  Repeats,
+  record { is = tt; of = sym (no_bytes c.args.player.now.payload c.is_empty.ensures c.if-is_empty.true) },
+  refl,
+  Appends-nil (g.L.ByteOut.contents c.args.lines.now),
+  stands_again s before c.args.salvage.now.counts c.count.new.self c.args.salvage.now.header
+      c.args.salvage.now.last.items stands c.count.ensures,
+)
+
+pub returns-then-is_empty-clause-fits : goal.returns-then-is_empty-clause-fits
+returns-then-is_empty-clause-fits g c = λ s fs same ready held. (ready, held)
 
 pub returns-in_err-tell_good-in-Ok-clause-answer : goal.returns-in_err-tell_good-in-Ok-clause-answer
 returns-in_err-tell_good-in-Ok-clause-answer g c = λ s before fs same kind stands ready.
@@ -23,7 +41,7 @@ returns-in_err-tell_good-in-Ok-clause-answer g c = λ s before fs same kind stan
     c.tell_good.new.lines in
     rw (p.1, p.2) (
       Decoded f,
-      record { is = subst (λ (z : Accepted). IsFrame z f) (sym same) judged.1; of = of },
+      record { is = subst (λ (z : Accepted). IsCoded z f) (sym same) judged.1; of = of },
       subst (λ z. WritesFrame z written (Err c.in_err-tell_good-in-Ok.field-0.0))
           (good_line s before old.counts old.header old.last.items stands old.ppm c.in-Ok.info f
           kind judged.3) c.in_err-tell_good-in-Ok.ensures.told,
@@ -39,7 +57,7 @@ returns-in_ok-tell_good-in-Ok-clause-answer g c = λ s before fs same kind stand
     let new = c.keep_good.new.salvage in
     let told = c.in_ok-tell_good-in-Ok.ensures.told in (
       Decoded f,
-      record { is = subst (λ (z : Accepted). IsFrame z f) (sym same) judged.1; of = of },
+      record { is = subst (λ (z : Accepted). IsCoded z f) (sym same) judged.1; of = of },
       told.0,
       subst (Appends (g.L.ByteOut.contents c.args.lines.now)
           (g.L.ByteOut.contents c.tell_good.new.lines))
@@ -57,7 +75,7 @@ returns-in_ok-tell_good-in-Ok-clause-answer g c = λ s before fs same kind stand
     )
 
 pub returns-in_ok-tell_good-in-Ok-clause-fits : goal.returns-in_ok-tell_good-in-Ok-clause-fits
-returns-in_ok-tell_good-in-Ok-clause-fits g c = λ s fs same ready. (
+returns-in_ok-tell_good-in-Ok-clause-fits g c = λ s fs same ready held. (
   c.judge.ensures.ready s fs same ready,
   subst (λ (z : List ℕ). g.P.PictureOut.fits s z c.judge.new.self)
       (c.deref.ensures.value ∙ sym c.keep_good.ensures.last)
@@ -80,7 +98,10 @@ returns-in_err-write_refused-in-Err-clause-answer g c = λ s before fs same kind
     rw (p.1, p.2) (
       Refused payload f judged.0,
       record {
-        is = subst (λ (z : Accepted). FaultsOf z payload f judged.0) (sym same) faults;
+        is = subst (λ (z : Accepted). IsRefusedPayload z payload f judged.0) (sym same) (record {
+          some = grind (arith, common_steps, c.is_empty.ensures, c.if-is_empty.false);
+          faulty = faults;
+        });
         of = refl;
       },
       subst (λ z. WritesFrame z written (Err c.in_err-write_refused-in-Err.field-0.0))
@@ -100,7 +121,10 @@ returns-in_ok-write_refused-in-Err-clause-answer g c = λ s before fs same kind 
     let told = c.in_ok-write_refused-in-Err.ensures in (
       Refused payload f judged.0,
       record {
-        is = subst (λ (z : Accepted). FaultsOf z payload f judged.0) (sym same) faults;
+        is = subst (λ (z : Accepted). IsRefusedPayload z payload f judged.0) (sym same) (record {
+          some = grind (arith, common_steps, c.is_empty.ensures, c.if-is_empty.false);
+          faulty = faults;
+        });
         of = refl;
       },
       told.0,
@@ -108,7 +132,7 @@ returns-in_ok-write_refused-in-Err-clause-answer g c = λ s before fs same kind 
           (g.L.ByteOut.contents c.write_refused.new.output))
           (bad_line s before old.counts old.header old.last.items stands payload f judged.0)
           told.1,
-      stands_bad s before old.counts c.count.new.self old.header old.last.items stands payload f
+      stands_bad s before old.counts c.count-in-Err.new.self old.header old.last.items stands payload f
           judged.0
-          (c.count.ensures ∙ ap (λ z. one_counted old.counts (Some z)) c.from.ensures),
+          (c.count-in-Err.ensures ∙ ap (λ z. one_counted old.counts (Some z)) c.from.ensures),
     )

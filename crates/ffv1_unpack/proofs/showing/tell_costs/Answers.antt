@@ -29,3 +29,9 @@ returns-clause-noted g c =
     let told = c.in_ok-tell_frames.ensures.ok in
     rw c.in_ok-player.ensures.reader at
     (c.in_ok-tell_frames.ensures.noted (length told.0) told.1 refl)
+
+pub returns-clause-ok : goal.returns-clause-ok
+returns-clause-ok g c =
+    let told = rw (c.in_ok-player.ensures.reader, c.in_ok-player.ensures.decoder) at
+    c.in_ok-tell_frames.ensures.ok in
+    (told.0, told.2)

@@ -1,8 +1,11 @@
 -- Decodes all frames of a file that the profile reads, and goes on after a frame that is refused.
-use Rattle.std.proofs.Common.{inl}
+use Rattle.std.proofs.Common.{true, inl, inr, ◌∙◌}
 use Rattle.ffv1_wire.specs.Passage.{passage}
 use Rattle.ffv1_video.proofs.Output.{silent}
-use Rattle.ffv1_unpack.proofs.FileSalvaged.{all_done, all_fails, all_none}
+use Rattle.ffv1_video.specs.Profiles.{scope_in}
+use Rattle.ffv1_unpack.proofs.FileSalvaged.{all_fails}
+use Rattle.ffv1_unpack.proofs.OpenedAs.{read_as}
+use Rattle.ffv1_unpack.proofs.SalvagedEnd.{avi_noted, end_done, end_fails, end_none, salvage_told}
 use Rattle.ffv1_unpack.proofs.OwnFaults.{written_unpacks}
 use Rattle.ffv1_unpack.proofs.unpacking_all.unpack_all.Goals as goal
 
@@ -37,38 +40,131 @@ returns-in-Err-answer-clause-own g c =
     c.in-Ok.ensures.stands
     c.in-Ok.ensures.ok.within (rw c.in-Err-answer.is at c.salvage_file-output.ensures.own)
 
-pub returns-in-Ok-found-clause-ok : goal.returns-in-Ok-found-clause-ok
-returns-in-Ok-found-clause-ok g c =
+pub returns-in-Ok-end_all-clause-ok : goal.returns-in-Ok-end_all-clause-ok
+returns-in-Ok-end_all-clause-ok g c =
     let all = rw c.in-Ok-answer.is at c.salvage_file-output.ensures.ok in
-    let found = c.in-Ok-found.ensures.ok in
-    rw found.0
-    (all_done c.args.profile (g.R.ByteIn.remaining c.args.input.now)
+    let last = c.salvage_file-output.new.player.reader in
+    let cues = rw (c.in-Ok.ensures.uncued, c.in-Ok-answer.is) at
+    c.salvage_file-output.ensures.cued in
+    let stays = rw c.in-Ok-answer.is at c.salvage_file-output.ensures.stays in
+    let same = c.salvage_file-output.ensures.container in
+    let done = c.in-Ok-end_all.ensures.ok in
+    let told = c.in-Ok-end_all.told in
+    let end = salvage_told c.args.profile (g.R.ByteIn.remaining c.args.input.now)
     (g.R.ByteIn.remaining c.open_whole.new.input)
     (g.R.ByteIn.remaining c.salvage_file-output.new.input)
+    (g.R.ByteIn.remaining c.end_all.new.input)
     (g.R.ByteIn.failures c.args.input.now) (g.R.ByteIn.failures c.open_whole.new.input)
     (g.R.ByteIn.failures c.salvage_file-output.new.input)
-    c.in-Ok.player.reader c.in-Ok.player.decoder.accepted c.in-Ok.ensures.ok
-    c.in-Ok.ensures.located c.in-Ok.ensures.text
-    (passage g.L.ByteOut.contents g.L.ByteOut.failures c.args.lines.now
-    c.salvage_file-output.new.lines)
+    (g.R.ByteIn.failures c.end_all.new.input)
+    c.in-Ok.player.reader last c.in-Ok.player.decoder.accepted c.in-Ok.ensures.ok
+    c.in-Ok.ensures.stands c.salvage_file-output.new.player.cued cues same stays
+    c.in-Ok.ensures.text (g.L.ByteOut.contents c.args.lines.now)
+    (g.L.ByteOut.contents c.salvage_file-output.new.lines)
+    (g.L.ByteOut.contents c.end_all.new.lines) (g.L.ByteOut.failures c.args.lines.now)
+    (g.L.ByteOut.failures c.salvage_file-output.new.lines)
+    (g.L.ByteOut.failures c.end_all.new.lines)
     (passage g.W.ByteOut.contents g.W.ByteOut.failures c.args.output
     c.salvage_file-output.result.0)
-    c.in-Ok-answer.counts all.0 all.1 all.2 found.1)
+    all.0 c.in-Ok-answer.counts all.1 all.2
+    told.0 told.1 done.0 in
+    end_done c.args.profile (g.R.ByteIn.remaining c.args.input.now)
+    (g.R.ByteIn.remaining c.open_whole.new.input)
+    (g.R.ByteIn.remaining c.salvage_file-output.new.input)
+    (g.R.ByteIn.remaining c.end_all.new.input)
+    (g.R.ByteIn.failures c.args.input.now) (g.R.ByteIn.failures c.open_whole.new.input)
+    (g.R.ByteIn.failures c.salvage_file-output.new.input)
+    (g.R.ByteIn.failures c.end_all.new.input)
+    c.in-Ok.player.reader last c.in-Ok.player.decoder.accepted c.in-Ok.ensures.ok
+    c.in-Ok.ensures.stands c.salvage_file-output.new.player.cued cues same stays
+    c.in-Ok.ensures.text (g.L.ByteOut.contents c.args.lines.now)
+    (g.L.ByteOut.contents c.salvage_file-output.new.lines)
+    (g.L.ByteOut.contents c.end_all.new.lines) (g.L.ByteOut.failures c.args.lines.now)
+    (g.L.ByteOut.failures c.salvage_file-output.new.lines)
+    (g.L.ByteOut.failures c.end_all.new.lines)
+    (passage g.W.ByteOut.contents g.W.ByteOut.failures c.args.output
+    c.salvage_file-output.result.0)
+    all.0 c.in-Ok-answer.counts all.1 all.2
+    told.0 told.1 end done.1
+    (avi_noted c.args.profile (g.R.ByteIn.remaining c.args.input.now)
+    (g.R.ByteIn.remaining c.open_whole.new.input) (g.R.ByteIn.remaining c.end_all.new.input)
+    (g.R.ByteIn.failures c.args.input.now) (g.R.ByteIn.failures c.end_all.new.input)
+    c.in-Ok.player.reader.place told.1 _
+    (λ segment. read_as c.args.profile (g.R.ByteIn.remaining c.args.input.now)
+    (g.R.ByteIn.remaining c.open_whole.new.input) c.in-Ok.player.reader.head
+    c.in-Ok.player.reader.place c.in-Ok.ensures.ok.known true segment)
+    (λ avi. elim (all.3 avi) [
+      | inl comes ↦
+          inl (c.in-Ok-end_all.ensures.noted (same ∙ avi) (scope_in c.args.profile)
+          (g.R.ByteIn.remaining c.args.input.now)
+          (comes (scope_in c.args.profile) (g.R.ByteIn.remaining c.args.input.now)
+          c.in-Ok.ensures.stands))
+      | inr many ↦ inr many
+    ]))
 
 pub returns-clause-err : goal.returns-clause-err
 returns-clause-err g c =
     let all = rw c.in-Ok-answer.is at c.salvage_file-output.ensures.ok in
-    let none = c.in-Err-found.ensures.err in
-    rw none.0
-    (all_none c.args.profile (g.R.ByteIn.remaining c.args.input.now)
-    (g.R.ByteIn.remaining c.open_whole.new.input)
-    (g.R.ByteIn.remaining c.salvage_file-output.new.input)
-    (g.R.ByteIn.failures c.args.input.now) (g.R.ByteIn.failures c.open_whole.new.input)
-    (g.R.ByteIn.failures c.salvage_file-output.new.input)
-    c.in-Ok.player.reader c.in-Ok.player.decoder.accepted c.in-Ok.ensures.ok
-    c.in-Ok.ensures.located c.in-Ok.ensures.text
-    (passage g.L.ByteOut.contents g.L.ByteOut.failures c.args.lines.now
-    c.salvage_file-output.new.lines)
-    (passage g.W.ByteOut.contents g.W.ByteOut.failures c.args.output
-    c.salvage_file-output.result.0)
-    c.in-Ok-answer.counts all.0 all.1 all.2 none.1 none.2)
+    let last = c.salvage_file-output.new.player.reader in
+    let cues = rw (c.in-Ok.ensures.uncued, c.in-Ok-answer.is) at
+    c.salvage_file-output.ensures.cued in
+    let stays = rw c.in-Ok-answer.is at c.salvage_file-output.ensures.stays in
+    let same = c.salvage_file-output.ensures.container in
+    elim c.in-Err-end_all.ensures.err [
+      | inl fails ↦ end_fails c.args.profile (g.R.ByteIn.remaining c.args.input.now)
+          (g.R.ByteIn.remaining c.open_whole.new.input)
+          (g.R.ByteIn.remaining c.salvage_file-output.new.input)
+          (g.R.ByteIn.remaining c.end_all.new.input)
+          (g.R.ByteIn.failures c.args.input.now) (g.R.ByteIn.failures c.open_whole.new.input)
+          (g.R.ByteIn.failures c.salvage_file-output.new.input)
+          (g.R.ByteIn.failures c.end_all.new.input)
+          c.in-Ok.player.reader last c.in-Ok.player.decoder.accepted c.in-Ok.ensures.ok
+          c.in-Ok.ensures.stands c.salvage_file-output.new.player.cued cues same stays
+          c.in-Ok.ensures.text (g.L.ByteOut.contents c.args.lines.now)
+          (g.L.ByteOut.contents c.salvage_file-output.new.lines)
+          (g.L.ByteOut.contents c.end_all.new.lines) (g.L.ByteOut.failures c.args.lines.now)
+          (g.L.ByteOut.failures c.salvage_file-output.new.lines)
+          (g.L.ByteOut.failures c.end_all.new.lines)
+          (passage g.W.ByteOut.contents g.W.ByteOut.failures c.args.output
+          c.salvage_file-output.result.0)
+          all.0 c.in-Ok-answer.counts all.1 all.2
+          c.in-Err-end_all.fault fails
+      | inr none ↦ rw none.0 (end_none c.args.profile (g.R.ByteIn.remaining c.args.input.now)
+          (g.R.ByteIn.remaining c.open_whole.new.input)
+          (g.R.ByteIn.remaining c.salvage_file-output.new.input)
+          (g.R.ByteIn.remaining c.end_all.new.input)
+          (g.R.ByteIn.failures c.args.input.now) (g.R.ByteIn.failures c.open_whole.new.input)
+          (g.R.ByteIn.failures c.salvage_file-output.new.input)
+          (g.R.ByteIn.failures c.end_all.new.input)
+          c.in-Ok.player.reader last c.in-Ok.player.decoder.accepted c.in-Ok.ensures.ok
+          c.in-Ok.ensures.stands c.salvage_file-output.new.player.cued cues same stays
+          c.in-Ok.ensures.text (g.L.ByteOut.contents c.args.lines.now)
+          (g.L.ByteOut.contents c.salvage_file-output.new.lines)
+          (g.L.ByteOut.contents c.end_all.new.lines) (g.L.ByteOut.failures c.args.lines.now)
+          (g.L.ByteOut.failures c.salvage_file-output.new.lines)
+          (g.L.ByteOut.failures c.end_all.new.lines)
+          (passage g.W.ByteOut.contents g.W.ByteOut.failures c.args.output
+          c.salvage_file-output.result.0)
+          all.0 c.in-Ok-answer.counts all.1 all.2
+          none.1 none.4 (salvage_told c.args.profile (g.R.ByteIn.remaining c.args.input.now)
+          (g.R.ByteIn.remaining c.open_whole.new.input)
+          (g.R.ByteIn.remaining c.salvage_file-output.new.input)
+          (g.R.ByteIn.remaining c.end_all.new.input)
+          (g.R.ByteIn.failures c.args.input.now) (g.R.ByteIn.failures c.open_whole.new.input)
+          (g.R.ByteIn.failures c.salvage_file-output.new.input)
+          (g.R.ByteIn.failures c.end_all.new.input)
+          c.in-Ok.player.reader last c.in-Ok.player.decoder.accepted c.in-Ok.ensures.ok
+          c.in-Ok.ensures.stands c.salvage_file-output.new.player.cued cues same stays
+          c.in-Ok.ensures.text (g.L.ByteOut.contents c.args.lines.now)
+          (g.L.ByteOut.contents c.salvage_file-output.new.lines)
+          (g.L.ByteOut.contents c.end_all.new.lines) (g.L.ByteOut.failures c.args.lines.now)
+          (g.L.ByteOut.failures c.salvage_file-output.new.lines)
+          (g.L.ByteOut.failures c.end_all.new.lines)
+          (passage g.W.ByteOut.contents g.W.ByteOut.failures c.args.output
+          c.salvage_file-output.result.0)
+          all.0 c.in-Ok-answer.counts all.1 all.2
+          none.1 none.4 none.5) none.2 none.3)
+    ]
+
+pub returns-clause-own : goal.returns-clause-own
+returns-clause-own g c = inl c.in-Err-end_all.ensures.own

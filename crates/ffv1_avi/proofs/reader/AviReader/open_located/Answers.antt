@@ -4,7 +4,7 @@
 use Rattle.std.proofs.lemmas.Result.{err_from_is_err_and}
 use Rattle.ffv1_avi.proofs.ReadingFaults.{opening_own}
 use Rattle.ffv1_avi.proofs.SpotReadings.{from_zero}
-use Rattle.ffv1_avi.proofs.OpenLaws.{opened_most}
+use Rattle.ffv1_avi.proofs.OpenLaws.{opened_least, opened_most}
 use Rattle.std.proofs.Common.{◌++◌, []}
 use Rattle.ffv1_avi.proofs.reader.AviReader.open_located.Goals as goal
 
@@ -28,3 +28,8 @@ pub returns-clause-most : goal.returns-clause-most
 returns-clause-most g c =
     let read = c.in_ok-sizes.ensures.answer.1 in
     opened_most c.args.extent (read.bytes ++ []) (_, []) (read.is [])
+
+pub returns-clause-least : goal.returns-clause-least
+returns-clause-least g c =
+    let read = c.in_ok-sizes.ensures.answer.1 in
+    opened_least c.args.extent (read.bytes ++ []) (_, []) (read.is [])

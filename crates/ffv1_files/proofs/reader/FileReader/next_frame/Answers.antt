@@ -80,6 +80,15 @@ returns-clause-behind g c = elim c.match-self.branch [
       rw (← c.self.view_is, w.in-Matroska.is, w.self-inside-is) (λ none. refl)
 ]
 
+pub returns-clause-repeats : goal.returns-clause-repeats
+returns-clause-repeats g c = elim c.match-self.branch [
+  | in-Avi w ↦
+      rw (← c.self.view_is, w.in-Avi.is, w.self-inside-is, w.result-is, w.frame-is)
+      w.next_frame.ensures.repeats
+  | in-Matroska w ↦
+      rw (← c.self.view_is, w.in-Matroska.is, w.self-inside-is) refl
+]
+
 pub returns-clause-stays : goal.returns-clause-stays
 returns-clause-stays g c = elim c.match-self.branch [
   | in-Avi w ↦
@@ -94,9 +103,14 @@ returns-clause-noted g c = elim c.match-self.branch [
   | in-Avi w ↦
       rw (← c.self.view_is, w.in-Avi.is, w.self-inside-is, w.result-is, w.input-is)
       (λ none s text. (let p = passage g.R.ByteIn.remaining g.R.ByteIn.failures c.args.input.now
-      w.next_frame.new.input in avi_noted _ _ _ s text w.in-Avi.reader w.next_frame.new.self p
-      w.next_frame.result (avi_next w.in-Avi.reader.place w.next_frame.new.self.place
-      w.next_frame.new.frame.items p w.next_frame.result (w.next_frame.ensures.answer none))
+      w.next_frame.new.input in avi_noted s text w.in-Avi.reader w.next_frame.new.self
+      w.next_frame.new.frame.items p w.next_frame.result (record {
+        answer = w.next_frame.ensures.answer none;
+        stands = w.next_frame.ensures.stands;
+        least = w.next_frame.ensures.least;
+        sized = w.next_frame.ensures.sized;
+        counted = w.next_frame.ensures.repeats;
+      })
       w.next_frame.ensures.same (w.next_frame.ensures.behind none)))
   | in-Matroska w ↦
       rw (← c.self.view_is, w.in-Matroska.is, w.self-inside-is, w.result-is, w.input-is)

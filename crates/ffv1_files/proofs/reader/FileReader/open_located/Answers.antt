@@ -1,7 +1,7 @@
 -- `open_located`: the same, which says where in the file a fault is: `offset` is then the number of
 -- bytes of the file before the element or chunk at fault, those before it read whole; no greater
 -- than 2^64 - 1.
-use Rattle.std.proofs.Common.{refl}
+use Rattle.std.proofs.Common.{refl, arith}
 use Rattle.ffv1_wire.specs.Passage.{passage}
 use Rattle.ffv1_files.proofs.Locations.{movi_reached, movi_stopped}
 use Rattle.ffv1_files.proofs.Noted.{opens_noted}
@@ -47,10 +47,10 @@ returns-in-Ok-clause-noted g c =
     rw c.in-FirstMovi.is (opens_noted _ p.old p.new _
     (movi_opens p (reader.head, reader.place) c.in-Ok.ensures.answer).1
     (movi_reached p reader c.open_located.new.offset c.in-Ok.ensures.offset) tt refl
-    c.in-Ok.ensures.none)
+    c.in-Ok.ensures.none (omega (arith, c.in-Ok.ensures.least)) c.in-Ok.ensures.uncounted)
 
 pub returns-in-Ok-open_whole-clause-noted : goal.returns-in-Ok-open_whole-clause-noted
 returns-in-Ok-open_whole-clause-noted g c =
     let done = c.in-Ok-open_whole.ensures in
     rw c.in-Whole.is (opens_noted _ _ _ c.in-Ok-open_whole.reader done.answer.1 done.located
-    done.ends done.uncued done.untold)
+    done.ends done.uncued done.untold done.least done.uncounted)

@@ -3,7 +3,7 @@ use Rattle.std.proofs.Common.{◌∙◌, refl, ap}
 use Rattle.ffv1_record.specs.Accepted.{Accepted}
 use Rattle.ffv1_slice.specs.Grid.{division_of}
 use Rattle.ffv1_codec.specs.Kept.{Dropped, Drops, DropsNot}
-use Rattle.ffv1_unpack.specs.Stream.{Frame}
+use Rattle.ffv1_unpack.specs.Stream.{CodedFrame}
 use Rattle.ffv1_unpack.proofs.FrameDecoded.{is_decided, is_faulty}
 use Rattle.ffv1_unpack.proofs.picture_out.PpmWriterPictureOut.judge.Goals as goal
 
@@ -16,7 +16,7 @@ returns-in-Ok-clause-ok g c =
     let answer = c.in-Ok.ensures.exact in
     let found = c.answer_is_ok_for_coded_pictures.ensures.found a payload c.new-sink.result
     c.decode.new.sink tally info c.requires.accepted answer in
-    let frame : Frame = record {
+    let frame : CodedFrame = record {
       payload = payload;
       planes = found.0;
       said = info;

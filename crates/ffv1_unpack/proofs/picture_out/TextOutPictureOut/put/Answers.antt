@@ -4,11 +4,12 @@ use Rattle.std.proofs.lemmas.Result.{err_from_is_err_and}
 use Rattle.ffv1_wire.specs.Passage.{passage}
 use Rattle.ffv1_record.specs.Accepted.{Accepted, IsAccepted}
 use Rattle.ffv1_codec.specs.Frame.{CodesPicture}
+use Rattle.ffv1_codec.specs.Kept.{Kept}
 use Rattle.ffv1_codec.specs.Picture.{Planes, planes_of}
 use Rattle.ffv1_codec.specs.SliceList.{Said}
 use Rattle.ffv1_video.specs.KeptLines.{IsKeptFor}
 use Rattle.ffv1_unpack.specs.Internal.Salvage.{ContinuesText, FitsKept}
-use Rattle.ffv1_unpack.proofs.PicturesPut.{begun_is, text_cut, text_put}
+use Rattle.ffv1_unpack.proofs.PicturesPut.{begun_is, fits_stay, text_cut, text_put}
 use Rattle.ffv1_unpack.proofs.picture_out.TextOutPictureOut.put.Goals as goal
 
 pub returns-in-Err-clause-answer : goal.returns-in-Err-clause-answer
@@ -81,3 +82,26 @@ returns-in_ok-continue_text-in-Ok-clause-answer g c = λ s fs f same is text rea
     let keeps = subst (λ (z : Accepted). IsKeptFor z c.have_picture.new.kept) (sym same) has.1 in
     text_put s fs f old.depth old.head old.begun old.kept ready _ begun writing
     (subst (IsKeptFor s.accepted) (sym c.planes.follows.holds-at-none) keeps) drawn
+
+pub returns-in_ok-continue_text-in-Ok-clause-stays :
+    goal.returns-in_ok-continue_text-in-Ok-clause-stays
+returns-in_ok-continue_text-in-Ok-clause-stays g c = λ s other fits.
+    let old = c.args.self.now in
+    subst (λ (k : Kept). FitsKept s.accepted other old.held k.planes)
+    (sym c.planes.follows.holds-at-none)
+    (fits_stay s.accepted other old.held old.kept c.have_picture.new.kept
+    c.have_picture.ensures.stays fits)
+
+pub returns-in_err-continue_text-in-Ok-clause-stays :
+    goal.returns-in_err-continue_text-in-Ok-clause-stays
+returns-in_err-continue_text-in-Ok-clause-stays g c = λ s other fits.
+    let old = c.args.self.now in
+    subst (λ (k : Kept). FitsKept s.accepted other old.held k.planes)
+    (sym c.planes.follows.holds-at-none)
+    (fits_stay s.accepted other old.held old.kept c.have_picture.new.kept
+    c.have_picture.ensures.stays fits)
+
+pub returns-in-Err-clause-stays : goal.returns-in-Err-clause-stays
+returns-in-Err-clause-stays g c = λ s other fits.
+    fits_stay s.accepted other c.args.self.now.held c.args.self.now.kept c.have_picture.new.kept
+    c.have_picture.ensures.stays fits

@@ -1,7 +1,7 @@
 use Rattle.std.specs.Prelude.{◌-◌}
 use Rattle.ffv1_reads.proofs.Reading.{Goes}
 use Rattle.ffv1_matroska.specs.Turns.{scanned}
-use Rattle.ffv1_matroska.proofs.outer_turn.scan.Given as goal
+use Rattle.ffv1_matroska.proofs.seeking.scan.Given as goal
 
 abbrev pub invariant-loop-passed : goal.invariant-loop-passed
 invariant-loop-passed g l =

@@ -8,7 +8,7 @@ use Rattle.ffv1_reads.proofs.EndReadings.{halts_last, none_given, stops_here}
 use Rattle.ffv1_reads.proofs.Reading.{goes_same}
 use Rattle.ffv1_matroska.specs.Turns.{byte_matched, scanned}
 use Rattle.ffv1_matroska.proofs.Scanning.{scan_ends, scan_over, scans_byte}
-use Rattle.ffv1_matroska.proofs.outer_turn.scan.Goals as goal
+use Rattle.ffv1_matroska.proofs.seeking.scan.Goals as goal
 
 pub returns-in-Err : goal.returns-in-Err
 returns-in-Err g c =
