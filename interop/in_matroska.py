@@ -264,7 +264,7 @@ def read_merged(results):
     refused(results, "mkvmerge, compressed", "packed.mkv", "83 Encoded")
     if shutil.which("mkvpropedit"):
         run("mkvpropedit", "merged.mkv", "--edit", "track:1", "--set", f"name={'x' * 20000}")
-        refused(results, "Tracks after the Clusters", "merged.mkv", "82 NoTracks")
+        whole(results, "Tracks after the Clusters", C422, (96, 96), "merged.mkv")
         merged("mended.mkv", "merged.mkv")
         whole(results, "Tracks put before the Clusters", C422, (96, 96), "mended.mkv")
 

@@ -94,17 +94,30 @@ def get_total(source, left, total):
     return total
 
 
+def begins_video(data):
+    """Own: whether the first 100 bytes of a stream's list are those of FFV1 video: a header of video,
+    of 56 or 64 bytes, and then a format of FFV1."""
+    at = {56: 64, 64: 72}.get(int.from_bytes(data[4:8], "little"))
+    return at is not None and data[:4] == b"strh" and data[8:12] == b"vids" \
+        and data[at:at + 4] == b"strf" and data[at + 24:at + 28].upper() == b"FFV1"
+
+
 class Opening:
     """What the chunks before movi say so far: how many streams were read, the head that counts with
-    the number of its stream, how many frames the whole file has, and how many streams there are."""
+    the number of its stream, how many frames the whole file has, how many streams there are, and how
+    many after the one that counts begin as FFV1 video."""
 
     def __init__(self, wide):
         self.wide, self.streams, self.head, self.number, self.total = wide, 0, None, 0, None
-        self.all = 0
+        self.all = self.others = 0
 
     def stream(self, source, size):
         """A list of a stream. The first counts; wide, the first of FFV1 video, up to number 99."""
         self.all += 1
+        if self.head is not None and self.wide and size >= 104:
+            self.others += begins_video(source.exactly(100, 52))
+            source.skip(padded(size) - 104, 52)
+            return
         if self.head is not None or self.streams > 99:
             source.skip(padded(size) - 4, 52)
             return
@@ -220,7 +233,7 @@ def movi_sizes(source, parts, opening, is_owed):
 
 def avi_frames(source, opening, left, parts):
     """The frames of a file of which the first movi has so many bytes, in turn. Own: at the end there
-    is a note of how many of them repeat the one before."""
+    is a note of how many of them repeat the one before, and of further streams of FFV1 video."""
     count, repeated = 0, 0
     owed = lambda: count < (opening.total or 0)
     more = movi_sizes(source, parts, opening, owed) if opening.wide else []
@@ -229,5 +242,7 @@ def avi_frames(source, opening, left, parts):
             yield frame
             count += 1
             repeated += not frame
+    if opening.others:
+        source.notes[91] = f"OtherVideo {opening.others}"
     if repeated:
         source.notes[93] = f"Repeated {repeated}"

@@ -14,7 +14,7 @@ import ffv1
 import matroska
 import matroska_writer
 from known_answers import matroska as known
-from known_answers import matroska_others, matroska_tracks, matroska_written
+from known_answers import matroska_late, matroska_others, matroska_tracks, matroska_written
 from known_answers.case import fault_of
 from known_answers.matroska import C, FRAME, H, RECORD, T, element, spell
 from random_matroska import Small, made, written
@@ -40,16 +40,16 @@ class Failing:
 
 
 class Answer:
-    """What a file is read as: what its Tracks say, where it could be opened; the size of its
-    Segment; the frames; the fault after them, or 0 for the end; where the reader stands then; and
-    what is noted, by number."""
+    """What a file is read as, whose bytes come once or may begin again: what its Tracks say, where it
+    could be opened; the size of its Segment; the frames; the fault after them, or 0 for the end; where
+    the reader stands then; and what is noted, by number."""
 
-    def __init__(self, read, tell):
+    def __init__(self, read, tell, begin=None):
         self.head, self.size, self.frames, self.fault = None, None, [], 0
-        source = ebml.Input(read)
+        source = ebml.Input(read, begin)
         self.notes = source.notes
         try:
-            self.head, self.size, frames = matroska.open_matroska(source)
+            self.head, self.size, frames = matroska.open_again(source)
             for frame in frames:
                 self.frames.append(frame)
         except ffv1.Fault as fault:
@@ -71,6 +71,12 @@ def said(head):
 def read(data):
     file = io.BytesIO(data)
     return Answer(file.read, file.tell)
+
+
+def read_again(data):
+    """The answer where the bytes may begin again."""
+    file = io.BytesIO(data)
+    return Answer(file.read, file.tell, lambda: file.seek(0) == 0)
 
 
 def read_failing(data):
@@ -95,6 +101,14 @@ def known_files():
         yield name, (answer.frames, answer.fault, len(file) - answer.at), \
             ([FRAME] * frames, fault, left)
         yield f"{name}, whatever is after", same_whatever(file, answer), True
+        again, owed = read_again(file), matroska_late.AGAIN.get(name, (frames, fault))
+        yield f"{name}, which may begin again", \
+            (len(again.frames), again.fault, again.all() == answer.all() or fault == 82), (*owed, True)
+    for name, file, frames, fault, left in matroska_late.ROWS:
+        answer = read_again(file)
+        found = answer.frames, answer.fault, len(file) - answer.at
+        yield f"Tracks behind Clusters: {name}", found, ([FRAME] * frames, fault, left)
+        yield f"Tracks behind Clusters: {name}, of bytes that come once", read(file).fault, 82
     for name, content, wanted in matroska_tracks.files():
         file = matroska_tracks.file_of(content)
         answer, is_fault = read(file), isinstance(wanted, int)

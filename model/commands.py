@@ -56,9 +56,19 @@ def ranged(frames, choice, passed=None):
     return itertools.islice(counted(frames, [] if passed is None else passed), first, last)
 
 
+def shown_in(frames, choice):
+    """The payloads of frames that a line gives, as they are shown: in place of a first one of no bytes
+    the last one before it that has bytes."""
+    passed = []
+    for number, payload in ranged(frames, choice, passed):
+        if number == choice["from"] and not payload:
+            payload = next(filter(None, reversed(passed)), payload)
+        yield payload
+
+
 def unpack(source, out, choice=ALL):
     head, config, every, _ = opened(source)
-    frames = (payload for _, payload in ranged(every, choice))
+    frames = shown_in(every, choice)
     if config.rct:
         count = unpack_ppm(config, frames, out)
     else:
@@ -204,6 +214,14 @@ def framemd5(source, out, choice=ALL):
 
 
 # -------------------------------------------------------------------------------------- the program
+
+def begun_again(descriptor):
+    """Whether a file was sent to its first byte. Own: only a regular one is."""
+    if not stat.S_ISREG(os.fstat(descriptor).st_mode):
+        return False
+    os.lseek(descriptor, 0, os.SEEK_SET)
+    return True
+
 
 def opened_file(path, flags, number):
     """A file's descriptor; the fault where it cannot be opened."""
@@ -358,7 +376,8 @@ def perform(order, path, output, standard_input):
     told, md5s = "", list_of(order.choice.get("against"), standard_input)
     descriptors = [os.dup(standard_input) if path == "-" else opened_file(path, os.O_RDONLY, 56)]
     try:
-        source = files.Source(lambda count: os.read(descriptors[0], count))
+        source = files.Source(lambda count: os.read(descriptors[0], count),
+                              lambda: path != "-" and begun_again(descriptors[0]))
         if order.command in ("pack", "unpack"):
             told = make(order, source, descriptors, output)
         elif md5s:

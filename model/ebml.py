@@ -40,9 +40,13 @@ class Input(files.Source):
     """Bytes that are read from the left. After the CRC-32 of an element they are summed, until
     `judge` compares the two."""
 
-    def __init__(self, read):
-        super().__init__(read)
+    def __init__(self, read, begin=None):
+        super().__init__(read, begin)
         self.wanted, self.sum = None, 0
+
+    def again(self):
+        self.wanted = None
+        return super().again()
 
     def some(self, count):
         data = super().some(count)
@@ -62,7 +66,9 @@ class Input(files.Source):
 
 
 def in_memory(data):
-    return Input(io.BytesIO(data).read)
+    """Bytes that may begin again."""
+    file = io.BytesIO(data)
+    return Input(file.read, lambda: file.seek(0) == 0)
 
 
 # ------------------------------------------------------------------- headers of elements (4, 5, 6)

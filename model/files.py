@@ -21,10 +21,18 @@ class Source:
     """Bytes that are read from the left. `read` answers at most so many of them, and none at the
     end; a read that failed is 56. How many were read is counted, and how many stand before the
     element or chunk that was begun last. Notes are what leaves a doubt that no reader can settle, by
-    number."""
+    number. `begin` begins again, and answers whether it could."""
 
-    def __init__(self, read):
+    def __init__(self, read, begin=None):
         self.read, self.position, self.begun, self.notes = read, 0, 0, {}
+        self.begin = begin
+
+    def again(self):
+        """Whether the bytes come from the first one on again; nothing is changed where they do not."""
+        if self.begin is None or not self.begin():
+            return False
+        self.position = self.begun = 0
+        return True
 
     def mark(self):
         """An element or chunk begins here."""

@@ -6,11 +6,10 @@ import math
 
 import avi_format
 import ffv1
-import files
 import matroska
 import outline
 from ffv1 import Fault
-from opening import after, input_of
+from opening import begun_with, input_of
 from quiet import told
 
 # ITU-T H.273, in the words of FFmpeg
@@ -128,11 +127,12 @@ def tell_count(head, count, facts):
 
 
 def info(source, out, choice):
-    """What a file is. Own: by its first bytes, and then as it is read."""
+    """What a file is. Own: by its first bytes, and then as it is read, from its beginning again if need
+    be."""
     facts, first = outline.Facts(out, choice["json"]), source.some(outline.MOST)
     outline.outline(first, facts)
-    data, is_matroska = input_of(files.Source(after(first, source.read)))
-    head, *_, frames = matroska.open_matroska(data) if is_matroska else avi_format.open_avi(data, True)
+    data, is_matroska = input_of(begun_with(first, source))
+    head, *_, frames = matroska.open_again(data) if is_matroska else avi_format.open_avi(data, True)
     tell_head(head, facts)
     config = ffv1.read_record(head.record, head.width, head.height, wide=True)
     count = tell_stream(head, config, iter(frames), facts)

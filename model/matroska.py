@@ -38,12 +38,12 @@ NO_COLOUR = {MATRIX: 2, SITING_HORZ: 0, SITING_VERT: 0, RANGE: 0, TRANSFER: 2, P
 class Head:
     """What Tracks say of the frames: their track, the size of the pictures, rate and scale, of
     which rate / scale is the pictures a second, and the configuration record; and the numbers of
-    all tracks; and what Video says of colours."""
+    all tracks; what Video says of colours; and how many other tracks are FFV1 video."""
 
-    def __init__(self, number, width, height, rate, scale, record, known=(), colour=None):
+    def __init__(self, number, width, height, rate, scale, record, known=(), colour=None, others=0):
         self.number, self.width, self.height = number, width, height
         self.rate, self.scale, self.record, self.known = rate, scale, record, known
-        self.colour = colour or dict(NO_COLOUR)
+        self.colour, self.others = colour or dict(NO_COLOUR), others
 
 
 # -------------------------------------------------------------------------------------------- rates
@@ -106,6 +106,27 @@ def numbers_in(content):
     return found
 
 
+def is_video(ident, entry):
+    """Whether an element of Tracks is an entry of FFV1 video. Own: one of which a field that tells
+    this can't be read is none."""
+    try:
+        return ident == TRACK_ENTRY and record_in(entry) is not None
+    except Fault:
+        return False
+
+
+def others_in(content):
+    """Own: how many entries are FFV1 video beside the first, up to the first element that cannot be
+    read."""
+    count = 0
+    try:
+        for ident, entry in ebml.elements(content):
+            count += is_video(ident, entry)
+    except Fault:
+        pass
+    return max(count - 1, 0)
+
+
 def colour_field(content, ident):
     """A number of Colour. Own: above 255, or where it cannot be read, it says nothing."""
     try:
@@ -139,7 +160,7 @@ def head_in(content):
         width, height = (min(ebml.find_number(video, field, 0), MOST)
                          for field in [PIXEL_WIDTH, PIXEL_HEIGHT])
         return Head(number, width, height, rate, scale, record, numbers_in(content),
-                    colour_in(video))
+                    colour_in(video), others_in(content))
     raise Fault(51)
 
 
@@ -162,7 +183,7 @@ class Segment:
         self.left = OPEN if size is None else size
         self.end = None if size is None else source.position + size
         self.cluster, self.group, self.begins, self.loose = 0, 0, False, False
-        self.known = ()
+        self.known, self.others = (), 0
 
     def header(self):
         """The ID and the size of the next element of the Segment, or none at its end; an open one
@@ -282,7 +303,9 @@ class Segment:
     def look_behind(self):
         """What the end leaves to be said. Own: an open Segment that has no Cues behind its last
         Cluster may have been cut; behind one of known size another file is 88, and for other bytes
-        there is a note."""
+        there is a note. There is one of further tracks of FFV1 video, too, which are not read."""
+        if self.others:
+            self.source.notes[91] = f"OtherVideo {self.others}"
         if self.size is None:
             if not self.cued:
                 self.source.notes[90] = "Open"
@@ -320,12 +343,13 @@ def segment_size(source):
     return ebml.get_size(source, 8)[0]
 
 
-def open_matroska(source, read=Segment.frames):
+def open_matroska(source, read=Segment.frames, head=None):
     """What the first Tracks of a file say; the size of its Segment, none where it is open; and its
-    frames in turn, which are read so. Own: Tracks stand before the first Cluster."""
+    frames in turn, which are read so. Own: Tracks stand before the first Cluster, or what they say is
+    known."""
     ebml.open_ebml(source)
     size = segment_size(source)
-    segment, head = Segment(source, size), None
+    segment = Segment(source, size)
     while (header := segment.header()) and header[0] != CLUSTER:
         if header[0] == TRACKS and head is None:
             head = head_in(source.exactly(ebml.limited(header[1]), 52))
@@ -333,7 +357,41 @@ def open_matroska(source, read=Segment.frames):
             segment.other(header)
     if head is None:
         raise Fault(82)
-    segment.known = head.known
+    segment.known, segment.others = head.known, head.others
     if header:
         segment.enter(header[1])
     return head, size, read(segment, head.number)
+
+
+def sought(source):
+    """What the first Tracks of a file say, wherever they stand. Own: a Cluster of known size is passed
+    as a whole, and of one of unknown size each element."""
+    ebml.open_ebml(source)
+    segment = Segment(source, segment_size(source))
+    while header := segment.header():
+        ident, size = header
+        if ident == TRACKS:
+            return head_in(source.exactly(ebml.limited(size), 52))
+        if ident == CLUSTER:
+            segment.loose = size is None
+            source.skip(size or 0, 52)
+        elif segment.loose and ident in (SIMPLE_BLOCK, BLOCK_GROUP):
+            source.skip(known(header)[1], 52)
+        else:
+            segment.other(header)
+    raise Fault(82)
+
+
+def open_again(source, read=Segment.frames):
+    """A file whose first Tracks may stand behind Clusters. Own: then it is read from its beginning up to
+    these, and from its beginning again, with what they say; a source that cannot begin again is
+    refused."""
+    try:
+        return open_matroska(source, read)
+    except Fault as fault:
+        if fault.number != 82 or not source.again():
+            raise
+    head = sought(source)
+    if not source.again():
+        raise Fault(56)
+    return open_matroska(source, read, head)

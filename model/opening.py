@@ -19,13 +19,32 @@ def after(data, read):
     return more
 
 
+def begun_with(first, source):
+    """The bytes of a source from its beginning, of which these were looked at. Where it begins again it
+    gives all of them once more."""
+    reading = after(first, source.read)
+
+    def begin():
+        nonlocal reading
+        if not source.again():
+            return False
+        reading = source.read
+        return True
+    return files.Source(lambda count: reading(count), begin)
+
+
 def input_of(source):
     """The bytes of a file from its beginning, of which the first was looked at, and whether it is
     Matroska. Own: what begins with the byte 1A is, and all else is an AVI. What is noted of it is noted
     of the source."""
     first = source.some(1)
-    read = after(first, source.read)
-    data = ebml.Input(read) if first == EBML else files.Source(read)
+    data = ebml.Input(None) if first == EBML else files.Source(None)
+    data.read = after(first, source.read)
+
+    def begin():
+        data.read = source.read
+        return source.again()
+    data.begin = begin
     data.notes = source.notes
     return data, first == EBML
 
@@ -39,7 +58,7 @@ def opened_in(data, is_matroska, damaged=False):
     """The same of bytes; where they may be damaged, what is told stands among the frames."""
     if is_matroska:
         read = damaged_files.items if damaged else matroska.Segment.frames
-        head, size, frames = matroska.open_matroska(data, read)
+        head, size, frames = matroska.open_again(data, read)
         segment = [f"segment {'open' if size is None else size}"]
     else:
         head, frames = avi_format.open_avi(data, True)

@@ -1,7 +1,7 @@
 # SPDX-License-Identifier: MIT OR Apache-2.0
 """What `info` tells of files: sound ones, refused ones, and such as are none."""
 from known_answers.case import FRAME, Case, Step, avi, one
-from known_answers.matroska import C, H, T, segment, spell
+from known_answers.matroska import C, H, T, element, segment, spell
 from known_answers.objects import fault
 
 TRACKS = 'track 1             video, "FFV1", unknown\n'
@@ -98,4 +98,20 @@ def voids():
         Step(["info", "e"], MATROSKA.replace("Matroska", "WebM") + track, "80 NotMatroska")], given)
 
 
-CASES = [facts, voids]
+def late_tracks():
+    """Of a Matroska file whose Tracks stand behind Clusters, among its first 2^20 bytes or after them:
+    those alone tell of tracks."""
+    rest = HEAD.replace("25/1", "unknown") + RECORD + PICTURE
+    track = 'track 1             video, "V_FFV1", "eng"\n'
+    given = {"a": H + segment(C, T, C), "b": H + segment(C, element("EC", bytes(1 << 20), length=4), T, C),
+             "c": H + segment(C, C)}
+    yield Case("info of Tracks behind Clusters", given, [
+        Step(["info", "a"], MATROSKA + track + rest),
+        Step(["info", "--count", "a"], MATROSKA + track + rest
+             + "counted_frames      2\ncounted_duration    unknown\n"),
+        Step(["info", "--count", "b"], MATROSKA + rest
+             + "counted_frames      2\ncounted_duration    unknown\n"),
+        Step(["info", "c"], MATROSKA, "82 NoTracks")], given)
+
+
+CASES = [facts, voids, late_tracks]

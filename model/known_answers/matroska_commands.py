@@ -3,8 +3,8 @@
 its three forms, each of their beginnings, and files that are Matroska by their first byte alone.
 """
 import ffv1
-from known_answers import matroska, matroska_tracks
-from known_answers.case import FRAME, MONO, RED, Case, Step, avi, checked, one, ppm, y4m
+from known_answers import matroska, matroska_late, matroska_tracks
+from known_answers.case import ANY, FRAME, MONO, RED, Case, Step, avi, checked, one, ppm, y4m
 from known_answers.matroska import C, H, LOOSE, RECORD, B, cluster, element, open_segment, segment
 from known_answers.matroska import spell, summed, whole
 from known_answers.matroska_tracks import BITMAP, by_fourcc
@@ -62,9 +62,20 @@ def shown(name, file, text, fault=""):
 def known_files():
     """The files whose frames are known."""
     for name, file, count, number, _ in matroska.files():
+        count, number = matroska_late.AGAIN.get(name, (count, number))
         fault = f"{number} {ffv1.FAULTS[number]}" if number else ""
         if file.startswith(b"\x1a"):
             yield read(f"Matroska: {name}", file, count, fault, NOTED.get(name, ""))
+
+
+def late_files():
+    """Those whose Tracks stand behind Clusters."""
+    for name, file, count, number, _ in matroska_late.ROWS:
+        fault = f"{number} {ffv1.FAULTS[number]}" if number else ""
+        yield read(f"Tracks behind Clusters: {name}", file, count, fault,
+                   matroska_late.NOTED.get(name, ""))
+        yield Case(f"Tracks behind Clusters: {name}, by info", {"in": file},
+                   [Step(["info", "--count", "in"], ANY, fault)], {"in": file})
 
 
 def said_of(answer):
@@ -261,5 +272,5 @@ def others():
                   "51 NoFfv1")
 
 
-CASES = [known_files, known_tracks, forms, beginnings, first_bytes, images, pictures, damaged,
+CASES = [known_files, late_files, known_tracks, forms, beginnings, first_bytes, images, pictures, damaged,
          others]

@@ -84,7 +84,7 @@ def commands():
         Step(["unpack", "--from", "1", "in", "b"], "frames 2\n", note=note),
         Step(["unpack", "--from", "1", "--frames", "1", "in", "c"], "frames 1\n"),
         Step(["unpack", "--all", "in", "d"], "frames 3\n", note=note),
-    ], {"a": y4m(SAID, b"\0", b"\0", b"\xff"), "b": y4m(SAID, b"\xff"), "c": b"",
+    ], {"a": y4m(SAID, b"\0", b"\0", b"\xff"), "b": y4m(SAID, b"\0", b"\xff"), "c": y4m(SAID, b"\0"),
         "d": y4m(SAID, b"\0", b"\0", b"\xff")})
 
 
@@ -111,4 +111,39 @@ def pictures():
             {"in": file, "out": left, "all": left})
 
 
-CASES = [files, commands, pictures]
+def parts():
+    """Empty chunks at the begin of a part show the last picture before it, of both texts."""
+    frames = [b"", FRAME, b"", b"", WHITE, b""]
+    config = one(chroma=True, rct=True)
+    coded = [ffv1.encode_frame(config, [[[red]], [[2]], [[3]]], [0, 0, 0]) for red in (1, 4)]
+    images = [b"", coded[0], b"", b"", coded[1], b""]
+    first, second = ppm(1, 1, b"\1\2\3"), ppm(1, 1, b"\4\2\3")
+    for name, file, text in [
+            ("pictures", avi(one(), frames, 0, 0),
+             lambda *whites: y4m(SAID, *[b"\xff" if white else b"\0" for white in whites])),
+            ("images", avi(config, images),
+             lambda *seconds: b"".join(second if later else first for later in seconds))]:
+        yield Case(f"parts of {name} that begin with an empty chunk", {"in": file}, [
+            Step(["unpack", "--from", "2", "in", "a"], "frames 4\n", note="93 Repeated 4"),
+            Step(["unpack", "--from", "3", "--frames", "1", "in", "b"], "frames 1\n"),
+            Step(["unpack", "--from", "3", "--frames", "2", "in", "c"], "frames 2\n"),
+            Step(["unpack", "--from", "5", "in", "d"], "frames 1\n", note="93 Repeated 4"),
+            Step(["unpack", "--frames", "1", "in", "e"], "frames 1\n"),
+            Step(["unpack", "--from", "4", "--frames", "1", "in", "f"], "frames 1\n")],
+            {"a": text(0, 0, 1, 1), "b": text(0), "c": text(0, 1), "d": text(1), "e": b"",
+             "f": text(1)})
+
+
+def refused_before():
+    """A frame before a part is decoded only if the part shows it; then its fault is the part's."""
+    given = {"in": avi(one(), [FRAME, bytes(3), b"", WHITE], 0, 0)}
+    yield Case("a refused frame before an empty chunk", given, [
+        Step(["unpack", "--from", "2", "in", "a"], "", "30 NotKey"),
+        Step(["unpack", "--from", "2", "--frames", "1", "in", "b"], "", "30 NotKey"),
+        Step(["unpack", "--from", "3", "in", "c"], "frames 1\n", note="93 Repeated 1"),
+        Step(["check", "--from", "2", "in"], f"frame 2: again\n{lines([13] * 4).splitlines()[3]}\n"
+             "frames 2\n", note="93 Repeated 1")],
+        {"a": b"", "b": b"", "c": y4m(SAID, b"\xff")})
+
+
+CASES = [files, commands, pictures, parts, refused_before]

@@ -1,7 +1,7 @@
 # SPDX-License-Identifier: MIT OR Apache-2.0
 """Files of more than one RIFF and of more than one stream, and records that end where biSize says."""
 import ffv1
-from known_answers.case import FRAME, checked, one
+from known_answers.case import FRAME, Case, Step, checked, one
 from known_answers.containers import GOOD, INDEX, JUNK, MOVI, SOUND, STRF, STRH, chunk, chunk_list
 from known_answers.containers import header, numbers, riff, spelled
 
@@ -138,7 +138,6 @@ OF_STREAMS = [
     ("stream 12", riff(streams(*[SOUND] * 12), named(12, 13)), whole(1), ""),
     ("stream 99", riff(streams(*[SOUND] * 99), named(99, 100)), whole(1), ""),
     ("stream 100", riff(streams(*[SOUND] * 100), MOVI), "", "51 NoFfv1"),
-    ("the second of two", riff(streams(header()[12:]), named(0, 2)), whole(1), ""),
     ("sound behind, with a second stream", riff(streams(), chunk_list(b"hdrl", SOUND), named(0, 2)),
      whole(1), ""),
 ]
@@ -183,6 +182,8 @@ def streams_and_records():
     """Which stream counts, and where its record ends."""
     for name, file, output, fault in OF_STREAMS + CLOSED:
         yield checked(name, file, output, fault)
+    yield Case("the second of two", {"in": riff(streams(header()[12:]), named(0, 2))}, [
+        Step(["check", "in"], whole(1), note="91 OtherVideo 1")])
     for name, hdrl, output, fault in OF_RECORDS:
         yield checked(name, riff(hdrl, MOVI), output, fault)
 

@@ -5,7 +5,9 @@ ghost use Rattle.std.specs.Prelude.{◌≡◌, ◌≢◌, IfErr, IfOk, MatchResu
 ghost use Rattle.ffv1_wire.specs.Passage.{passage};
 ghost use Rattle.ffv1_pack.specs.Pack.{Packs, RefusesPack};
 ghost use Rattle.ffv1_pack.specs.PackMatroska.{PacksMatroska, RefusesMatroska};
+ghost use Rattle.ffv1_info.specs.Info.{IsInfoReadAgain};
 ghost use Rattle.ffv1_unpack.specs.Check.{IsCheckFault};
+ghost use Rattle.ffv1_unpack.specs.Opens.{IsReadAgain};
 ghost use Rattle.ffv1_unpack.specs.Show.{IsShowFault};
 ghost use Rattle.ffv1_unpack.specs.Unpack.{UnpackRangeDone, UnpackRangeStops};
 ghost use Rattle.ffv1.specs.Made.{UnpacksAll};
@@ -23,7 +25,7 @@ use ffv1_files::Notes;
 use ffv1_info::info;
 use ffv1_orders::Refusal;
 use ffv1_outline::Form;
-use ffv1_wire::{ByteIn, ByteOut, PatchOut};
+use ffv1_wire::{AgainIn, ByteIn, ByteOut, PatchOut};
 use ffv1_words::{Choice, FrameRange};
 use std::alloc::Global;
 
@@ -31,7 +33,7 @@ use std::alloc::Global;
 /// `all` also those after one that is refused, and if no frame is left out also what is left of a
 /// Matroska file after a fault of its own. Answers the first fault of those, and what is noted of
 /// the file.
-pub fn check_stream<R: ByteIn, W: ByteOut>(
+pub fn check_stream<R: AgainIn, W: ByteOut>(
     alloc: Global,
     input: &mut R,
     output: &mut W,
@@ -43,6 +45,8 @@ pub fn check_stream<R: ByteIn, W: ByteOut>(
         (passage W.contents W.failures output.old output.new) result }
     ensures none { all ≡ false → IfOk result (λ answer. answer.0 ≡ None) }
     ensures own { IfErr result (IsCheckFault profile.Wide) }
+    ensures again { IfErr result (IsReadAgain profile.Wide (R.begins input.old)
+        (passage R.remaining R.failures input.old input.new)) }
 {
     if !all {
         let notes = check_range(alloc, Profile::Wide, input, output, place, range)?;
@@ -55,7 +59,7 @@ pub fn check_stream<R: ByteIn, W: ByteOut>(
 }
 
 /// Writes what a file says, and with `cost` what its frames cost. Answers what is noted of it.
-pub fn show_stream<R: ByteIn, W: ByteOut>(
+pub fn show_stream<R: AgainIn, W: ByteOut>(
     alloc: Global,
     input: &mut R,
     output: &mut W,
@@ -64,6 +68,8 @@ pub fn show_stream<R: ByteIn, W: ByteOut>(
     ensures shows { Shows cost (passage R.remaining R.failures input.old input.new)
         (passage W.contents W.failures output.old output.new) result }
     ensures own { IfErr result (IsFault (IsShowFault profile.Wide cost)) }
+    ensures again { IfErr result (IsFault (IsReadAgain profile.Wide (R.begins input.old)
+        (passage R.remaining R.failures input.old input.new))) }
     ensures fault { IfErr result IsAnyFault }
 {
     match show(alloc, Profile::Wide, input, output, cost) {
@@ -73,7 +79,7 @@ pub fn show_stream<R: ByteIn, W: ByteOut>(
 }
 
 /// Writes the facts of a file, and with `count` how many frames it has.
-pub fn info_stream<R: ByteIn + Drop, W: ByteOut>(
+pub fn info_stream<R: AgainIn + Drop, W: ByteOut>(
     alloc: Global,
     input: R,
     output: &mut W,
@@ -82,6 +88,8 @@ pub fn info_stream<R: ByteIn + Drop, W: ByteOut>(
 ) -> Result<(), Refusal>
     ensures informs { Informs form count (R.remaining input)
         (passage W.contents W.failures output.old output.new) result }
+    ensures again { ((reader : R) → R.begins reader ≡ true) →
+        IfErr result (IsFault (IsInfoReadAgain profile.Wide (R.remaining input))) }
     ensures fault { IfErr result IsAnyFault }
 {
     match info(alloc, Profile::Wide, input, output, form, count) {
@@ -108,7 +116,7 @@ pub fn trial_stream<R: ByteIn, W: ByteOut>(
 
 /// Writes the MD5 of each picture of a file, or of a text, which begins with `P` or `Y`. Only
 /// frames of a file are left out. Answers what is noted of a file; of a text nothing is.
-pub fn framemd5_stream<R: ByteIn, W: ByteOut>(
+pub fn framemd5_stream<R: AgainIn, W: ByteOut>(
     alloc: Global,
     first: Option<u8>,
     input: &mut R,
@@ -127,6 +135,9 @@ pub fn framemd5_stream<R: ByteIn, W: ByteOut>(
     ensures frames { leaves_out range ≡ true → WritesFrames range
         (passage R.remaining R.failures input.old input.new)
         (passage W.contents W.failures output.old output.new) result }
+    ensures again { first ≢ Some 80 → first ≢ Some 89 → IfErr result
+        (IsFault (IsReadAgain profile.Wide (R.begins input.old)
+        (passage R.remaining R.failures input.old input.new))) }
     ensures fault { IfErr result IsAnyFault }
 {
     if !range.leaves_out() && (first == Some(b'P') || first == Some(b'Y')) {
@@ -143,7 +154,7 @@ pub fn framemd5_stream<R: ByteIn, W: ByteOut>(
 
 /// Unpacks frames of a file into a text of their pictures. Answers the writer, how many pictures
 /// there are, and what is noted of the file.
-pub fn unpack_stream<R: ByteIn, W: ByteOut>(
+pub fn unpack_stream<R: AgainIn, W: ByteOut>(
     alloc: Global,
     input: &mut R,
     output: W,
@@ -156,6 +167,8 @@ pub fn unpack_stream<R: ByteIn, W: ByteOut>(
         (IsFault (UnpackRangeStops profile.Wide range
         (passage R.remaining R.failures input.old input.new)
         (passage W.contents W.failures output result.0))) }
+    ensures again { IfErr result.1 (IsFault (IsReadAgain profile.Wide (R.begins input.old)
+        (passage R.remaining R.failures input.old input.new))) }
     ensures fault { IfErr result.1 IsAnyFault }
 {
     let (output, answer) = unpack_range(alloc, Profile::Wide, input, output, range);
@@ -168,7 +181,7 @@ pub fn unpack_stream<R: ByteIn, W: ByteOut>(
 /// Unpacks all of a file that may be damaged into a text of its pictures, and writes a line of each
 /// fault. Answers the writer, how many frames and faults there are, the first fault, and what is
 /// noted of the file.
-pub fn unpack_all_stream<R: ByteIn, L: ByteOut, W: ByteOut>(
+pub fn unpack_all_stream<R: AgainIn, L: ByteOut, W: ByteOut>(
     alloc: Global,
     input: &mut R,
     lines: &mut L,
@@ -177,6 +190,8 @@ pub fn unpack_all_stream<R: ByteIn, L: ByteOut, W: ByteOut>(
     ensures unpacks { UnpacksAll (passage R.remaining R.failures input.old input.new)
         (passage L.contents L.failures lines.old lines.new)
         (passage W.contents W.failures output result.0) result.1 }
+    ensures again { IfErr result.1 (IsFault (IsReadAgain profile.Wide (R.begins input.old)
+        (passage R.remaining R.failures input.old input.new))) }
     ensures fault { IfErr result.1 IsAnyFault }
 {
     let (output, answer) = unpack_all(alloc, Profile::Wide, input, lines, output);

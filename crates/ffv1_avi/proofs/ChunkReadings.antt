@@ -29,15 +29,15 @@ use Rattle.ffv1_avi.specs.Names.{bars, is_barred, least_bytes, most_bytes}
 use Rattle.ffv1_avi.specs.Names.{is_frame}
 
 -- a header
-abbrev Fits : ℕ → Option Entry → Type 0
+abbrev pub Fits : ℕ → Option Entry → Type 0
 Fits left None = left ≡ 0
 Fits left (Some e) = 8 + (padded e.size + e.left) ≡ left
 
-abbrev left_of : ℕ → Option Entry → ℕ
+abbrev pub left_of : ℕ → Option Entry → ℕ
 left_of left None = left
 left_of left (Some e) = padded e.size + e.left
 
-entry_takes : (barred : List ℕ → Bool) (left : ℕ) → Takes (Fits left) left (left_of left) (entry_in barred left)
+pub entry_takes : (barred : List ℕ → Bool) (left : ℕ) → Takes (Fits left) left (left_of left) (entry_in barred left)
 unfolding entry_in
 entry_takes barred left =
     takes_if (left == 0) (given None) _ (λ none. takes_given None (eqb-true left 0 none) refl)
@@ -59,18 +59,18 @@ pub entry_end : (barred : List ℕ → Bool) (left : ℕ) {a b : Option (List �
 entry_end barred left read = ((entry_takes barred left).only _ _ _ (read.is [])).0
 
 -- a chunk of movi
-abbrev visit_left : Entry → Unit {0} × Option (ℕ × ℕ) → ℕ
+abbrev pub visit_left : Entry → Unit {0} × Option (ℕ × ℕ) → ℕ
 visit_left e (u, None) = 0
 visit_left e (u, Some p) = padded e.size
 
-abbrev Same : Entry → Unit {0} × Option (ℕ × ℕ) → Type 0
+abbrev pub Same : Entry → Unit {0} × Option (ℕ × ℕ) → Type 0
 Same e (u, None) = Unit {0}
 Same e (u, Some p) = p ≡ (e.size, e.left)
 
 pub skipped_takes : (e : Entry) → Takes (Same e) (padded e.size) (visit_left e) (passed (padded e.size) >>= λ _. given (tt {0}, None))
 skipped_takes e = takes_then (passed (padded e.size)) _ (takes_same _ _ (passed (padded e.size)) (omega arith) (takes_passed (padded e.size) 0)) (λ _ _. takes_given _ tt refl)
 
-visit_takes : (names : Names) (e : Entry) → Takes (Same e) (padded e.size) (visit_left e) (visit_movi names tt e)
+pub visit_takes : (names : Names) (e : Entry) → Takes (Same e) (padded e.size) (visit_left e) (visit_movi names tt e)
 unfolding visit_movi
 visit_takes names e =
     takes_if (is_barred names e.name) (refused fault.NotAvi) _ (λ _. takes_refused fault.NotAvi)

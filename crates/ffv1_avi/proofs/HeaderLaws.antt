@@ -13,6 +13,7 @@ use Rattle.ffv1_avi.specs.Streams.{stream_read}
 use Rattle.ffv1_avi.specs.Walk.{is_name}
 use Rattle.ffv1_avi.proofs.InnerLists.{IsList, list_read_complete, list_read_sound, list_skip_complete, list_skip_sound, own_taken}
 use Rattle.ffv1_avi.proofs.ListWalks.{Complete, IsPassed, Run, Sound, Taking}
+use Rattle.ffv1_avi.proofs.OtherStreams.{OtherTakes, other_given, other_keeps, other_taken}
 use Rattle.ffv1_reads.proofs.Results.{cut_back, cut_front}
 use Rattle.ffv1_avi.proofs.Fields.{skipped_passed}
 use Rattle.ffv1_reads.proofs.WantedBytes.{passed_complete, passed_sound, taken_sound}
@@ -30,13 +31,13 @@ pub record StreamBytes (extent : Extent) (bytes : List ℕ) (o : Option Head) : 
   pub says : SaysThat extent fields o
 
 abbrev pub StreamTakes : Extent → Headers → Option Head → Bool → List ℕ → Headers → Type 0
-StreamTakes extent s (Some head) b bytes t = t ≡ s
+StreamTakes extent s (Some head) b bytes t = OtherTakes extent s bytes t
 StreamTakes extent s None false bytes t = t ≡ s
 StreamTakes extent s None true bytes t = (o : Option Head) × (t ≡ stream_known s o) × StreamBytes extent bytes o
 
 -- what is known with a number of frames
 abbrev pub with_frames : Headers → Option ℕ → Headers
-with_frames s n = record { passed = s.passed; head = s.head; frames = n; streams = s.streams }
+with_frames s n = record { passed = s.passed; head = s.head; frames = n; streams = s.streams; others = s.others }
 
 abbrev pub ExtendedTakes : Extent → Headers → List ℕ → Headers → Type 0
 ExtendedTakes FirstMovi s bytes t = t ≡ s
@@ -102,7 +103,9 @@ header_sound extent s e text t rest listed h = on_list (is_name e.name (codes "L
 
     on_stream : (o : Option Head) (b : Bool) (own more : List ℕ) → s.head ≡ o → nat_lt s.passed 100 ≡ b → is_name e.name (codes "LIST") ≡ true → is_name own (codes "strl") ≡ true → text ≡ own ++ more → length own ≡ 4 → stream_visited extent came e.size o more ≡ Ok ((t, None), rest) → IsPassed T s e t text rest
     on_stream (Some head) b own more is few list strl whole four k =
-        on_rest came own more list whole four (λ bytes. rw (list, cut_front 4 own bytes four, strl, is) refl) k
+        let other = other_taken extent came e.size own more t rest (listed list) four k in
+        let there : StreamTakes extent came s.head (nat_lt s.passed 100) (own ++ other.0) t = subst (λ o. StreamTakes extent came o (nat_lt s.passed 100) (own ++ other.0) t) (sym is) other.2 in
+        record { bytes = own ++ other.0; padding = other.1.padding; text_is = whole ∙ other.1.text_is; long = other.1.long; padded_by = other.1.odd; takes = rw (list, cut_front 4 own other.0 four, strl) there }
     on_stream None false own more is few list strl whole four k =
         on_rest came own more list whole four (λ bytes. rw (list, cut_front 4 own bytes four, strl, is, few) refl) (rw few at k)
     on_stream None true own more is few list strl whole four k = on_few own more is few list strl whole four (rw few at k)
@@ -175,7 +178,7 @@ header_complete extent s e bytes padding t rest listed long odd takes = on_list 
         ∙ ap (λ z. read_on z (λ _. given (stream_known came o, None))) (passed_complete (e.size % 2) padding rest odd))
 
     on_stream : (o : Option Head) (b : Bool) → nat_lt s.passed 100 ≡ b → 4 ≤ e.size → StreamTakes extent came o b bytes t → stream_visited extent came e.size o inner ≡ Ok ((t, None), rest)
-    on_stream (Some head) b few room takes = rw takes (skip came room)
+    on_stream (Some head) b few room takes = other_given extent came e.size bytes padding t rest room long odd takes
     on_stream None false few room takes = rw (few, takes) (skip came room)
     on_stream None true few room takes = rw few (on_few room takes.0 takes.1 takes.2)
 
@@ -229,7 +232,7 @@ run_kept extent (c ∷ cs) s t head some run =
     came m is = (ap (λ (z : Headers). z.head) is, ap (λ (z : Headers). z.passed) is)
 
     on_stream : (o : Option Head) (b : Bool) (m : Headers) → s.head ≡ o → StreamTakes extent (stream_came extent s) o b c.bytes m → (m.head ≡ s.head) × (m.passed ≡ s.passed)
-    on_stream (Some x) b m is takes = came m takes
+    on_stream (Some x) b m is takes = let kept = other_keeps extent (stream_came extent s) m c.bytes takes in (kept.0, kept.1)
     on_stream None b m is takes = absurd (no_head head (sym some ∙ is))
 
     on_extended : (x : Extent) (m : Headers) → ExtendedTakes x s c.bytes m → (m.head ≡ s.head) × (m.passed ≡ s.passed)
@@ -256,7 +259,7 @@ run_many extent (c ∷ cs) s t none many run =
     came m is = (ap (λ (z : Headers). z.head) is, ap (λ (z : Headers). z.passed) is)
 
     on_stream : (o : Option Head) (b : Bool) (m : Headers) → s.head ≡ o → nat_lt s.passed 100 ≡ b → StreamTakes extent (stream_came extent s) o b c.bytes m → (m.head ≡ s.head) × (m.passed ≡ s.passed)
-    on_stream (Some x) b m is few takes = came m takes
+    on_stream (Some x) b m is few takes = let kept = other_keeps extent (stream_came extent s) m c.bytes takes in (kept.0, kept.1)
     on_stream None false m is few takes = came m takes
     on_stream None true m is few takes = let gone : true ≡ false = sym few ∙ many in absurd (cc)
 

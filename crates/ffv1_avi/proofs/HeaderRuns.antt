@@ -3,10 +3,11 @@ use Rattle.std.proofs.Common.{◌≡◌, ◌⊎◌, inl, inr, ℕ, ◌+◌, ◌<
 use Rattle.std.proofs.lemmas.Bool.{lt-ltb}
 use Rattle.ffv1_avi.specs.declared.place.Extent.TheVariants.{EveryRiff}
 use Rattle.ffv1_avi.specs.Chunks.{AreOthers, Chunk, IsStream, first_of, is_list, is_named, those, total_next}
-use Rattle.ffv1_avi.specs.Files.{Headers, stream_came, stream_known}
+use Rattle.ffv1_avi.specs.Files.{Headers, stream_came, stream_known, with_other}
 use Rattle.ffv1_reads.specs.Head.{Head}
 use Rattle.ffv1_avi.specs.Riffs.{AreExtended, is_total}
 use Rattle.ffv1_avi.specs.Walk.{is_name}
+use Rattle.ffv1_avi.proofs.OtherStreams.{is_other}
 use Rattle.ffv1_avi.proofs.FrameLaws.{those_both}
 use Rattle.ffv1_avi.proofs.HeaderLaws.{StreamBytes, StreamTakes, TakesHeader, with_frames}
 use Rattle.ffv1_avi.proofs.ListWalks.{Run}
@@ -75,14 +76,11 @@ heads (c ∷ cs) s inners o n counts extended =
     came : Headers
     came = stream_came EveryRiff s
 
-    no_some : {b : Bool} (x : Head) → ◌≡◌ {A = Option Head} (Some x) None → b ≡ false
-    no_some x is = absurd (cc)
-
     -- a stream that is passed
-    stays : (o : Option Head) (b : Bool) → (o ≡ None → b ≡ false) → StreamTakes EveryRiff came o b c.bytes came
-    stays (Some x) b none = refl
-    stays None false none = refl
-    stays None true none = let gone : true ≡ false = none refl in absurd (cc)
+    stays : (o : Option Head) (b : Bool) → o ≡ None → b ≡ false → StreamTakes EveryRiff came o b c.bytes came
+    stays (Some x) b none many = absurd (cc)
+    stays None false none many = refl
+    stays None true none many = absurd (cc)
 
     known_frames : (x : Option Head) → (stream_known came x).frames ≡ s.frames
     known_frames None = refl
@@ -95,10 +93,11 @@ heads (c ∷ cs) s inners o n counts extended =
     on_stream : (x : Option Head) → s.head ≡ x → is_name c.name (codes "LIST") ≡ true → is_name (take 4 c.bytes) (codes "strl") ≡ true → Counts x s.passed (c ∷ those (is_list (codes "strl")) cs) o n → AreExtended (those (is_list (codes "odml")) cs) inners → Again → Heads s (c ∷ cs) inners o n
     on_stream (Some x) is p q k extended again =
         let next : Counts s.head s.passed (those (is_list (codes "strl")) cs) o n = rw is k in
-        passing came refl (rw (p, q) (stays s.head (nat_lt s.passed 100) (λ z. no_some x (sym is ∙ z)))) (again came inners next extended)
+        let other = with_other came (is_other c.bytes) in
+        passing other refl (rw (p, q, is) refl) (again other inners next extended)
     on_stream None is p q (inl (many, none, same)) extended again =
         let next : Counts s.head s.passed (those (is_list (codes "strl")) cs) o n = rw is (counts_many s.passed (those (is_list (codes "strl")) cs) o n many none same) in
-        passing came refl (rw (p, q) (stays s.head (nat_lt s.passed 100) (λ z. many))) (again came inners next extended)
+        passing came refl (rw (p, q) (stays s.head (nat_lt s.passed 100) is many)) (again came inners next extended)
     on_stream None is p q (inr (few, x, bytes, more)) extended again =
         passing (stream_known came x) (known_frames x) (rw (p, q, is, few) (x, refl, bytes)) (again (stream_known came x) inners (known_counts x more) extended)
 

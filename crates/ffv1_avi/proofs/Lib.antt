@@ -15,6 +15,7 @@ pub mod StreamCounts
 mod StreamLaws
 pub mod InnerLists
 pub mod TotalLaws
+pub mod OtherStreams
 pub mod HeaderLaws
 pub mod TopLaws
 pub mod PartLaws
@@ -44,3 +45,4 @@ mod ReadingFaults
 mod ChunkReadings
 mod RiffReadings
 mod SpotReadings
+mod WrittenEnds

@@ -7,6 +7,7 @@ use Rattle.ffv1_reads.specs.Head.{Head}
 use Rattle.ffv1_avi.specs.Walk.{is_name}
 use Rattle.ffv1_avi.proofs.HeaderLaws.{StreamTakes, TakesHeader}
 use Rattle.ffv1_avi.proofs.ListWalks.{Run}
+use Rattle.ffv1_avi.proofs.OtherStreams.{other_keeps}
 
 one_more : (a n b : ℕ) → a ≡ min (b + 1) 100 → min (a + n) 100 ≡ min (b + suc n) 100
 one_more a n b is = grind (arith, is)
@@ -35,7 +36,7 @@ run_counted (c ∷ cs) s t few run =
     known_streams (Some head) = refl
 
     on_stream : (o : Option Head) (b : Bool) (m : Headers) → StreamTakes EveryRiff (stream_came EveryRiff s) o b c.bytes m → m.streams ≡ min (s.streams + 1) 100
-    on_stream (Some head) b m takes = ap (λ (z : Headers). z.streams) takes
+    on_stream (Some head) b m takes = (other_keeps EveryRiff (stream_came EveryRiff s) m c.bytes takes).3
     on_stream None false m takes = ap (λ (z : Headers). z.streams) takes
     on_stream None true m takes = ap (λ (z : Headers). z.streams) takes.1 ∙ known_streams takes.0
 

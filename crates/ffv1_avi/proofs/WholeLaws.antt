@@ -14,6 +14,7 @@ use Rattle.ffv1_avi.specs.Places.{first_place}
 use Rattle.ffv1_reads.specs.Reads.{given, ◌>>=◌}
 use Rattle.ffv1_avi.specs.Riffs.{AreExtended, AreRiffs, AreSections, RiffFile, names_of, is_total, movis, riff_movis, riffs_text, sections_text, total, total_of}
 use Rattle.ffv1_avi.specs.Walk.{is_name}
+use Rattle.ffv1_avi.proofs.OtherStreams.{other_keeps}
 use Rattle.ffv1_avi.proofs.FrameLaws.{movi_part, placed, those_both}
 use Rattle.ffv1_avi.proofs.HeaderLaws.{StreamTakes, TakesHeader, run_streams}
 use Rattle.ffv1_avi.proofs.ListWalks.{Run}
@@ -96,7 +97,7 @@ run_extended (c ∷ cs) s t run =
     known_frames (Some head) = refl
 
     on_stream : (o : Option Head) (b : Bool) (m : Headers) → StreamTakes EveryRiff (stream_came EveryRiff s) o b c.bytes m → m.frames ≡ s.frames
-    on_stream (Some head) b m takes = ap (λ (z : Headers). z.frames) takes
+    on_stream (Some head) b m takes = (other_keeps EveryRiff (stream_came EveryRiff s) m c.bytes takes).2
     on_stream None false m takes = ap (λ (z : Headers). z.frames) takes
     on_stream None true m takes = ap (λ (z : Headers). z.frames) takes.1 ∙ known_frames takes.0
 

@@ -7,7 +7,7 @@ use Rattle.ffv1_avi.specs.declared.place.Names.TheVariants.{Closed}
 use Rattle.ffv1_avi.specs.Names.{is_barred, is_frame, is_stream_frame}
 use Rattle.ffv1_avi.specs.Chunks.{AreFrames, Chunk, IsWritable, chunks_text}
 use Rattle.ffv1_reads.specs.Head.{Head, frame_limit, without_colour}
-use Rattle.ffv1_avi.specs.Riffs.{RiffFile}
+use Rattle.ffv1_avi.specs.Riffs.{RiffFile, riffs_text, sections_text}
 use Rattle.ffv1_avi.specs.Written.{file_of, frame_chunk, front, head_text, movi, movi_size, padding, riff_size, spelled}
 use Rattle.ffv1_avi.proofs.PartLaws.{parts_text}
 use Rattle.ffv1_avi.proofs.WrittenLaws.{back, frame_of, frames_are, frames_long, frames_text, header_is, header_of, parts_long, stream_of, tail_same, written_stream}
@@ -39,3 +39,8 @@ written_riff head frames is =
     let P : List Chunk → Type 0 = λ z. AreFrames (Closed 0 1) z frames in
     let framed : AreFrames (Closed 0 1) (chunks ++ []) frames = subst P (sym (append-nil chunks)) (frames_are (Closed 0 1) first_stands first_named frames is.sized) in
     record { riff_size = number (riff_size head frames); parts = header_of head count ∷ []; movi_size = number size; chunks = chunks; sections = []; riffs = []; before = []; stream = stream_of head count; after = []; extended = []; bytes = whole; riff_sized = refl; movi_sized = refl; counted = counted; filled = filled; each = (header_is head count is.short, tt); sections_are = tt; riffs_are = tt; bounded = omega arith; streams_are = refl; others = tt; few = omega arith; says = written_stream EveryRiff EveryRiff head frames count is; extended_are = tt; framed = framed; enough = omega arith }
+
+-- its movi is the last of it
+pub written_once : (head : Head) (frames : List (List ℕ)) (is : IsWritable EveryRiff head frames) → sections_text (written_riff head frames is).sections ++ riffs_text (written_riff head frames is).riffs ≡ []
+unfolding written_riff
+written_once head frames is = refl

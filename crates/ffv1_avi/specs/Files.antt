@@ -1,7 +1,7 @@
 -- Reading a file: its head up to the first movi, and the frames, one after the other.
 use Rattle.std.specs.Prelude.{ℕ, suc, zero, ◌+◌, ◌-◌, ◌%◌, ◌==◌, ◌&&◌, Bool}
 use Rattle.std.specs.Prelude.{min, if◌then◌else◌, nat_lt, nat_le, List, [], ◌∷◌, length, take, drop}
-use Rattle.std.specs.Prelude.{codes, Option, Some, None, Ok}
+use Rattle.std.specs.Prelude.{codes, Option, Some, None, Ok, false, ◌^◌}
 use Rattle.byteorder.specs.Endian.{little_number}
 use Rattle.ffv1_reads.specs.declared.fault.FileFault.TheVariants as fault
 use Rattle.ffv1_avi.specs.declared.place.Extent.{Extent}
@@ -17,25 +17,39 @@ use Rattle.ffv1_avi.specs.Names.{bars, is_barred, is_frame, least_bytes, most_by
 use Rattle.ffv1_avi.specs.Padding.{padded, content}
 use Rattle.ffv1_reads.specs.Reads.{◌>>=◌}
 use Rattle.ffv1_avi.specs.Walk.{is_name, Visit, walk, walk_in}
-use Rattle.ffv1_avi.specs.Streams.{skipped, stream_read}
+use Rattle.ffv1_avi.specs.Streams.{begins_video, skipped, stream_read}
 
 -- what is known before the first movi: how many streams came that do not count, the head of the one
--- that does, how many frames the file has, and how many streams came in all, up to 100
+-- that does, how many frames the file has, how many streams came in all, up to 100, and how many
+-- after the one that counts begin as FFV1 video
 pub record Headers : Type 0 where
   pub passed : ℕ
   pub head : Option Head
   pub frames : Option ℕ
   pub streams : ℕ
+  pub others : ℕ
 
 abbrev pub no_headers : Headers
-no_headers = record { passed = 0; head = None; frames = None; streams = 0 }
+no_headers = record { passed = 0; head = None; frames = None; streams = 0; others = 0 }
 
 -- a stream that was read, which counts if it is FFV1 video
 abbrev pub stream_known : Headers → Option Head → Headers
 stream_known k None =
-    record { passed = k.passed + 1; head = None; frames = k.frames; streams = k.streams }
+    record {
+      passed = k.passed + 1;
+      head = None;
+      frames = k.frames;
+      streams = k.streams;
+      others = k.others;
+    }
 stream_known k (Some head) =
-    record { passed = k.passed; head = Some head; frames = k.frames; streams = k.streams }
+    record {
+      passed = k.passed;
+      head = Some head;
+      frames = k.frames;
+      streams = k.streams;
+      others = k.others;
+    }
 
 -- how many streams there are with one more, if two digits name it
 abbrev pub one_more : Extent → ℕ → ℕ
@@ -50,11 +64,36 @@ stream_came extent k =
       head = k.head;
       frames = k.frames;
       streams = one_more extent k.streams;
+      others = k.others;
     }
 
 -- what is left of a list of which its own name has been read, if it says nothing here
 abbrev pub list_skipped : {S Y : Type 0} → S → ℕ → Reading (S × Option Y)
 list_skipped s size = passed (padded size - 4) >>= λ _. given (s, None)
+
+-- a further stream that begins as FFV1 video is counted; in 8 bytes
+abbrev pub with_other : Headers → Bool → Headers
+with_other k video =
+    record {
+      passed = k.passed;
+      head = k.head;
+      frames = k.frames;
+      streams = k.streams;
+      others = if video then min (k.others + 1) (2 ^ 64 - 1) else k.others;
+    }
+
+-- a further stream is passed; if it has so many bytes, the first 100 after its own name are looked
+-- at
+unfoldable pub other_read : ℕ → Reading Bool
+other_read size =
+    if nat_lt size 104 then (passed (padded size - 4) >>= λ _. given false)
+    else (taken 100 >>= λ bytes.
+    (passed (padded size - 104) >>= λ _. given (begins_video bytes)))
+
+-- it is looked at if every RIFF is read
+abbrev pub other_visited : Extent → Headers → ℕ → Reading (Headers × Option ⊥)
+other_visited FirstMovi k size = list_skipped k size
+other_visited EveryRiff k size = other_read size >>= λ video. given (with_other k video, None)
 
 -- a stream is read while none counts, and its number has two digits
 abbrev pub stream_visited : Extent → Headers → ℕ → Option Head → Reading (Headers × Option ⊥)
@@ -63,7 +102,7 @@ stream_visited extent k size None =
     then (stream_read extent (size - 4) >>= λ found.
     (passed (size % 2) >>= λ _. given (stream_known k found, None)))
     else list_skipped k size
-stream_visited extent k size (Some head) = list_skipped k size
+stream_visited extent k size (Some head) = other_visited extent k size
 
 -- the first number of dmlh, of the first one that has it
 abbrev pub total_read : ℕ → Option ℕ → Reading (Option ℕ × Option ⊥)
@@ -88,7 +127,16 @@ abbrev pub extended_visited : Extent → Headers → ℕ → Reading (Headers ×
 extended_visited FirstMovi k size = list_skipped k size
 extended_visited EveryRiff k size =
     extended_read k.frames size >>= λ frames.
-    given (record { passed = k.passed; head = k.head; frames = frames; streams = k.streams }, None)
+    given (
+      record {
+        passed = k.passed;
+        head = k.head;
+        frames = frames;
+        streams = k.streams;
+        others = k.others;
+      },
+      None,
+    )
 
 -- a list of hdrl, by its own name
 abbrev pub header_named : Extent → Headers → ℕ → List ℕ → Reading (Headers × Option ⊥)
@@ -162,6 +210,21 @@ begins bytes =
 unfoldable pub open_read : Extent → Reading (Head × Place)
 open_read extent = taken 12 >>= λ bytes.
     if begins bytes then top_read extent (little_number 4 (drop 4 bytes) - 4)
+    else refused fault.NotAvi
+
+-- how many streams after the one that counts begin as FFV1 video, of a file that is read up to its
+-- first movi
+abbrev pub others_of : ℕ → Option (Head × Place) → Reading ℕ
+others_of others None = refused fault.NotAvi
+others_of others (Some p) = given others
+
+unfoldable pub top_others : Extent → ℕ → Reading ℕ
+top_others extent room =
+    walk (visit_top extent) room no_headers >>= λ p. others_of p.0.others p.1
+
+unfoldable pub others_read : Extent → Reading ℕ
+others_read extent = taken 12 >>= λ bytes.
+    if begins bytes then top_others extent (little_number 4 (drop 4 bytes) - 4)
     else refused fault.NotAvi
 
 -- a frame's size is judged before its bytes are read

@@ -4,7 +4,8 @@ use Rattle.std.specs.Prelude.{false, List, [], length, take, Option, Some, None}
 use Rattle.std.specs.Prelude.{Result, Ok, Err, ⊤, ◌⊎◌}
 use Rattle.ffv1_reads.specs.declared.fault.FileFault.{FileFault}
 use Rattle.ffv1_reads.specs.declared.fault.FileFault.TheVariants as fault
-use Rattle.ffv1_avi.specs.Files.{frame_found}
+use Rattle.ffv1_avi.specs.Files.{frame_found, others_read}
+use Rattle.ffv1_reads.specs.Reads.{Read}
 use Rattle.ffv1_reads.specs.Head.{Head}
 use Rattle.ffv1_avi.specs.declared.place.Extent.{Extent}
 use Rattle.ffv1_avi.specs.declared.place.Extent.TheVariants.{FirstMovi, EveryRiff}
@@ -12,7 +13,8 @@ use Rattle.ffv1_avi.specs.declared.place.Place.{Place}
 
 -- the head of its file, the place in that, the fault that it has met, for how many bytes its record
 -- has room, the bytes before that place, after the end the bytes before others that stand after
--- the last RIFF, and how many frames so far had no bytes
+-- the last RIFF, how many frames so far had no bytes, and how many streams after the one that is
+-- read begin as FFV1 video
 pub record Standing : Type 0 where
   pub head : Head
   pub place : Place
@@ -21,6 +23,7 @@ pub record Standing : Type 0 where
   pub offset : ℕ
   pub after : Option ℕ
   pub repeated : ℕ
+  pub others : ℕ
 
 -- how many frames had no bytes, after one more with these; it is held in 8 bytes
 abbrev pub with_repeated : List ℕ → ℕ → ℕ
@@ -92,3 +95,13 @@ is_frame_fault extent fault.EmptyFrame = true
 is_frame_fault extent fault.Another = reads_on extent
 is_frame_fault extent fault.Read = true
 is_frame_fault extent f = false
+
+-- how many further streams are told: none if the first movi alone is read, where none is looked at
+abbrev pub others_in : Extent → ℕ → ℕ
+others_in FirstMovi others = 0
+others_in EveryRiff others = others
+
+-- the bytes of a file say so
+abbrev pub CountsOthers : Extent → Option (List ℕ) → Option (List ℕ) → ℕ → Type 0
+CountsOthers extent old new others =
+    (count : ℕ) × Read (others_read extent) old new count × (others ≡ others_in extent count)

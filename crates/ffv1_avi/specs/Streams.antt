@@ -2,7 +2,7 @@
 -- Reference) and its format (BITMAPINFOHEADER, with the configuration record after it as RFC 9043,
 -- 4.3.3 has it) say.
 use Rattle.std.specs.Prelude.{ℕ, ◌-◌, ◌==◌, ◌&&◌, if◌then◌else◌, nat_lt, nat_le, List, length}
-use Rattle.std.specs.Prelude.{take, drop, codes, Option, Some, None, Bool}
+use Rattle.std.specs.Prelude.{take, drop, codes, Option, Some, None, Bool, false, ◌+◌}
 use Rattle.byteorder.specs.Endian.{little_number}
 use Rattle.ffv1_reads.specs.declared.fault.FileFault.TheVariants as fault
 use Rattle.ffv1_avi.specs.declared.place.Extent.{Extent}
@@ -158,3 +158,25 @@ unfoldable pub stream_read : Extent → ℕ → Reading (Option Head)
 stream_read extent room =
     walk (visit_field extent) room nothing_known >>= λ k.
     stream_judged extent k.0.rates k.0.format
+
+-- ---- a further stream
+
+-- a format of FFV1 begins after so many bytes
+abbrev pub format_at : ℕ → List ℕ → Bool
+format_at at bytes =
+    is_name (take 4 (drop at bytes)) (codes "strf") && is_ffv1 (take 4 (drop (at + 24) bytes))
+
+-- it comes after a header of so many bytes
+abbrev pub after_header : ℕ → List ℕ → Bool
+after_header size bytes =
+    if size == 56 then format_at 64 bytes
+    else if size == 64 then format_at 72 bytes
+    else false
+
+-- the first 100 bytes of a stream's list, after its own name, are those of FFV1 video: a header of
+-- video, of 56 or 64 bytes, and then a format of FFV1
+unfoldable pub begins_video : List ℕ → Bool
+begins_video bytes =
+    if is_name (take 4 bytes) (codes "strh") && is_name (take 4 (drop 8 bytes)) (codes "vids")
+    then after_header (little_number 4 (drop 4 bytes)) bytes
+    else false

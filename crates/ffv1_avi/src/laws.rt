@@ -16,8 +16,9 @@ ghost use Rattle.ffv1_avi.specs.Behind.{EndsBehind, RiffFileThen};
 ghost use Rattle.ffv1_reads.specs.Behind.{begins_file};
 ghost use Rattle.ffv1_reads.specs.Ends.{Ends, Stops};
 ghost use Rattle.ffv1_reads.specs.Head.{Head, without_colour};
+ghost use Rattle.ffv1_reads.specs.Offsets.{ReadsWhole};
 ghost use Rattle.ffv1_avi.specs.Names.{IsFrameName, IsListed, bars, is_barred, is_frame};
-ghost use Rattle.ffv1_avi.specs.Offsets.{ReadsUpTo};
+ghost use Rattle.ffv1_avi.specs.Offsets.{BeforeFrames, ReadsUpTo, Start, chunk_taken, spot_taken};
 ghost use Rattle.ffv1_avi.specs.Padding.{padded};
 ghost use Rattle.ffv1_avi.specs.Places.{ended, extent_of, first_place, frame_at};
 ghost use Rattle.ffv1_reads.specs.Reads.{EndsEarly, Faults, Lacks, Met, Read, Reading, Short, Want};
@@ -301,4 +302,16 @@ pub fn written_file_is_read_back()
         RiffFile (file_of head frames) (without_colour head) frames }
     ensures every { (head : Head) (frames : List (List ℕ)) → IsWritable EveryRiff head frames →
         file_read EveryRiff (file_of head frames) ≡ Ok ((without_colour head, frames), []) }
+{}
+
+/// Nothing stands after a written file: where its chunks, read whole from its beginning on, lead to
+/// the end of its movi, no bytes are left.
+pub fn nothing_stands_after_a_written_file()
+    ensures { (head : Head) (frames : List (List ℕ)) → IsWritable EveryRiff head frames →
+        (other : Head) (first to : Place) (between : Option (List ℕ)) (behind : List ℕ)
+        (before after : ℕ) →
+        ReadsWhole (spot_taken EveryRiff) Start (Some (file_of head frames)) between
+        (BeforeFrames other first) before →
+        ReadsWhole chunk_taken first between (Some behind) to after → to.movi ≡ 0 →
+        behind ≡ [] }
 {}

@@ -1,11 +1,12 @@
 //! A file up to its first movi.
 
 ghost use Rattle.std.specs.Prelude.{◌≡◌, ◌+◌, ◌<◌, ◌≤◌, ℕ, List, Option, None, Some, codes, true};
-ghost use Rattle.std.specs.Prelude.{OnOk};
+ghost use Rattle.std.specs.Prelude.{IfOk, OnOk};
 ghost use Rattle.std.specs.Vec.{vec_capacity};
 ghost use Rattle.ffv1_avi.specs.Files.{extended_read, extended_visited, header_list, header_read};
 ghost use Rattle.ffv1_avi.specs.Files.{movi_reached, open_read, owed};
-ghost use Rattle.ffv1_avi.specs.Files.{stream_came, stream_known, stream_visited, top_read};
+ghost use Rattle.ffv1_avi.specs.Files.{stream_came, stream_known, stream_visited};
+ghost use Rattle.ffv1_avi.specs.Files.{others_read, top_others, top_read, with_other};
 ghost use Rattle.ffv1_avi.specs.Files.{total_read};
 ghost use Rattle.ffv1_avi.specs.Files.{visit_extended, visit_header, visit_top};
 ghost use Rattle.ffv1_reads.specs.First.{bytes_with, passage_with};
@@ -13,7 +14,7 @@ ghost use Rattle.ffv1_reads.specs.Head.{Head};
 ghost use Rattle.ffv1_avi.specs.Internal.Offsets.{OpensFrom, TopFrom};
 ghost use Rattle.ffv1_avi.specs.Places.{first_place};
 ghost use Rattle.ffv1_wire.specs.Passage.{at_rest, passage};
-ghost use Rattle.ffv1_reads.specs.Reads.{Answers, taken};
+ghost use Rattle.ffv1_reads.specs.Reads.{Answers, Read, taken};
 ghost use Rattle.ffv1_reads.specs.Room.{RoomRead};
 ghost use Rattle.ffv1_avi.specs.Walk.{is_name};
 ghost use Rattle.ffv1_avi.specs.Internal.Views.{found_with, head_with, headers_next, headers_with};
@@ -23,20 +24,22 @@ ghost use Rattle.ffv1_avi.specs.declared.place.Place.{Place};
 
 use crate::chunk::{Entry, is_name, next_entry, padded};
 use crate::place::{Extent, Names, Place};
-use crate::stream::{Sizes, read_stream};
+use crate::stream::{Sizes, read_other, read_stream};
 use byteorder::{ByteOrder, LittleEndian};
 use ffv1_reads::{FileFault, pass, take, take_after};
 use ffv1_wire::ByteIn;
 use std::alloc::Allocator;
 
 /// What is known before the first movi: how many streams came that do not count, what the one that
-/// does says, how many frames the file has, and how many streams came in all, up to 100.
+/// does says, how many frames the file has, how many streams came in all, up to 100, and how many
+/// after the one that counts begin as FFV1 video.
 #[derive(Clone, Copy)]
 pub(crate) struct Found {
     pub(crate) passed: u8,
     pub(crate) sizes: Option<Sizes>,
     pub(crate) frames: Option<u32>,
     pub(crate) streams: u8,
+    pub(crate) others: u64,
 }
 
 /// A list's own name.
@@ -77,6 +80,18 @@ fn stream_came(extent: Extent, found: Found) -> Found
     found
 }
 
+/// What is known with a further stream. A count of 64 bits stays at its greatest value.
+fn with_other(found: Found, video: bool) -> Found
+    ensures { (bytes : List ℕ) →
+        headers_with result bytes ≡ with_other (headers_with found bytes) video }
+{
+    let mut found = found;
+    if video {
+        found.others = found.others.saturating_add(1);
+    }
+    found
+}
+
 /// A stream's list, of a given size, after its own name, with its padding.
 fn visit_stream<R: ByteIn, A: Allocator>(
     input: &mut R,
@@ -94,8 +109,16 @@ fn visit_stream<R: ByteIn, A: Allocator>(
         (vec_capacity config.old) (vec_capacity config.new)) }
 {
     if found.sizes.is_some() {
-        pass(input, padded(size) - 4)?;
-        return Ok(found);
+        match extent {
+            Extent::FirstMovi => {
+                pass(input, padded(size) - 4)?;
+                return Ok(found);
+            }
+            Extent::EveryRiff => {
+                let video = read_other(input, size)?;
+                return Ok(with_other(found, video));
+            }
+        }
     }
     if found.passed >= 100 {
         pass(input, padded(size) - 4)?;
@@ -340,13 +363,15 @@ fn visit_top<R: ByteIn, A: Allocator>(
 }
 
 /// The chunks of RIFF, of so many bytes, up to the first movi. Those that were read whole are
-/// counted, and of movi its header and its own name.
+/// counted, and of movi its header and its own name. `others` is then how many streams after the
+/// one that counts begin as FFV1 video.
 #[tactic(auto, unfolding(crate::specs::Files::top_read))]
 fn read_top<R: ByteIn, A: Allocator>(
     input: &mut R,
     extent: Extent,
     room: u32,
     offset: &mut u64,
+    others: &mut u64,
     config: &mut Vec<u8, A>,
 ) -> Result<(Sizes, Place), FileFault>
     ensures answer { Answers (λ (p : Sizes × Place). (head_with p.0 config.new.items, p.1))
@@ -355,19 +380,23 @@ fn read_top<R: ByteIn, A: Allocator>(
         (vec_capacity config.old) (vec_capacity config.new)) }
     ensures from { TopFrom extent room (passage R.remaining R.failures input.old input.new)
         config.new.items result offset.old offset.new }
+    ensures others { IfOk result (λ p. Read (top_others extent room) (R.remaining input.old)
+        (R.remaining input.new) others.new) }
 {
     let mut found = Found {
         passed: 0,
         sizes: None,
         frames: None,
         streams: 0,
+        others: 0,
     };
     let mut left = room;
     while let Some(entry) = next_entry(input, left)? {
         match visit_top(input, extent, found, entry, config)? {
             Top::On(more) => found = more,
-            Top::Movi(_, sizes, place) => {
+            Top::Movi(known, sizes, place) => {
                 *offset = offset.saturating_add(12);
+                *others = known.others;
                 return Ok((sizes, place));
             }
         }
@@ -380,13 +409,14 @@ fn read_top<R: ByteIn, A: Allocator>(
 /// A file, whose first byte may have been read, up to the first movi: its sizes, its record in
 /// place of what the vector has, and where movi stands. The vector's room grows by at most as many
 /// bytes as are read. `offset` is then the number of bytes before the frames, or before the chunk
-/// at fault.
+/// at fault; `others` how many streams after the one that counts begin as FFV1 video.
 #[tactic(auto, unfolding(crate::specs::Files::open_read))]
 pub(crate) fn read_opening<R: ByteIn, A: Allocator>(
     first: Option<u8>,
     input: &mut R,
     extent: Extent,
     offset: &mut u64,
+    others: &mut u64,
     config: &mut Vec<u8, A>,
 ) -> Result<(Sizes, Place), FileFault>
     ensures answer { Answers (λ (p : Sizes × Place). (head_with p.0 config.new.items, p.1))
@@ -395,6 +425,8 @@ pub(crate) fn read_opening<R: ByteIn, A: Allocator>(
         (R.remaining input.new) (vec_capacity config.old) (vec_capacity config.new)) }
     ensures from { OpensFrom extent (passage_with first R.remaining R.failures input.old input.new)
         config.new.items result offset.new }
+    ensures others { IfOk result (λ p. Read (others_read extent)
+        (bytes_with first (R.remaining input.old)) (R.remaining input.new) others.new) }
 {
     let mut head = [0u8; 12];
     *offset = 0;
@@ -404,5 +436,5 @@ pub(crate) fn read_opening<R: ByteIn, A: Allocator>(
         return Err(FileFault::NotAvi);
     }
     *offset = 12;
-    read_top(input, extent, size - 4, offset, config)
+    read_top(input, extent, size - 4, offset, others, config)
 }

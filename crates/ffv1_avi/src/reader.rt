@@ -8,6 +8,7 @@ ghost use Rattle.ffv1_avi.specs.Behind.{BehindAfter};
 ghost use Rattle.ffv1_avi.specs.Extents.{AnswersFrom};
 ghost use Rattle.ffv1_avi.specs.Files.{frame_found, frame_read, movi_found};
 ghost use Rattle.ffv1_avi.specs.Files.{open_read, visit_movi};
+ghost use Rattle.ffv1_avi.specs.Readers.{CountsOthers, others_in};
 ghost use Rattle.ffv1_reads.specs.First.{bytes_with, passage_with};
 ghost use Rattle.ffv1_reads.specs.Head.{Head, head_of};
 ghost use Rattle.ffv1_wire.specs.Passage.{passage};
@@ -182,6 +183,16 @@ fn with_repeated(repeated: u64, frame: &[u8]) -> u64
     repeated
 }
 
+/// How many further streams are told: none if the first `movi` alone is read.
+fn others_in(extent: Extent, others: u64) -> u64
+    ensures { result ≡ others_in extent others }
+{
+    match extent {
+        Extent::FirstMovi => 0,
+        Extent::EveryRiff => others,
+    }
+}
+
 /// A reader of the frames of a file.
 ///
 /// It holds no input: each call is lent the same one. It stands in a `movi`, or at the end, or has
@@ -194,6 +205,7 @@ pub struct AviReader<A: Allocator = Global> {
     offset: u64,
     after: Option<u64>,
     repeated: u64,
+    others: u64,
 }
 
 impl<A: Allocator> Model for AviReader<A> {
@@ -207,6 +219,7 @@ impl<A: Allocator> Model for AviReader<A> {
       offset = r.offset;
       after = r.after;
       repeated = r.repeated;
+      others = r.others;
     } };
 }
 
@@ -263,30 +276,10 @@ impl<A: Allocator> AviReader<A> {
         AviReader::open_located(alloc, Extent::EveryRiff, None, input, &mut offset)
     }
 
-    /// The same of a file whose first byte was read before, if there was one.
-    pub fn open_all_after<R: ByteIn>(
-        alloc: A,
-        first: Option<u8>,
-        input: &mut R,
-    ) -> Result<AviReader<A>, FileFault>
-        ensures answer { Answers opened_at (open_read EveryRiff)
-            (passage_with first R.remaining R.failures input.old input.new) result }
-        ensures sound { IfOk result (λ r. r.fault ≡ None) }
-        ensures most { IfOk result (λ r. most_bytes r.place.names ≡ most_in EveryRiff) }
-        ensures least { IfOk result (λ r. least_bytes r.place.names ≡ least_in EveryRiff) }
-        ensures own { IfErr result (λ f. is_opening_fault f ≡ true) }
-        ensures room { IfOk result (λ r. RoomRead (bytes_with first (R.remaining input.old))
-            (R.remaining input.new) 0 r.room) }
-        ensures none { IfOk result (λ r. r.after ≡ None) }
-        ensures uncounted { IfOk result (λ r. r.repeated ≡ 0) }
-    {
-        let mut offset = 0;
-        AviReader::open_located(alloc, Extent::EveryRiff, first, input, &mut offset)
-    }
-
-    /// Reads a file up to its first `movi`, to read it then as far as `open` and `open_all` do, and
-    /// says where in the file a fault is: `offset` is then the number of bytes before the chunk at
-    /// fault, counting the byte that was read before; no greater than 2^64 - 1. That chunk is the
+    /// Reads a file up to its first `movi`, to read it then as far as `open` and `open_all` do, of
+    /// which the first byte may have been read before, and says where in the file a fault is:
+    /// `offset` is then the number of bytes before the chunk at fault, counting the byte that was
+    /// read before; no greater than 2^64 - 1. That chunk is the
     /// first twelve bytes of the file, or a chunk of its first RIFF: the list `hdrl` with all that
     /// it has, of `movi` the header and its own name. If RIFF ends before any `movi`, it is where
     /// the next chunk would begin.
@@ -309,9 +302,12 @@ impl<A: Allocator> AviReader<A> {
             input.new) result offset.new }
         ensures none { IfOk result (λ r. r.after ≡ None) }
         ensures uncounted { IfOk result (λ r. r.repeated ≡ 0) }
+        ensures others { IfOk result (λ r. CountsOthers extent
+            (bytes_with first (R.remaining input.old)) (R.remaining input.new) r.others) }
     {
         let mut config = Vec::new(alloc);
-        let (sizes, place) = read_opening(first, input, extent, offset, &mut config)?;
+        let mut others = 0;
+        let (sizes, place) = read_opening(first, input, extent, offset, &mut others, &mut config)?;
         Ok(AviReader {
             head: FileHead {
                 width: sizes.width,
@@ -326,6 +322,7 @@ impl<A: Allocator> AviReader<A> {
             offset: *offset,
             after: None,
             repeated: 0,
+            others: others_in(extent, others),
         })
     }
 
@@ -353,6 +350,14 @@ impl<A: Allocator> AviReader<A> {
         ensures { result ≡ self.now.repeated }
     {
         self.repeated
+    }
+
+    /// How many streams after the one that is read begin as FFV1 video; 0 if the first `movi` alone
+    /// is read. They are not read. A count of 64 bits stays at its greatest value.
+    pub fn others(&self) -> u64
+        ensures { result ≡ self.now.others }
+    {
+        self.others
     }
 
     /// The head of the file.
@@ -383,11 +388,11 @@ impl<A: Allocator> AviReader<A> {
     /// that is no frame `NNdc` or `NNdb` of the stream, its `NNpc`, a chunk of another of the
     /// streams, `ixNN` or `JUNK`, whatever its size; or a frame in RIFF after a `movi`.
     /// `ChunkTooLong` for a frame above 1073741824 bytes, or 67108864 of a reader that `open` made,
-    /// of which no byte is read; `EmptyFrame` for a frame of no bytes, of a reader that `open` made;
-    /// `Read` if a read failed, `OutOfMemory`. After a fault the vector holds a beginning of the
-    /// frame, and each further call answers the fault again, empties the vector and reads nothing.
-    /// The vector has room as `ffv1_reads::fill` says; it keeps its room in a call that reads
-    /// nothing.
+    /// of which no byte is read; `EmptyFrame` for a frame of no bytes, of a reader that `open`
+    /// made; `Read` if a read failed, `OutOfMemory`. After a fault the vector holds a beginning of
+    /// the frame, and each further call answers the fault again, empties the vector and reads
+    /// nothing. The vector has room as `ffv1_reads::fill` says; it keeps its room in a call that
+    /// reads nothing.
     pub fn next_frame<R: ByteIn>(
         &mut self,
         input: &mut R,
@@ -424,6 +429,7 @@ impl<A: Allocator> AviReader<A> {
         ensures idle { self.old.fault ≡ None → self.old.place ≡ ended →
             vec_capacity frame.new ≡ vec_capacity frame.old }
         ensures kept { self.new.room ≡ self.old.room }
+        ensures others { self.new.others ≡ self.old.others }
         ensures offset { self.old.fault ≡ None → OffsetAfter self.old
             (passage R.remaining R.failures input.old input.new) result self.new }
         ensures behind { self.old.fault ≡ None → BehindAfter self.old.place self.old.offset

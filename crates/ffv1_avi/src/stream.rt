@@ -1,14 +1,15 @@
 //! A stream, by the chunks of its list.
 
 ghost use Rattle.std.specs.Prelude.{◌≡◌, ◌+◌, ◌*◌, ◌<◌, ◌≤◌, ℕ, List, Option, None, Some, length};
-ghost use Rattle.std.specs.Prelude.{OnOk};
+ghost use Rattle.std.specs.Prelude.{Bool, OnOk};
 ghost use Rattle.std.specs.Vec.{vec_capacity};
 ghost use Rattle.ffv1_avi.specs.Streams.{is_format, no_video, record_end};
 ghost use Rattle.ffv1_wire.specs.Passage.{at_rest, passage};
 ghost use Rattle.ffv1_reads.specs.Reads.{Answers};
 ghost use Rattle.ffv1_reads.specs.Room.{HasRoom, RoomRead};
 ghost use Rattle.ffv1_avi.specs.Streams.{format_in, format_read, rates_in, rates_read};
-ghost use Rattle.ffv1_avi.specs.Streams.{stream_judged, stream_read, visit_field};
+ghost use Rattle.ffv1_avi.specs.Files.{other_read};
+ghost use Rattle.ffv1_avi.specs.Streams.{begins_video, stream_judged, stream_read, visit_field};
 ghost use Rattle.ffv1_avi.specs.Internal.Views.{came_with, format_with, found_with, known_next};
 ghost use Rattle.ffv1_avi.specs.Internal.Views.{known_with};
 
@@ -239,4 +240,43 @@ pub(crate) fn read_stream<R: ByteIn, A: Allocator>(
         left = entry.left;
     }
     judged(extent, fields)
+}
+
+/// Whether the first 100 bytes of a stream's list, after its own name, are those of FFV1 video: a
+/// header of video, of 56 or 64 bytes, and then a format of FFV1, the letters of which may be
+/// small.
+#[tactic(auto, unfolding(crate::specs::Streams::begins_video))]
+fn begins_video(bytes: &[u8]) -> bool
+    requires { length bytes.now ≡ 100 }
+    ensures { result ≡ begins_video bytes.now }
+{
+    if !(is_name(&bytes[..4], b"strh") && is_name(&bytes[8..12], b"vids")) {
+        return false;
+    }
+    let size = LittleEndian::read_u32(&bytes[4..]);
+    if size == 56 {
+        return is_name(&bytes[64..68], b"strf") && is_ffv1(&bytes[88..92]);
+    }
+    if size == 64 {
+        return is_name(&bytes[72..76], b"strf") && is_ffv1(&bytes[96..100]);
+    }
+    false
+}
+
+/// Passes the list of a further stream, of a given size, after its own name, with its padding.
+/// Answers whether it begins as FFV1 video; one that is shorter than 104 bytes does not.
+#[tactic(auto, unfolding(crate::specs::Files::other_read))]
+pub(crate) fn read_other<R: ByteIn>(input: &mut R, size: u32) -> Result<bool, FileFault>
+    requires { 4 ≤ size }
+    ensures { Answers (λ (video : Bool). video) (other_read size)
+        (passage R.remaining R.failures input.old input.new) result }
+{
+    if size < 104 {
+        pass(input, padded(size) - 4)?;
+        return Ok(false);
+    }
+    let mut bytes = [0u8; 100];
+    take(input, &mut bytes)?;
+    pass(input, padded(size) - 104)?;
+    Ok(begins_video(&bytes))
 }

@@ -1,6 +1,6 @@
 // SPDX-License-Identifier: MIT OR Apache-2.0
-//! What stands in tests for memory, readers and writers that refuse: an allocator, two readers and
-//! two writers, each of which refuses when a test wants it. Only tests use them.
+//! What stands in tests for memory, readers and writers that refuse: an allocator, three readers
+//! and two writers, each of which refuses when a test wants it. Only tests use them.
 //!
 //! ```text
 //! let input = FailingReader::new(text, 3, 1, ErrorKind::Other);  // the fourth read fails
@@ -16,5 +16,5 @@ pub mod riffs;
 mod writer;
 
 pub use memory::Scarce;
-pub use reader::{BrokenReader, FailingReader};
+pub use reader::{BrokenReader, FailingReader, SoughtReader};
 pub use writer::{FailingWriter, ShortWriter};

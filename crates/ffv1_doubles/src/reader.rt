@@ -3,7 +3,7 @@
 ghost use Rattle.std.specs.Prelude.{Some};
 
 use std::io;
-use std::io::{Error, ErrorKind, Read};
+use std::io::{Error, ErrorKind, Read, Seek, SeekFrom};
 
 /// A reader that gives a few bytes at a time, and fails once, after so many calls.
 #[derive(Drop)]
@@ -75,5 +75,54 @@ impl Read for BrokenReader<'_> {
             return Err(Error::from(ErrorKind::Other));
         }
         self.rest.read(buf)
+    }
+}
+
+/// What stands for a file: a reader that can be sought in, to a place from its begin, so many
+/// times; each seek after these fails.
+#[derive(Drop)]
+pub struct SoughtReader<'a> {
+    text: &'a [u8],
+    rest: &'a [u8],
+    seeks: usize,
+}
+
+impl<'a> SoughtReader<'a> {
+    /// Stands at the begin of `text`, and can be sought in `seeks` times.
+    pub fn new(text: &'a [u8], seeks: usize) -> SoughtReader<'a> {
+        SoughtReader {
+            text,
+            rest: text,
+            seeks,
+        }
+    }
+
+    /// How many seeks are left.
+    pub fn seeks(&self) -> usize {
+        self.seeks
+    }
+}
+
+impl Read for SoughtReader<'_> {
+    ghost remaining = { λ s. Some s.rest.now };
+
+    fn read(&mut self, buf: &mut [u8]) -> io::Result<usize> {
+        self.rest.read(buf)
+    }
+}
+
+impl Seek for SoughtReader<'_> {
+    fn seek(&mut self, to: SeekFrom) -> io::Result<u64> {
+        let place = match to {
+            SeekFrom::Start(place) => place,
+            _ => return Err(Error::from(ErrorKind::Unsupported)),
+        };
+        if self.seeks == 0 {
+            return Err(Error::from(ErrorKind::Other));
+        }
+        self.seeks -= 1;
+        let place = place.min(self.text.len() as u64);
+        self.rest = &self.text[place as usize..];
+        Ok(place)
     }
 }

@@ -3,6 +3,8 @@ use Rattle.std.proofs.Common.{◌≡◌, refl, ℕ, ◌<◌, ◌≤◌, Bool, tr
 use Rattle.ffv1_codec.specs.Picture.{Planes}
 use Rattle.ffv1_files.specs.declared.container.Scope.TheVariants.{FirstMovi, Whole}
 use Rattle.ffv1_files.specs.Whole.{IsWhole}
+use Rattle.ffv1_files.specs.Noted.{IsNotedOf}
+use Rattle.ffv1_files.specs.declared.notes.Notes.{Notes}
 use Rattle.ffv1_files.specs.Places.{Place, extent_in}
 use Rattle.ffv1_avi.specs.Chunks.{AviFile, IsWritable}
 use Rattle.ffv1_files.specs.Files.{file_read, frame_read, frames_read, more_frames}
@@ -28,6 +30,7 @@ use Rattle.ffv1_engine.proofs.ColourNumbers.{plain_head_by, plain_is, plain_name
 pub record FileLaws (profile : Profile) : Type 0 where
   pub file : (head : Head) (frames : List (List ℕ)) → IsWritable (extent_in (scope_in profile)) head frames → IsFileIn profile (file_of head frames) (without_colour head) frames
   pub read : (head : Head) (frames : List (List ℕ)) → IsWritable (extent_in (scope_in profile)) head frames → file_read (scope_in profile) (file_of head frames) ≡ Ok ((without_colour head, frames), [])
+  pub none : (head : Head) (frames : List (List ℕ)) (rest : List ℕ) (notes : Notes) → IsWritable (extent_in (scope_in profile)) head frames → IsNotedOf (scope_in profile) (file_of head frames) rest notes → notes.after ≡ None
   pub is_read : (file : List ℕ) (head : Head) (frames : List (List ℕ)) (is : AviFile file head frames) → file_read FirstMovi file ≡ Ok ((head, frames), is.rest)
   pub is_whole : (file : List ℕ) (head : Head) (frames : List (List ℕ)) (rest : List ℕ) → IsWhole file head frames rest → file_read Whole file ≡ Ok ((head, frames), rest)
   pub next : (place : Place) (text : List ℕ) → frames_read place text ≡ avi.read_on (frame_read place text) (more_frames frames_read)

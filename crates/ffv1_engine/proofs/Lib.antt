@@ -7,5 +7,7 @@ mod ColourNumbers
 mod PackedText
 mod CanonicalVideos
 mod SegmentsNoted
+mod OpensOnce
 mod PackedIsUnpacked
+mod TextsPacked
 mod MatroskaUnpacked

@@ -1,6 +1,6 @@
 -- A video that was packed into Matroska is unpacked.
 use Rattle.std.specs.Prelude.{All, slice_index_or, zero}
-use Rattle.std.proofs.Common.{◌≡◌, refl, ℕ, suc, ◌+◌, ◌*◌, ◌<◌, ◌≤◌, ◌==◌, ◌||◌, Bool, true, false, Ok, inr, List, [], ◌∷◌, ◌++◌, length, map, sym, subst, arith, length-append, codes, cond, ◌%◌}
+use Rattle.std.proofs.Common.{◌≡◌, refl, ℕ, suc, ◌+◌, ◌*◌, ◌<◌, ◌≤◌, ◌==◌, ◌||◌, Bool, true, false, Ok, inr, List, [], ◌∷◌, ◌++◌, length, map, sym, ◌∙◌, subst, arith, length-append, codes, cond, ◌%◌}
 use Rattle.std.proofs.lemmas.List.{length-replicate}
 use Rattle.ffv1_range.specs.Codes.{AreBytes}
 use Rattle.ffv1_record.specs.Accepted.{Accepted, IsAccepted}
@@ -14,6 +14,7 @@ use Rattle.ffv1_files.specs.Files.{file_read, is_matroska}
 use Rattle.ffv1_files.specs.Whole.{IsWhole}
 use Rattle.ffv1_files.specs.declared.container.Scope.TheVariants.{Whole}
 use Rattle.ffv1_matroska.specs.MatroskaFiles.{MatroskaFile}
+use Rattle.ffv1_matroska.specs.SegmentFiles.{SegmentFile}
 use Rattle.ffv1_matroska.specs.Opened as matroska
 use Rattle.ffv1_matroska.specs.Colours.{colour}
 use Rattle.ffv1_matroska.proofs.WrittenBytes.{colours_few}
@@ -44,7 +45,9 @@ use Rattle.ffv1_reads.specs.declared.colour.Colour.{Colour}
 use Rattle.ffv1_video.specs.Colours.{IsByteColour}
 use Rattle.ffv1_engine.proofs.ColourNumbers.{colour_small}
 use Rattle.ffv1_video.proofs.Depths.{all_within}
-use Rattle.ffv1_engine.proofs.PackedIsUnpacked.{Given, given_by, reads_is, short_in}
+use Rattle.ffv1_engine.proofs.OpensOnce.{OpensOnce, matroska_file_once}
+use Rattle.ffv1_engine.proofs.PackedIsUnpacked.{Given}
+use Rattle.ffv1_engine.proofs.TextsPacked.{given_by, reads_is, short_in}
 use Rattle.ffv1_engine.proofs.CanonicalVideos.{FileLaws}
 use Rattle.ffv1_engine.proofs.PackedText.{RecordLaws, rated_by, sized}
 use Rattle.ffv1_engine.proofs.RecordShort.{HasLowNumbers, low_numbers, record_are_bytes, record_most}
@@ -197,6 +200,7 @@ pub record MatroskaLaws : Type 0 where
   pub begun : (head : Head) (details : TrackEntry) (frames : List (List ℕ)) → 0 < length frames → IsWritable head details frames →
       MatroskaFile (begun_of head details frames) head frames × (matroska.file_read (begun_of head details frames) ≡ Ok ((head, frames), []))
   pub is_file : (file : List ℕ) (head : Head) (frames : List (List ℕ)) (rest : List ℕ) → matroska.file_read file ≡ Ok ((head, frames), rest) → (is : MatroskaFile file head frames) × (is.rest ≡ rest)
+  pub anywhere : (file : List ℕ) (head : Head) (frames : List (List ℕ)) (is : MatroskaFile file head frames) → (all : SegmentFile file head frames) × (all.rest ≡ is.rest)
   pub is_whole : (file : List ℕ) (head : Head) (frames : List (List ℕ)) (rest : List ℕ) → IsWhole file head frames rest → file_read Whole file ≡ Ok ((head, frames), rest)
 
 -- its first byte
@@ -215,7 +219,10 @@ begun_first head details (f ∷ fs) some = refl
 
 module _ (laws : MatroskaLaws) where
   read_whole : (file : List ℕ) (head : Head) (frames : List (List ℕ)) → is_matroska file ≡ true → matroska.file_read file ≡ Ok ((head, frames), []) → file_read Whole file ≡ Ok ((head, frames), [])
-  read_whole file head frames first e = laws.is_whole file head frames [] (inr (first, laws.is_file file head frames [] e))
+  read_whole file head frames first e =
+      let is = laws.is_file file head frames [] e in
+      let all = laws.anywhere file head frames is.0 in
+      laws.is_whole file head frames [] (inr (first, (all.0, all.1 ∙ is.1)))
 
   -- what is read of the whole file
   pub whole_read : (b : Bool) (choice : Choice) (v : Video) (a : Accepted) → IsWritable (packed_head choice v a) (details_for choice v.head) (packed_frames v a) →
@@ -282,3 +289,14 @@ module _ (packing : Profile) (frame_laws : FrameLaws) (records : RecordLaws) (la
       first_by : (b : Bool) → is_matroska (whole_file b choice w.packs.video w.packs.accepted) ≡ true
       first_by true = finished_first (packed_head choice w.packs.video w.packs.accepted) (details_for choice w.packs.video.head) (packed_frames w.packs.video w.packs.accepted)
       first_by false = open_first (packed_head choice w.packs.video w.packs.accepted) (details_for choice w.packs.video.head) (packed_frames w.packs.video w.packs.accepted)
+
+  -- in one reading
+  pub file_opens : OpensOnce Wide (matroska_file w)
+  file_opens = matroska_file_once (matroska_file w) _ file_first (read_by w.packed.finished)
+    where
+      can : IsWritable (packed_head choice w.packs.video w.packs.accepted) (details_for choice w.packs.video.head) (packed_frames w.packs.video w.packs.accepted)
+      can = writable packing frame_laws records choice w.packs.video w.packs.accepted w.packs.has w.packs.some w.rated w.coloured
+
+      read_by : (b : Bool) → matroska.file_read (whole_file b choice w.packs.video w.packs.accepted) ≡ Ok ((packed_head choice w.packs.video w.packs.accepted, packed_frames w.packs.video w.packs.accepted), [])
+      read_by true = (laws.finished (packed_head choice w.packs.video w.packs.accepted) (details_for choice w.packs.video.head) (packed_frames w.packs.video w.packs.accepted) can).1
+      read_by false = (laws.opened (packed_head choice w.packs.video w.packs.accepted) (details_for choice w.packs.video.head) (packed_frames w.packs.video w.packs.accepted) can).1

@@ -1,14 +1,9 @@
 -- A video that was packed is unpacked.
 use Rattle.std.proofs.Common.{◌≡◌, refl, ℕ, suc, ◌<◌, ◌≤◌, Bool, true, false, Option, Some, None, Result, Ok, inl, inr, List, [], ◌∷◌, ◌++◌, length, map, ap, sym, subst, ◌∙◌, arith, append-nil}
 use Rattle.std.specs.Io.KnownBytes.{Appends}
-use Rattle.ffv1_range.specs.Codes.{AreBytes}
 use Rattle.ffv1_range.specs.Counts.{saturated}
 use Rattle.ffv1_range.specs.declared.tally.Tally.{Tally}
 use Rattle.ffv1_wire.specs.Passage.{Passage}
-use Rattle.std.specs.Prelude.{IsTrue, nat_le, ◌&&◌}
-use Rattle.ffv1_record.specs.Accepted.{PassesAll, PassesEdges, checks, has_coder, least_coder, suits_depth, type_of}
-use Rattle.ffv1_record.specs.declared.config.Profile.{Profile as RecordProfile}
-use Rattle.ffv1_record.specs.declared.config.Profile.TheVariants as of_record
 use Rattle.ffv1_record.specs.Accepted.{Accepted}
 use Rattle.ffv1_codec.specs.Frame.{frame_of}
 use Rattle.ffv1_codec.specs.Picture.{Planes}
@@ -16,7 +11,7 @@ use Rattle.ffv1_frame.specs.declared.fault.FrameFault.{FrameFault}
 use Rattle.ffv1_files.specs.Places.{Place, container_of, extent_in}
 use Rattle.ffv1_avi.specs.Chunks.{IsWritable}
 use Rattle.ffv1_files.specs.Behind.{notes_of}
-use Rattle.ffv1_files.specs.Files.{file_read, frame_read, open_read}
+use Rattle.ffv1_files.specs.Files.{file_read, frame_read, once_read, open_read}
 use Rattle.ffv1_files.specs.Noted.{IsNotedOf, NotedOf}
 use Rattle.ffv1_files.specs.Readers.{Standing}
 use Rattle.ffv1_files.specs.declared.notes.Notes.{Notes}
@@ -25,17 +20,13 @@ use Rattle.ffv1_reads.specs.Head.{Head}
 use Rattle.ffv1_reads.specs.Known.{Known}
 use Rattle.ffv1_reads.specs.Reads as avi
 use Rattle.ffv1_y4m.specs.VideoHead.{IsNamed, IsRatio}
-use Rattle.ffv1_video.specs.Video.{SaidHead}
 use Rattle.ffv1_video.specs.declared.profile.Profile.{Profile}
 use Rattle.ffv1_video.specs.declared.profile.Profile.TheVariants.{Strict, Wide}
 use Rattle.ffv1_video.specs.Profiles.{greatest_depth, scope_in, record_profile}
-use Rattle.ffv1_pack.proofs.ReadableFrames.{readable_wide}
 use Rattle.ffv1_video.specs.declared.fault.Fault.{Fault}
 use Rattle.ffv1_video.specs.declared.fault.Fault.TheVariants as fault
 use Rattle.ffv1_unpack.specs.declared.frame_line.FrameLine.TheVariants as line
 use Rattle.ffv1_words.specs.declared.order.Choice.{Choice}
-use Rattle.ffv1_words.specs.declared.order.CoderChoice.{CoderChoice}
-use Rattle.ffv1_words.specs.declared.order.CoderChoice.TheVariants as coder_choice
 use Rattle.ffv1_unpack.specs.Check.{CheckStops, frame_count}
 use Rattle.ffv1_unpack.specs.Checked.{LastStopsBy}
 use Rattle.ffv1_unpack.specs.Containers.{IsReadAs, reads_matroska}
@@ -46,7 +37,7 @@ use Rattle.ffv1_unpack.specs.Show.{ShowStops, StreamStopsBy, cost_text}
 use Rattle.ffv1_video.specs.Faults.{cause_of}
 use Rattle.ffv1_video.specs.Faults.Cause.{Content}
 use Rattle.ffv1_avi.specs.Written.{most, riff_size}
-use Rattle.ffv1_pack.specs.Packing.{AllShort, AreReadable, IsFor, coder_for, configuration_for, packed_file, packed_frames, packed_head, said_for}
+use Rattle.ffv1_pack.specs.Packing.{AreReadable, IsFor, configuration_for, packed_frames, packed_head, said_for}
 use Rattle.ffv1_unpack.specs.FrameLines.{frame_lines}
 use Rattle.ffv1_unpack.specs.Located.{LocatedFault}
 use Rattle.ffv1_video.specs.Profiles.{byte_told}
@@ -54,23 +45,21 @@ use Rattle.ffv1_unpack.specs.Opens.{LacksOpeningBy}
 use Rattle.ffv1_unpack.specs.Play.{End, EndsWith, FaultsRead, IsFaulty, LacksStream, Played}
 use Rattle.ffv1_unpack.specs.Plays.{FileThen, GoesBy, NextEnds, NextHasFault, NextStays, PlayStopsBy, ReadsFile}
 use Rattle.ffv1_unpack.specs.Play.End.{File, Payload, Over}
-use Rattle.ffv1_engine.specs.RoundTrip.{accepted_in, HoldsBy, IsFileIn, IsNoContent, IsReadIn, IsUnpacked, WasPacked, canonical_of, text_video, video_in}
+use Rattle.ffv1_engine.specs.RoundTrip.{HoldsBy, IsNoContent, IsUnpacked, canonical_of}
 use Rattle.ffv1_unpack.specs.Stream.{AreFrames, Coded, CodedFrame, Frame, HoldsPayloads, IsFrame, IsRefusedPayload, IsStream, ReadsFrames, Stream, frame_payload, payloads, shown_frames}
 use Rattle.ffv1_codec.specs.Outcome.{FaultsOf}
 use Rattle.ffv1_unpack.specs.Unpack.{LacksTextIn, UnpackDone, UnpackStops}
 use Rattle.ffv1_unpack.specs.Unpacking.{UnpackingStopsBy}
 use Rattle.ffv1_unpack.specs.Unpacked.{AllSay, AreAlike, HasTextBy, LacksText, LacksTextBy, is_ppm_stream, pictures, shown_text}
-use Rattle.ffv1_video.specs.Video.{IsReadVideo, IsVideo, ReadsVideo, Video}
+use Rattle.ffv1_video.specs.Video.{Video}
 use Rattle.ffv1_pack.specs.VideoReads.{IsHeadBy}
-use Rattle.ffv1_video.specs.Colours.{plain, plain_choice, shown}
-use Rattle.ffv1_engine.proofs.ColourNumbers.{plain_head_by, plain_named}
-use Rattle.ffv1_video.proofs.Depths.{all_within, eight_within}
+use Rattle.ffv1_video.specs.Colours.{shown}
 use Rattle.ffv1_engine.proofs.FileTurns.{Opened, Others, no_fault as no_read_fault, no_more, no_stop, none_left, one_more, opened, others}
-use Rattle.ffv1_engine.proofs.PackedFrames.{AllCoded, FrameLaws, Same, all_coded, made, no_fault, same}
-use Rattle.ffv1_engine.proofs.PackedPictures.{head_given, name_given, pictures_given, said_given}
+use Rattle.ffv1_engine.proofs.OpensOnce.{OpensOnce}
+use Rattle.ffv1_engine.proofs.PackedFrames.{AllCoded, FrameLaws, Same, made, no_fault, same}
 use Rattle.ffv1_engine.proofs.PackedText.{RecordLaws, alike_given, canonical_given, none_refused, one_stream, stream_for, stream_is, text_given, writable}
 use Rattle.ffv1_record.specs.Configuration.{Configuration}
-use Rattle.ffv1_engine.proofs.CanonicalVideos.{FileLaws, ppm_by, same_by}
+use Rattle.ffv1_engine.proofs.CanonicalVideos.{FileLaws}
 
 same_ok : {X : Type 0} (r : Result X avi.Stop) (x y : X) → r ≡ Ok x → r ≡ Ok y → x ≡ y
 same_ok r x y e f = cc
@@ -308,10 +297,11 @@ module _ (profile : Profile) (files : FileLaws profile) (frame_laws : FrameLaws)
           not_next of.others payload turn.0 f tally of.coded (of.more_are ∙ turn.1) (subst (λ (t : Stream). FaultsOf t.accepted payload f tally) (the_stream s played.stream first.0) faulty.faulty)
 
     -- so the file has a stream
-    lacks_stream : (new : Option (List ℕ)) (f : Fault) → LacksStream profile (Some file) new f → ⊥
-    lacks_stream None f h = h
-    lacks_stream (Some rest) f (inl h) = no_read_fault (open_read (scope_in profile)) file rest f _ h whole.opened
-    lacks_stream (Some rest) f (inr h) =
+    lacks_stream : OpensOnce profile file → (new : Option (List ℕ)) (f : Fault) → LacksStream profile (Some file) new f → ⊥
+    lacks_stream once None f h = h
+    lacks_stream once (Some rest) f (inl (inl h)) = no_read_fault (open_read (scope_in profile)) file rest f _ h whole.opened
+    lacks_stream once (Some rest) f (inl (inr h)) = no_read_fault (once_read (scope_in profile)) file rest f _ h once.1
+    lacks_stream once (Some rest) f (inr h) =
         let e : ((h.head, h.place), rest) ≡ ((packed_head choice v a, whole.from), whole.behind) = same_ok (open_read (scope_in profile) file) _ _ h.opened whole.opened in
         none_refused profile records choice v.ppm v.head a for g.for.accepted g.for.passes profiled head read h.head h.refusal (ap (λ (z : (Head × Place) × List ℕ). z.0.0) e) h.refused
 
@@ -340,9 +330,9 @@ module _ (profile : Profile) (files : FileLaws profile) (frame_laws : FrameLaws)
         let e = the_stream s played.stream (first s frames b).0 in
         subst (λ t. AreAlike t (shown_frames frames)) (sym e) (alike_given choice v.ppm v.head a for (shown_frames frames) (same_frames s frames b played).say)
 
-    module _ (input output : Passage) (known : input.old ≡ Some file) where
+    module _ (once : OpensOnce profile file) (input output : Passage) (known : input.old ≡ Some file) where
       stream_lacks : (f : Fault) → LacksStream profile input.old input.new f → ⊥
-      stream_lacks f h = lacks_stream input.new f (subst (λ o. LacksStream profile o input.new f) known h)
+      stream_lacks f h = lacks_stream once input.new f (subst (λ o. LacksStream profile o input.new f) known h)
 
       no_end : (s : Stream) (frames : List Frame) (e : End) (f : Fault) → Played profile s frames → Known input.old input.new (FileThen profile s.head (payloads frames) (NextEnds e)) → IsFaulty s.accepted e →
           EndsWith frames e f → ⊥
@@ -408,120 +398,3 @@ module _ (profile : Profile) (files : FileLaws profile) (frame_laws : FrameLaws)
       show_refused true f (inr h) =
           let lines = cost_text (container_of h.comes.place) h.stream in
           no_content f (λ e. no_play_fault h.stream lines f h.is (subst (λ why. PlayStopsBy (FileThen profile h.stream.head) h.stream.accepted lines input output f why) e h.stops))
-
--- a text that was packed is such a text
-pub reads_is : (most : ℕ) (text : List ℕ) (old new : Option (List ℕ)) (v : Video) → old ≡ Some text → ReadsVideo most old new v → IsReadVideo most text v
-reads_is most text old new v known h = is_video new (subst (λ o. ReadsVideo most o new v) known h)
-  where
-    is_video : (rest : Option (List ℕ)) → ReadsVideo most (Some text) rest v → IsReadVideo most text v
-    is_video None k = absurd k
-    is_video (Some rest) k = k.0
-
--- what was accepted, in the profile that the file is read in
-abbrev pub accepted_as : {packing : Profile} → {choice : Choice} → {text : List ℕ} → Profile → WasPacked packing choice text → Accepted
-accepted_as profile w = record { configuration = w.packs.accepted.configuration; table = w.packs.accepted.table; profile = record_profile profile }
-
-pub short_in : (profile : Profile) (a : Accepted) (h : SaidHead) (ps : List Planes) → AllShort a h ps → AllShort (record { configuration = a.configuration; table = a.table; profile = record_profile profile }) h ps
-short_in profile a h [] short = tt
-short_in profile a h (p ∷ ps) short = (λ long. short.0 (record { slice = long.slice; inside = long.inside; long = long.long }), short_in profile a h ps short.1)
-
--- what is known of a video that was read from a text of bytes
-module _ {profile : Profile} (files : FileLaws profile) (frame_laws : FrameLaws) (read_in : Profile) (most : ℕ) (choice : Choice) (text : List ℕ) (v : Video) (a : Accepted) (is : IsReadVideo most text v) (bytes : AreBytes text)
-    (for : IsFor read_in choice v.ppm v.head a) (short : AllShort a v.head v.pictures) where
-  pub head_known : IsHeadBy v.ppm v.head.head
-  head_known = head_given files.said most v.ppm text v.head v.pictures is
-
-  pub coded_known : AllCoded a (said_for v.head) v.pictures
-  coded_known = all_coded frame_laws a for.accepted choice v.ppm v.head for.configuration head_known (said_given v.ppm v.head head_known) v.pictures (pictures_given most v.ppm text v.head v.pictures is bytes) short
-
-  pub given_by : 0 < length v.pictures → AreReadable (record_profile read_in) (packed_frames v a) → (v.ppm ≡ true → IsRatio 4294967295 choice.rate choice.scale) → Given read_in choice v a
-  given_by some readable rated = record {
-    head = head_known;
-    named = name_given files.named most v.ppm text v.head v.pictures is;
-    for = for;
-    coded = coded_known;
-    some = some;
-    readable = readable;
-    rated = rated;
-  }
-
--- without range and siting it is one, too
-pub given_plain : (profile : Profile) (choice : Choice) (v : Video) (a : Accepted) → Given profile choice v a → Given profile (plain_choice choice) (plain v) a
-given_plain profile choice v a g = record {
-  head = plain_head_by v.ppm v.head.head g.head;
-  named = plain_named v.head.depth v.head.head g.named;
-  for = record { configuration = g.for.configuration; accepted = g.for.accepted; passes = g.for.passes; profiled = g.for.profiled };
-  coded = g.coded;
-  some = g.some;
-  readable = g.readable;
-  rated = g.rated;
-}
-
--- the text that was packed is that video, as it was read
-pub packed_so : (packing : Profile) (choice : Choice) (text : List ℕ) (w : WasPacked packing choice text) → IsReadVideo (greatest_depth packing) text (text_video w)
-packed_so packing choice text w = reads_is (greatest_depth packing) text w.input.old w.input.new w.packs.video w.known w.packs.reads
-
-pub given_text : (packing profile : Profile) → FileLaws profile → FrameLaws → (choice : Choice) (text : List ℕ) (w : WasPacked packing choice text) → IsReadIn profile (video_in w) (accepted_in w) → Given profile choice (text_video w) (accepted_as profile w)
-given_text packing profile files frame_laws choice text w read =
-    given_by files frame_laws profile (greatest_depth packing) choice text (text_video w) (accepted_as profile w) (packed_so packing choice text w) w.bytes
-    (record { configuration = w.packs.packable.for.configuration; accepted = w.packs.packable.for.accepted; passes = read.passes; profiled = refl })
-    (short_in profile w.packs.accepted w.packs.video.head w.packs.video.pictures w.packs.packable.short) w.packs.packable.some read.readable w.rated
-
-pub given : (packing profile : Profile) → FileLaws profile → FrameLaws → (choice : Choice) (text : List ℕ) (w : WasPacked packing choice text) → IsReadIn profile (video_in w) (accepted_in w) → Given profile (plain_choice choice) (video_in w) (accepted_as profile w)
-given packing profile files frame_laws choice text w read = given_plain profile choice (text_video w) (accepted_as profile w) (given_text packing profile files frame_laws choice text w read)
-
-pub same_video : {profile : Profile} → FileLaws profile → (packing : Profile) (choice : Choice) (text : List ℕ) (w : WasPacked packing choice text) → IsVideo (canonical_of (video_in w)) (video_in w)
-same_video files packing choice text w = same_by files (greatest_depth packing) w.packs.video.ppm text w.packs.video.head w.packs.video.pictures (packed_so packing choice text w)
-
-pub same_ppm : (packing : Profile) (choice : Choice) (text : List ℕ) (w : WasPacked packing choice text) → IsVideo text (video_in w) → (video_in w).ppm ≡ true → canonical_of (video_in w) ≡ text
-same_ppm packing choice text w is = ppm_by w.packs.video.ppm text (video_in w).head w.packs.video.pictures is
-
--- what passes the checks of `Wide`, and whose edges pass in a profile, passes the checks of that
-passes_by : (p : RecordProfile) (c : Configuration) → PassesAll of_record.Wide checks c → PassesEdges p c → IsTrue (has_coder p c) → PassesAll p checks c
-passes_by of_record.Strict c passes edges coder =
-    (passes.0, (passes.1.0, (passes.1.1.0, (passes.1.1.1.0, (passes.1.1.1.1.0, (passes.1.1.1.1.1.0, (edges, (coder, tt))))))))
-passes_by of_record.Wide c passes edges coder = passes
-
--- what is packed is range coded
-has_range : (p : RecordProfile) (c : CoderChoice) (depth : ℕ) → IsTrue (nat_le (least_coder p) (type_of (coder_for c)) && suits_depth (coder_for c) depth)
-has_range of_record.Strict coder_choice.Standard depth = refl
-has_range of_record.Strict coder_choice.Carried depth = refl
-has_range of_record.Wide coder_choice.Standard depth = refl
-has_range of_record.Wide coder_choice.Carried depth = refl
-
-coder_passes : (p : RecordProfile) (choice : Choice) (ppm : Bool) (h : SaidHead) (c : Configuration) → c ≡ configuration_for choice ppm h → IsTrue (has_coder p c)
-coder_passes p choice ppm h c is = subst (λ (k : Configuration). IsTrue (has_coder p k)) (sym is) (has_range p choice.coder h.depth)
-
--- its frames are read in the profile that it was packed in
-frames_are_read : (packing : Profile) (choice : Choice) (text : List ℕ) (w : WasPacked packing choice text) → AreReadable (record_profile packing) (packed_frames (video_in w) (accepted_in w))
-frames_are_read Strict choice text w = w.readable refl
-frames_are_read Wide choice text w = w.packs.packable.readable refl
-
--- it is read in each profile that reads its depth and its frames, and accepts its edges
-pub read_in : (packing profile : Profile) (choice : Choice) (text : List ℕ) (w : WasPacked packing choice text) → IsReadIn packing (video_in w) (accepted_in w) × IsReadIn Wide (video_in w) (accepted_in w)
-    × ((video_in w).head.depth ≡ 8 → PassesEdges (record_profile profile) (accepted_in w).configuration → AreReadable (record_profile profile) (packed_frames (video_in w) (accepted_in w)) → IsReadIn profile (video_in w) (accepted_in w))
-read_in packing profile choice text w = (
-  record { deep = w.packs.packable.deep; passes = w.packs.packable.for.passes; readable = frames_are_read packing choice text w },
-  record {
-    deep = all_within packing w.packs.video.head.depth w.packs.packable.deep;
-    passes = w.packs.packable.for.accepted.passes;
-    readable = readable_wide (record_profile packing) (packed_frames (video_in w) (accepted_in w)) (frames_are_read packing choice text w);
-  },
-  λ eight edges readable. record {
-    deep = eight_within profile w.packs.video.head.depth eight;
-    passes = passes_by (record_profile profile) (accepted_in w).configuration w.packs.packable.for.accepted.passes edges
-        (coder_passes (record_profile profile) choice w.packs.video.ppm w.packs.video.head (accepted_in w).configuration w.packs.packable.for.configuration);
-    readable = readable;
-  },
-)
-
--- the AVI of such a text
-module _ (packing profile : Profile) (files : FileLaws profile) (frame_laws : FrameLaws) (records : RecordLaws) (choice : Choice) (text : List ℕ) (w : WasPacked packing choice text) (read : IsReadIn profile (video_in w) (accepted_in w)) where
-  avi_writable : IsWritable (extent_in (scope_in profile)) (packed_head choice (text_video w) (accepted_as profile w)) (packed_frames (text_video w) (accepted_as profile w))
-  avi_writable = can_write profile files frame_laws records choice (text_video w) (accepted_as profile w) refl read.deep (given_text packing profile files frame_laws choice text w read) w.packs.packable.small
-
-  pub avi_reads : file_read (scope_in profile) (packed_file choice (text_video w) (accepted_as profile w)) ≡ Ok ((packed_head (plain_choice choice) (video_in w) (accepted_as profile w), packed_frames (video_in w) (accepted_as profile w)), [])
-  avi_reads = files.read (packed_head choice (text_video w) (accepted_as profile w)) (packed_frames (text_video w) (accepted_as profile w)) avi_writable
-
-  pub avi_is : IsFileIn profile (packed_file choice (text_video w) (accepted_as profile w)) (packed_head (plain_choice choice) (video_in w) (accepted_as profile w)) (packed_frames (video_in w) (accepted_as profile w))
-  avi_is = files.file (packed_head choice (text_video w) (accepted_as profile w)) (packed_frames (text_video w) (accepted_as profile w)) avi_writable

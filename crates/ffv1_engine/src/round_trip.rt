@@ -32,7 +32,7 @@ ghost use Rattle.ffv1_video.specs.Video.{IsReadVideo, IsVideo, Video};
 use ffv1_avi::laws as avi_laws;
 use ffv1_codec::laws as codec_laws;
 use ffv1_files::laws as files_laws;
-use ffv1_matroska::{laws as matroska_laws, written_laws};
+use ffv1_matroska::{again_laws, laws as matroska_laws, written_laws};
 use ffv1_range::laws as range_laws;
 use ffv1_record::laws as record_laws;
 use ffv1_slice::laws as slice_laws;
@@ -58,7 +58,7 @@ pub fn named_colour_fits_a_file()
 /// an AVI says nothing: a text of that video, and for PPM whose headers are three lines each, as
 /// they are at `Strict`, the very text that was packed. It is the canonical text of all that was
 /// packed if `pack` answers that no colour is lost. What it notes is what is noted of the bytes of
-/// the file: at `Strict` nothing, and of Matroska no bytes behind it.
+/// the file: at `Strict` nothing, and in neither container bytes after it.
 ///
 /// If `unpack`, `check` or `show` is refused on it, at such a profile, that is for `OutOfMemory`
 /// (2), `Read` (56) or `Write` (57), and for no fault of the file.
@@ -94,7 +94,7 @@ pub fn packed_is_unpacked()
         (w : WasPacked packing choice text) (input output : Passage) (count : ℕ)
         (notes : Notes) → IsReadIn profile (video_in w) (accepted_in w) →
         input.old ≡ Some (file_in w) → UnpackDone profile input output count notes →
-        IsNotedOf (scope_in profile) (file_in w) [] notes }
+        IsNotedOf (scope_in profile) (file_in w) [] notes × (notes.after ≡ None) }
     ensures refused { (packing profile : Profile) (choice : Choice) (text : List ℕ)
         (w : WasPacked packing choice text) (input output : Passage) (f : Fault) →
         IsReadIn profile (video_in w) (accepted_in w) →
@@ -191,8 +191,10 @@ pub fn packed_is_unpacked()
     range_laws::sentinel_ending_codes_its_list();
     y4m_laws::text_is_read_as_its_pictures();
     files_laws::written_avi_is_read_back();
+    files_laws::nothing_is_noted_after_a_written_avi();
     avi_laws::written_file_is_read_back();
     written_laws::written_file_is_read_back();
     matroska_laws::what_is_read_is_a_file();
+    again_laws::file_is_read_wherever_its_tracks_stand();
     record_laws::written_bytes_are_a_record();
 }

@@ -10,13 +10,14 @@ use Rattle.ffv1_avi.specs.Written.{file_of}
 use Rattle.ffv1_avi.specs.declared.place.Extent.{Extent}
 use Rattle.ffv1_avi.specs.declared.place.Extent.TheVariants.{FirstMovi, EveryRiff}
 use Rattle.ffv1_avi.specs.declared.place.Place.{Place as AviPlace}
-use Rattle.ffv1_matroska.specs.MatroskaFiles.{MatroskaFile}
+use Rattle.ffv1_matroska.specs.Late.{again_read, file_again_read}
+use Rattle.ffv1_matroska.specs.SegmentFiles.{SegmentFile}
 use Rattle.ffv1_matroska.specs.Files as matroska
 use Rattle.ffv1_matroska.specs.Opened as opened
 use Rattle.ffv1_matroska.specs.declared.place.Place.{Place as MatroskaPlace}
 use Rattle.ffv1_files.specs.declared.container.Scope.{Scope}
 use Rattle.ffv1_files.specs.declared.container.Scope.TheVariants as scope
-use Rattle.ffv1_files.specs.Files.{avi_opened, avi_place, file_read, frame_read, frames_read, is_matroska, matroska_opened, matroska_place, more_frames, open_read}
+use Rattle.ffv1_files.specs.Files.{avi_opened, avi_place, file_read, frame_read, frames_read, is_matroska, matroska_begun, matroska_opened, matroska_place, more_frames, open_read}
 use Rattle.ffv1_files.specs.Places.{InAvi, InMatroska, Place, extent_in}
 use Rattle.ffv1_files.specs.Whole.{IsWhole}
 use Rattle.ffv1_matroska.specs.declared.track.TrackNumbers.{TrackNumbers}
@@ -63,14 +64,14 @@ avi_same extent text = avi_open (avi.open_read extent text)
 abbrev matroska_pairs : Result (opened.Opened × List ℕ) Stop → Result (Pair × List ℕ) Stop
 matroska_pairs r = read_on {Y = Pair} r (λ o text. read_on (matroska.frames_read o.track.numbers o.place text) (λ frames. given (o.track.head, frames)))
 
-matroska_open : (r : Result (opened.Opened × List ℕ) Stop) → read_on {Y = Pair} (read_on r (λ o. given (o.track.head, InMatroska o.segment o.track.numbers o.place))) with_frames ≡ matroska_pairs r
+matroska_open : (r : Result (opened.Opened × List ℕ) Stop) → read_on {Y = Pair} (read_on r matroska_begun) with_frames ≡ matroska_pairs r
 unfolding frames_read
 matroska_open (Err why) = refl
 matroska_open (Ok p) = refl
 
-matroska_same : (text : List ℕ) → read_on (matroska_opened text) with_frames ≡ opened.file_read text
-unfolding opened.file_read
-matroska_same text = matroska_open (opened.open_read text)
+matroska_same : (text : List ℕ) → read_on (matroska_opened text) with_frames ≡ file_again_read text
+unfolding file_again_read
+matroska_same text = matroska_open (again_read text)
 
 pub first_same : (text : List ℕ) → file_read scope.FirstMovi text ≡ avi.file_read FirstMovi text
 unfolding open_read
@@ -80,13 +81,13 @@ pub whole_avi : (text : List ℕ) → is_matroska text ≡ false → file_read s
 unfolding open_read
 whole_avi text is = rw is (avi_same EveryRiff text)
 
-pub whole_matroska : (text : List ℕ) → is_matroska text ≡ true → file_read scope.Whole text ≡ opened.file_read text
+pub whole_matroska : (text : List ℕ) → is_matroska text ≡ true → file_read scope.Whole text ≡ file_again_read text
 unfolding open_read
 whole_matroska text is = rw is (matroska_same text)
 
 -- a file that is read whole
 module _ (whole : (file : List ℕ) (head : Head) (frames : List (List ℕ)) (rest : List ℕ) → avi.file_read EveryRiff file ≡ Ok ((head, frames), rest) → RiffFileThen file head frames rest)
-    (elements : (file : List ℕ) (head : Head) (frames : List (List ℕ)) (rest : List ℕ) → opened.file_read file ≡ Ok ((head, frames), rest) → (is : MatroskaFile file head frames) × (is.rest ≡ rest)) where
+    (elements : (file : List ℕ) (head : Head) (frames : List (List ℕ)) (rest : List ℕ) → file_again_read file ≡ Ok ((head, frames), rest) → (is : SegmentFile file head frames) × (is.rest ≡ rest)) where
   pub read_whole : (file : List ℕ) (head : Head) (frames : List (List ℕ)) (rest : List ℕ) → file_read scope.Whole file ≡ Ok ((head, frames), rest) → IsWhole file head frames rest
   read_whole file head frames rest h = on_first (is_matroska file) refl
     where
@@ -120,7 +121,7 @@ then_first : (file : List ℕ) (head : Head) (frames : List (List ℕ)) (rest : 
 then_first file head frames rest h = ap is_matroska (h.bytes ∙ ap (λ z. z ++ h.behind) h.is.bytes)
 
 module _ (every_then : (file : List ℕ) (head : Head) (frames : List (List ℕ)) (rest : List ℕ) → RiffFileThen file head frames rest → avi.file_read EveryRiff file ≡ Ok ((head, frames), rest))
-    (elements : (file : List ℕ) (head : Head) (frames : List (List ℕ)) (is : MatroskaFile file head frames) → opened.file_read file ≡ Ok ((head, frames), is.rest)) where
+    (elements : (file : List ℕ) (head : Head) (frames : List (List ℕ)) (is : SegmentFile file head frames) → file_again_read file ≡ Ok ((head, frames), is.rest)) where
   pub whole_read : (file : List ℕ) (head : Head) (frames : List (List ℕ)) (rest : List ℕ) → IsWhole file head frames rest → file_read scope.Whole file ≡ Ok ((head, frames), rest)
   whole_read file head frames rest (inl h) = whole_avi file (then_first file head frames rest h) ∙ every_then file head frames rest h
   whole_read file head frames rest (inr h) = whole_matroska file h.0 ∙ elements file head frames h.1.0 ∙ ap (λ z. Ok ((head, frames), z)) h.1.1

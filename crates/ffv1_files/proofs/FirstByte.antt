@@ -27,7 +27,7 @@ part_begun (Some b) text (c ∷ cs) rest (more, begun) is =
     let first : c ≡ b = cc in
     inr (cs, ap (λ z. z ∷ cs) first)
 
-known_first : (first : Option ℕ) (old mid new : Option (List ℕ)) (P : List ℕ → List ℕ → Type 0) → GivesByte old mid first → Known (bytes_with first mid) new P → Known old new (λ text rest. Begun first text × P text rest)
+pub known_first : (first : Option ℕ) (old mid new : Option (List ℕ)) (P : List ℕ → List ℕ → Type 0) → GivesByte old mid first → Known (bytes_with first mid) new P → Known old new (λ text rest. Begun first text × P text rest)
 known_first first None mid new P gives h = tt
 known_first None (Some text) None new P gives h = absurd gives.0
 known_first None (Some text) (Some left) None P gives h = absurd h

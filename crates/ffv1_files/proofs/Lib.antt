@@ -7,7 +7,10 @@ mod OpenedRooms
 mod Locations
 mod ItemNexts
 pub mod Behinds
+mod NotedStreams
 mod Noted
 mod NotedLaws
 mod NotedOnce
 mod NotedSegments
+pub mod AgainOpenings
+mod WrittenNotes

@@ -20,9 +20,10 @@ use Rattle.ffv1_matroska.specs.Offsets as matroska
 use Rattle.ffv1_matroska.specs.Places.{ended}
 use Rattle.ffv1_matroska.specs.Readers as matroska_reader
 use Rattle.ffv1_matroska.specs.Tracks.{Track}
+use Rattle.ffv1_matroska.specs.declared.place.Place.{Place as MatroskaPlace}
 use Rattle.ffv1_files.specs.declared.container.Scope.{Scope}
 use Rattle.ffv1_files.specs.declared.container.Scope.TheVariants as scope
-use Rattle.ffv1_files.specs.Offsets.{AviReached, AviStops, Layout, LocatedNext, MatroskaReached, MatroskaStops, Reached, ReadsThrough, StopsAt, StopsThrough}
+use Rattle.ffv1_files.specs.Offsets.{AviReached, AviStops, Layout, LocatedNext, MatroskaReached, MatroskaStops, Reached, ReadsKnown, ReadsThrough, StopsAt, StopsThrough}
 use Rattle.ffv1_files.specs.Places.{InAvi, InMatroska}
 use Rattle.ffv1_files.specs.Readers.{Standing}
 use Rattle.ffv1_files.proofs.OpenedRooms.{consumed_with}
@@ -43,10 +44,10 @@ opening_with {to = to} first old mid new before now after f same gives h =
 
 -- readers of their containers
 abbrev pub in_avi : avi_reader.Standing → Standing
-in_avi r = record { head = r.head; place = InAvi r.place; offset = r.offset; fault = r.fault; room = r.room; end = 0; cued = false; after = r.after; repeated = r.repeated }
+in_avi r = record { head = r.head; place = InAvi r.place; offset = r.offset; fault = r.fault; room = r.room; end = 0; cued = false; after = r.after; repeated = r.repeated; others = r.others }
 
 abbrev pub in_matroska : matroska_reader.Standing → Standing
-in_matroska r = record { head = r.track.head; place = InMatroska r.segment r.track.numbers r.place; offset = r.offset; fault = r.fault; room = r.room; end = r.end; cued = r.cued; after = None; repeated = 0 }
+in_matroska r = record { head = r.track.head; place = InMatroska r.segment r.track.numbers r.place; offset = r.offset; fault = r.fault; room = r.room; end = r.end; cued = r.cued; after = None; repeated = 0; others = 0 }
 
 -- that were opened
 avi_begins : (extent : Extent) (text left : Option (List ℕ)) (r : avi_reader.Standing) (count : ℕ) → ReadsWhole (avi.spot_taken extent) avi.Start text left (avi.BeforeFrames r.head r.place) count → r.offset ≡ offset_after 0 count → AviReached extent text left r.head r.place r.offset
@@ -76,7 +77,7 @@ module _ (first : Option ℕ) (old mid new : Option (List ℕ)) (before now afte
   matroska_reached r offset (count, inl whole, is) =
       record { whole = inl (r.track.head, record { first = r.place; between = new; before = count; after = 0; opened = whole_with first old mid new gives whole; framed = reads_none (matroska.element_taken r.track.numbers) r.place new; offset_is = is ∙ offset_same 0 count (2 ^ 64 - 1) }) }
   matroska_reached r offset (count, inr (over, ends), is) =
-      record { whole = inr (over, r.track.head, (count, record { here = ends.here; between = ends.between; before = whole_with first old mid ends.between gives ends.before; none = ends.none }, is)) }
+      record { whole = inr (inl (over, r.track.head, (count, record { here = ends.here; between = ends.between; before = whole_with first old mid ends.between gives ends.before; none = ends.none }, is))) }
 
   pub matroska_stopped : (f : FileFault) (offset : ℕ) → matroska.OffsetOpened handed (Err f) offset → StopsAt scope.Whole all f offset
   matroska_stopped f offset h = record { whole = inr (inl (h.0, h.1, opening_with first old mid new before now after f same gives h.2, h.3)) }
@@ -141,15 +142,30 @@ not_false e = cc
 not_over : (f : FileFault) → ◌≡◌ {A = Result Bool FileFault} (Err f) (Ok false) → ⊥
 not_over f e = cc
 
+-- after a file was begun again
+known_goes : (before count after more most : ℕ) → min (min (0 + (before + (count + after))) most + more) most ≡ min (0 + (before + (count + (after + more)))) most
+known_goes before count after more most = grind arith
+
+known_on : {text left new : Option (List ℕ)} {track : Track} {place next : MatroskaPlace} {offset last : ℕ} (more : ℕ) → ReadsKnown text left track place offset → ReadsWhole (matroska.element_taken track.numbers) place left new next more → last ≡ offset_after offset more → ReadsKnown text new track next last
+known_on more h whole is =
+    record { size = h.size; known = h.known; first = h.first; between = h.between; begun = h.begun; before = h.before; count = h.count; after = h.after + more; entered = h.entered; opened = h.opened; framed = reads_then h.framed whole; offset_is = is ∙ rw h.offset_is (known_goes h.before h.count h.after more (2 ^ 64 - 1)) }
+
 matroska_on : (text : Option (List ℕ)) (old new : matroska_reader.Standing) (p : Passage) → new.track ≡ old.track → Over old (Ok true) → matroska.OffsetAfter old p (Ok true) new → MatroskaReached text p.old old.track.numbers old.place old.offset → MatroskaReached text p.new new.track.numbers new.place new.offset
-matroska_on text old new p same over h (inr ends) = absurd (not_false (over ends.0))
+matroska_on text old new p same over h (inr (inl ends)) = absurd (not_false (over ends.0))
+matroska_on text old new p same over h (inr (inr (inr ends))) = absurd (not_false (over ends.0))
+matroska_on text old new p same over (n, whole, is) (inr (inr (inl (head, h)))) =
+    subst (λ (t : Track). MatroskaReached text p.new t.numbers new.place new.offset) (sym same)
+    (inr (inr (inl (head, known_on n h whole is))))
 matroska_on text old new p same over (n, whole, is) (inl (head, h)) =
     subst (λ (t : Track). MatroskaReached text p.new t.numbers new.place new.offset) (sym same)
     (inl (head, through_on n h whole (is ∙ rw h.offset_is (goes_on h.before h.after n (2 ^ 64 - 1)))))
 
 matroska_stops_on : (text : Option (List ℕ)) (old new : matroska_reader.Standing) (p : Passage) (f : FileFault) → Over old (Err f) → matroska.OffsetAfter old p (Err f) new → MatroskaReached text p.old old.track.numbers old.place old.offset → MatroskaStops (record p { old = text }) f new.offset
-matroska_stops_on text old new p f over h (inr ends) = absurd (not_over f (over ends.0))
-matroska_stops_on text old new p f over (to, n, stops, is) (inl (head, h)) = inr (record { numbers = old.track.numbers; head = head }, stops_on p f n h stops (is ∙ rw h.offset_is (goes_on h.before h.after n (2 ^ 64 - 1))))
+matroska_stops_on text old new p f over h (inr (inl ends)) = absurd (not_over f (over ends.0))
+matroska_stops_on text old new p f over h (inr (inr (inr ends))) = absurd (not_over f (over ends.0))
+matroska_stops_on text old new p f over (to, n, stops, is) (inr (inr (inl (head, h)))) =
+    inr (inr (inr (record { track = record { numbers = old.track.numbers; head = head }; between = p.old; place = old.place; before = old.offset; reads = h; to = to; after = n; stops = stops; offset_is = is })))
+matroska_stops_on text old new p f over (to, n, stops, is) (inl (head, h)) = inr (inl (record { numbers = old.track.numbers; head = head }, stops_on p f n h stops (is ∙ rw h.offset_is (goes_on h.before h.after n (2 ^ 64 - 1)))))
 
 pub matroska_located : (s : Scope) (text : Option (List ℕ)) (old new : matroska_reader.Standing) (p : Passage) (r : Result Bool FileFault) → matroska_reader.StandsAfter old r new → matroska.OffsetAfter old p r new → Over old r → Reached s text p.old (in_matroska old) → LocatedNext s text p r (in_matroska new)
 matroska_located scope.FirstMovi text old new p r stands h over reached = absurd reached.whole

@@ -15,7 +15,7 @@ use Rattle.ffv1_avi.specs.Behind.{BehindEnd, EndsBehind, StandAfter}
 use Rattle.ffv1_avi.specs.Behind as avi_behind
 use Rattle.ffv1_avi.specs.Files as avi
 use Rattle.ffv1_avi.specs.Extents.{AnswersFrom}
-use Rattle.ffv1_avi.specs.Files.{riff_begun}
+use Rattle.ffv1_avi.specs.Files.{others_read, riff_begun}
 use Rattle.ffv1_avi.specs.Names as names
 use Rattle.ffv1_avi.specs.Offsets.{ReadsUpTo}
 use Rattle.ffv1_avi.specs.Places.{extent_of, first_place}
@@ -28,8 +28,9 @@ use Rattle.ffv1_avi.specs.declared.place.Place.{Place as AviPlace}
 use Rattle.ffv1_avi.proofs.FrameTurns.{frames_step}
 use Rattle.ffv1_avi.proofs.OpenLaws.{open_sound}
 use Rattle.ffv1_matroska.specs.Cues.{CuedNext, cued_taken}
-use Rattle.ffv1_matroska.specs.Offsets.{InSegment, Start, spot_taken}
-use Rattle.ffv1_matroska.specs.Opened as opening
+use Rattle.ffv1_matroska.specs.Offsets.{BeforeFrames, InSegment, Start, element_taken, spot_taken}
+use Rattle.ffv1_matroska.specs.Opening.{segment_begun}
+use Rattle.ffv1_matroska.specs.Late.{again_read}
 use Rattle.ffv1_matroska.specs.Opened.{Opened}
 use Rattle.ffv1_matroska.specs.Places.{amount}
 use Rattle.ffv1_matroska.specs.Readers as matroska_reader
@@ -38,13 +39,13 @@ use Rattle.ffv1_matroska.specs.Segments.{header_read, step_read}
 use Rattle.ffv1_matroska.specs.Tracks.{Track}
 use Rattle.ffv1_matroska.specs.declared.place.Place.{Place as MatroskaPlace}
 use Rattle.ffv1_matroska.specs.declared.track.TrackNumbers.{TrackNumbers}
-use Rattle.ffv1_matroska.proofs.LastSteps.{IsLast, last_nothing, opened_sized, read_to_end, step_last}
+use Rattle.ffv1_matroska.proofs.LastSteps.{IsLast, again_sized, last_nothing, read_to_end, step_last}
 use Rattle.ffv1_matroska.proofs.ReadSegments.{headed_sound}
 use Rattle.ffv1_files.specs.Answers.{FileAnswers}
 use Rattle.ffv1_files.specs.Behind.{EndsThere, any_value, ends_there, notes_of, notes_read}
-use Rattle.ffv1_files.specs.Files.{avi_opened, file_read, frames_read, is_matroska, matroska_opened, open_read}
-use Rattle.ffv1_files.specs.Noted.{FramesBefore, IsNotedOf, NotedOf, NotesEnd, NotesNext, NotesReached, RiffsEnd, SegmentRead, SegmentReached, bytes_before, frames_reached, notes_reached, repeated_in, repeats, stands_after}
-use Rattle.ffv1_files.specs.Offsets.{AviReached, EndsEarly, Layout, MatroskaReached, PlaceReached, Reached, ReadsThrough}
+use Rattle.ffv1_files.specs.Files.{avi_opened, file_read, frames_read, is_matroska, matroska_begun, matroska_opened, open_read}
+use Rattle.ffv1_files.specs.Noted.{FramesBefore, IsNotedOf, NotedOf, NotesEnd, NotesNext, NotesReached, RiffsEnd, SegmentRead, SegmentReached, StreamsReached, bytes_before, frames_reached, notes_reached, repeated_in, repeats, stands_after, streams_reached}
+use Rattle.ffv1_files.specs.Offsets.{AviReached, EndsEarly, EndsKnown, Layout, MatroskaReached, PlaceReached, Reached, ReadsKnown, ReadsThrough}
 use Rattle.ffv1_files.specs.Places.{InAvi, InMatroska, Place, least_bytes, least_in}
 use Rattle.ffv1_files.specs.Readers.{Standing, opened_at}
 use Rattle.ffv1_files.specs.declared.container.Scope.{Scope}
@@ -106,9 +107,39 @@ early_counts file left track offset (count, ends, is) = on_between ends.between 
         let over = header_over ends.here mid left (none_known (header_read ends.here) (record { old = Some mid; new = Some left; before = 0; after = 0 }) None none) in
         (count, whole_counts file mid before ∙ ap (λ (z : List ℕ). count + length z) over, is)
 
+-- of a file that was begun again
+known_counts : (file left : List ℕ) (track : Track) (place : MatroskaPlace) (offset : ℕ) → ReadsKnown (Some file) (Some left) track place offset → Counted file left offset
+known_counts file left track place offset h = on_between h.between h.begun h.entered h.opened h.framed
+  where
+    on_between : (between begun : Option (List ℕ)) → ReadsWhole spot_taken Start (Some file) between (InSegment None (segment_begun h.size)) h.before → ReadsWhole spot_taken (InSegment (Some h.known) (segment_begun h.size)) between begun (BeforeFrames track h.first) h.count →
+        ReadsWhole (element_taken track.numbers) h.first begun (Some left) place h.after → Counted file left offset
+    on_between None begun entered opened framed = absurd entered.consumed
+    on_between (Some mid) None entered opened framed = absurd opened.consumed
+    on_between (Some mid) (Some near) entered opened framed =
+        let one = whole_counts file mid entered in
+        let two = whole_counts mid near opened in
+        let three = whole_counts near left framed in
+        (h.before + (h.count + h.after), omega (arith, one, two, three), h.offset_is)
+
+ends_counts : (file left : List ℕ) (track : Track) (offset : ℕ) → EndsKnown (Some file) (Some left) track offset → Counted file left offset
+ends_counts file left track offset h = on_between h.between h.goes.1.between h.entered h.goes.1.before h.goes.1.none
+  where
+    on_between : (between near : Option (List ℕ)) → ReadsWhole spot_taken Start (Some file) between (InSegment None (segment_begun h.size)) h.before → ReadsWhole spot_taken (InSegment (Some h.goes.0) (segment_begun h.size)) between near (InSegment (Some track) h.goes.1.here) h.after →
+        ReadOrNone (header_read h.goes.1.here) near (Some left) None → Counted file left offset
+    on_between None near entered before none = absurd entered.consumed
+    on_between (Some mid) None entered before none = absurd before.consumed
+    on_between (Some mid) (Some near) entered before none =
+        let over = header_over h.goes.1.here near left (none_known (header_read h.goes.1.here) (record { old = Some near; new = Some left; before = 0; after = 0 }) None none) in
+        let one = whole_counts file mid entered in
+        let two = whole_counts mid near before in
+        let same = ap (λ (z : List ℕ). length z) over in
+        (h.before + h.after, omega (arith, one, two, same), h.offset_is)
+
 matroska_counts : (file left : List ℕ) (numbers : TrackNumbers) (place : MatroskaPlace) (offset : ℕ) → MatroskaReached (Some file) (Some left) numbers place offset → Counted file left offset
 matroska_counts file left numbers place offset (inl h) = through_counts file left h.1
-matroska_counts file left numbers place offset (inr h) = early_counts file left (record { numbers = numbers; head = h.1 }) offset h.2
+matroska_counts file left numbers place offset (inr (inl h)) = early_counts file left (record { numbers = numbers; head = h.1 }) offset h.2
+matroska_counts file left numbers place offset (inr (inr (inl (head, h)))) = known_counts file left (record { numbers = numbers; head = head }) place offset h
+matroska_counts file left numbers place offset (inr (inr (inr (is, head, h)))) = ends_counts file left (record { numbers = numbers; head = head }) offset h
 
 -- where a file was opened
 module _ (file left : List ℕ) (end offset : ℕ) (cued : Bool) (after : Option ℕ) (uncued : cued ≡ false) (untold : after ≡ None) where
@@ -130,7 +161,7 @@ module _ (file left : List ℕ) (end offset : ℕ) (cued : Bool) (after : Option
   segment_opened : (head : Head) (segment : Option ℕ) (track : TrackNumbers) (place : MatroskaPlace) → matroska_opened file ≡ Ok ((head, InMatroska segment track place), left) → MatroskaReached (Some file) (Some left) track place offset → end ≡ offset_after offset (amount place) →
       notes_reached scope.Whole (InMatroska segment track place) end cued after file left
   segment_opened head segment track place h reached there =
-      let first = read_on_ok (opening.open_read file) (λ o. given (o.track.head, InMatroska o.segment o.track.numbers o.place)) ((head, InMatroska segment track place), left) h in
+      let first = read_on_ok (again_read file) matroska_begun ((head, InMatroska segment track place), left) h in
       let o : Opened = first.0.0 in
       let all = ok_is ((o.track.head, InMatroska o.segment o.track.numbers o.place), first.0.1) ((head, InMatroska segment track place), left) first.2 in
       let same : InMatroska o.segment o.track.numbers o.place ≡ InMatroska segment track place = ap (λ (z : (Head × Place) × List ℕ). z.0.1) all in
@@ -165,7 +196,7 @@ module _ (file left : List ℕ) (end offset : ℕ) (cued : Bool) (after : Option
         where
           no_avi : matroska_opened file ≡ Ok ((head, InAvi place), left) → ⊥
           no_avi k =
-              let first = read_on_ok (opening.open_read file) (λ o. given (o.track.head, InMatroska o.segment o.track.numbers o.place)) ((head, InAvi place), left) k in
+              let first = read_on_ok (again_read file) matroska_begun ((head, InAvi place), left) k in
               let o : Opened = first.0.0 in
               let same : InMatroska o.segment o.track.numbers o.place ≡ InAvi place = ap (λ (z : (Head × Place) × List ℕ). z.0.1) (ok_is ((o.track.head, InMatroska o.segment o.track.numbers o.place), first.0.1) ((head, InAvi place), left) first.2) in
               cc
@@ -194,10 +225,11 @@ opened_frames scope.Whole file left head (InAvi place) repeated is least none = 
   omega (arith, none),
 )
 
-pub opens_noted : (s : Scope) (text left : Option (List ℕ)) (r : Standing) → Known text left (λ file rest. open_read s file ≡ Ok (opened_at r, rest)) → Reached s text left r → EndsThere r → r.cued ≡ false → r.after ≡ None → least_in s ≤ least_bytes r.place → r.repeated ≡ 0 → NotesReached s text left r
-opens_noted s None left r h reached there uncued untold least none = record { known = tt; frames = tt }
-opens_noted s (Some file) None r h reached there uncued untold least none = absurd h
-opens_noted s (Some file) (Some left) r h reached there uncued untold least none = record {
+pub opens_noted : (s : Scope) (text left : Option (List ℕ)) (r : Standing) → Known text left (λ file rest. open_read s file ≡ Ok (opened_at r, rest)) → Reached s text left r → EndsThere r → r.cued ≡ false → r.after ≡ None → least_in s ≤ least_bytes r.place → r.repeated ≡ 0 → StreamsReached s text left r → NotesReached s text left r
+opens_noted s None left r h reached there uncued untold least none streams = record { known = tt; frames = tt; streams = tt }
+opens_noted s (Some file) None r h reached there uncued untold least none streams = absurd h
+opens_noted s (Some file) (Some left) r h reached there uncued untold least none streams = record {
+  streams = streams;
   known = opened_at_once file left r.end r.offset r.cued r.after uncued untold s r.head r.place h reached.whole there;
   frames = opened_frames s file left r.head r.place r.repeated h least none;
 }
@@ -274,13 +306,13 @@ avi_goes s text old new from to goes same kept h = known_then text old new (note
     on scope.Whole file a b e u = same ∙ e
 
 -- what an AVI tells
-abbrev avi_notes : ℕ → Option ℕ → Notes
-avi_notes repeated after = record { is_open = false; repeated = repeated; after = after }
+abbrev avi_notes : ℕ → ℕ → Option ℕ → Notes
+avi_notes others repeated after = record { is_open = false; others = others; repeated = repeated; after = after }
 
-avi_told : (place : AviPlace) (after : Option ℕ) (repeated : ℕ) (behind rest : List ℕ) (notes : Notes) → notes_read (InAvi place) 0 false after repeated behind ≡ Ok (notes, rest) → (notes ≡ avi_notes repeated after) × (rest ≡ behind)
+avi_told : (place : AviPlace) (after : Option ℕ) (repeated others : ℕ) (behind rest : List ℕ) (notes : Notes) → notes_read (InAvi place) 0 false after repeated others behind ≡ Ok (notes, rest) → (notes ≡ avi_notes others repeated after) × (rest ≡ behind)
 unfolding notes_read
-avi_told place after repeated behind rest notes h =
-    let told : Notes = avi_notes repeated after in
+avi_told place after repeated others behind rest notes h =
+    let told : Notes = avi_notes others repeated after in
     let both = ok_is (told, behind) (notes, rest) h in
     (sym (ap (λ (z : Notes × List ℕ). z.0) both), sym (ap (λ (z : Notes × List ℕ). z.1) both))
 
@@ -296,8 +328,8 @@ told_after file behind rest end (Some n) is (same, (bytes, some, taken)) = other
     others [] none at = let long : 0 ≡ length bytes + length rest = ap length none ∙ length-append bytes rest in absurd (omega (arith, long, some))
     others (b ∷ bs) is at = ap Some at
 
-riffs_end : (file a b : List ℕ) (from : avi_reader.Standing) (after : Option ℕ) (repeated : ℕ) (notes : Notes) → AviReached EveryRiff (Some file) (Some a) from.head from.place from.offset → EndsBehind from.place (Some a) (Some b) from.offset after → AllFrames file b from.head repeated → notes ≡ avi_notes repeated after → RiffsEnd file b notes
-riffs_end file a b from after repeated notes h ends all are = on_between ends.between ends.chunks ends.over ends.told
+riffs_end : (file a b : List ℕ) (from : avi_reader.Standing) (after : Option ℕ) (repeated others : ℕ) (notes : Notes) → (begun : List ℕ) × (others_read EveryRiff file ≡ Ok (others, begun)) → AviReached EveryRiff (Some file) (Some a) from.head from.place from.offset → EndsBehind from.place (Some a) (Some b) from.offset after → AllFrames file b from.head repeated → notes ≡ avi_notes others repeated after → RiffsEnd file b notes
+riffs_end file a b from after repeated others notes streams h ends all are = on_between ends.between ends.chunks ends.over ends.told
   where
     on_between : (between : Option (List ℕ)) → ReadsUpTo from.place (Some a) between ends.to from.offset ends.end → ReadOrNone (riff_begun ends.to) between (Some b) None → StandAfter between (Some b) ends.end after → RiffsEnd file b notes
     on_between None chunks over told = absurd chunks.1.consumed
@@ -316,32 +348,44 @@ riffs_end file a b from after repeated notes h ends all are = on_between ends.be
           over = none_known (riff_begun ends.to) (record { old = Some behind; new = Some b; before = 0; after = 0 }) None over;
           frames = all.frames;
           gives = all.gives;
-          notes_are = are ∙ ap (avi_notes repeated) where_from ∙ ap (λ (n : ℕ). avi_notes n (stands_after file behind)) all.counted;
+          others = others;
+          begun = streams.0;
+          counts = streams.1;
+          notes_are = are ∙ ap (avi_notes others repeated) where_from ∙ ap (λ (n : ℕ). avi_notes others n (stands_after file behind)) all.counted;
         }
 
 -- at the end of an AVI
-avi_over : (s : Scope) (text old new : Option (List ℕ)) (before failed : ℕ) (from to : avi_reader.Standing) → Known old new (λ a b. avi.frame_read from.place a ≡ Ok (None, b)) → to.repeated ≡ from.repeated → BehindEnd (extent_of from.place) from.place from.offset from.after (record { old = old; new = new; before = before; after = failed }) to.after → Reached s text old (in_avi from) →
+avi_over : (s : Scope) (text old new : Option (List ℕ)) (before failed : ℕ) (from to : avi_reader.Standing) → Known old new (λ a b. avi.frame_read from.place a ≡ Ok (None, b)) → to.repeated ≡ from.repeated → to.others ≡ from.others → BehindEnd (extent_of from.place) from.place from.offset from.after (record { old = old; new = new; before = before; after = failed }) to.after → Reached s text old (in_avi from) →
     NotesReached s text old (in_avi from) → NotesEnd s text new (in_avi to)
-avi_over s None old new before failed from to goes counted ends reached h = record { known = tt }
-avi_over s (Some file) None new before failed from to goes counted ends reached h = absurd h.known
-avi_over s (Some file) (Some a) None before failed from to goes counted ends reached h = absurd goes
-avi_over scope.FirstMovi (Some file) (Some a) (Some b) before failed from to goes counted ends reached h =
+avi_over s None old new before failed from to goes counted streams ends reached h = record { known = tt }
+avi_over s (Some file) None new before failed from to goes counted streams ends reached h = absurd h.known
+avi_over s (Some file) (Some a) None before failed from to goes counted streams ends reached h = absurd goes
+avi_over scope.FirstMovi (Some file) (Some a) (Some b) before failed from to goes counted streams ends reached h =
     let P : Extent → Type 0 = λ z. BehindEnd z from.place from.offset from.after (record { old = Some a; new = Some b; before = before; after = failed }) to.after in
     let none : to.after ≡ None = (subst P h.known.0 ends) h.known.1 in
     record {
       known = λ notes rest read.
-          (avi_told to.place to.after to.repeated b rest notes read).0 ∙ ap (avi_notes to.repeated) none
-          ∙ ap (λ (n : ℕ). avi_notes n None) (counted ∙ h.frames.1);
+          (avi_told to.place to.after to.repeated to.others b rest notes read).0 ∙ ap (avi_notes to.others to.repeated) none
+          ∙ ap (λ (n : ℕ). avi_notes to.others n None) (counted ∙ h.frames.1) ∙ ap (λ (n : ℕ). avi_notes n 0 None) (streams ∙ h.streams);
     }
-avi_over scope.Whole (Some file) (Some a) (Some b) before failed from to goes counted ends reached h =
+avi_over scope.Whole (Some file) (Some a) (Some b) before failed from to goes counted streams ends reached h =
     let P : Extent → Type 0 = λ z. BehindEnd z from.place from.offset from.after (record { old = Some a; new = Some b; before = before; after = failed }) to.after in
     let there : EndsBehind from.place (Some a) (Some b) from.offset to.after = subst P h.known ends in
     let all : AllFrames file b from.head from.repeated = all_frames file a b from.head from.place from.repeated goes h.frames in
     record {
       known = λ notes rest read.
-          (let told = avi_told to.place to.after to.repeated b rest notes read in
-          inl (rw told.1 (riffs_end file a b from to.after from.repeated notes reached.whole there all (told.0 ∙ ap (λ (n : ℕ). avi_notes n to.after) counted))));
+          (let told = avi_told to.place to.after to.repeated to.others b rest notes read in
+          inl (rw told.1 (riffs_end file a b from to.after from.repeated from.others notes h.streams reached.whole there all
+          (told.0 ∙ ap (λ (n : ℕ). avi_notes to.others n to.after) counted ∙ ap (λ (n : ℕ). avi_notes n from.repeated to.after) streams))));
     }
+
+-- how many further streams there are stays
+streams_kept : (s : Scope) (text old new : Option (List ℕ)) (Q : List ℕ → List ℕ → Type 0) (from to : AviPlace) (before after : ℕ) → after ≡ before → Known old new Q → Known text old (λ file rest. streams_reached s (InAvi from) before file) → Known text new (λ file rest. streams_reached s (InAvi to) after file)
+streams_kept s text old new Q from to before after same goes h = known_then text old new (λ file rest. streams_reached s (InAvi from) before file) Q (λ file rest. streams_reached s (InAvi to) after file) (λ file a b is go. on s file is) h goes
+  where
+    on : (s : Scope) (file : List ℕ) → streams_reached s (InAvi from) before file → streams_reached s (InAvi to) after file
+    on scope.FirstMovi file is = same ∙ is
+    on scope.Whole file (begun, is) = (begun, is ∙ ap (λ (n : ℕ). Ok (n, begun)) (sym same))
 
 -- what a call for a frame of an AVI has read, and how large frames are
 pub record AviCalled (from to : avi_reader.Standing) (bytes : List ℕ) (p : Passage) (r : Result Bool FileFault) : Type 0 where
@@ -350,6 +394,7 @@ pub record AviCalled (from to : avi_reader.Standing) (bytes : List ℕ) (p : Pas
   pub least : names.least_bytes from.place.names ≤ names.least_bytes to.place.names
   pub sized : IfOk r (λ more. more ≡ true → (names.least_bytes from.place.names ≤ length bytes) × (length bytes ≤ names.most_bytes from.place.names))
   pub counted : to.repeated ≡ avi_reader.repeated_after r bytes from.repeated
+  pub streams : to.others ≡ from.others
 
 pub avi_noted : (s : Scope) (text : Option (List ℕ)) (from to : avi_reader.Standing) (bytes : List ℕ) (p : Passage) (r : Result Bool FileFault) → AviCalled from to bytes p r → IfOk r (λ more. more ≡ true → extent_of to.place ≡ extent_of from.place) →
     avi_behind.BehindAfter from.place from.offset from.after p r to.after → Reached s text p.old (in_avi from) → NotesReached s text p.old (in_avi from) → NotesNext s text p r (in_avi to)
@@ -358,16 +403,17 @@ avi_noted s text from to bytes p (Ok true) called same behind reached h =
     record {
       known = avi_goes s text p.old p.new from to (known_map p.old p.new (λ a b. avi.frame_read from.place a ≡ Ok (Some (bytes, to.place), b)) (λ a b. Unit {0}) (λ a b is. tt) reads.1) (same refl) behind h;
       frames = avi_frames s text p.old p.new from to bytes reads.1 called.stands.2 called.least (called.sized refl).0 called.counted h.frames;
+      streams = streams_kept s text p.old p.new (λ a b. avi.frame_read from.place a ≡ Ok (Some (bytes, to.place), b)) from.place to.place from.others to.others called.streams reads.1 h.streams;
     }
 avi_noted s text from to bytes p (Ok false) called same behind reached h =
     let reads = by_reads (avi.frame_read from.place) (λ (more : Bool). avi_reader.next_of more bytes to.place) p (extent_of from.place) false called.answer in
-    avi_over s text p.old p.new p.before p.after from to reads.1 called.counted behind reached h
+    avi_over s text p.old p.new p.before p.after from to reads.1 called.counted called.streams behind reached h
 avi_noted s text from to bytes p (Err f) called same behind reached h = tt
 
 -- after a frame of a Segment
 segment_goes : (s : Scope) (text old new : Option (List ℕ)) (from to : matroska_reader.Standing) (count : ℕ) → to.track ≡ from.track → to.segment ≡ from.segment → to.end ≡ from.end → ReadsWhole (cued_taken from.track.numbers) (from.place, from.cued) old new (to.place, to.cued) count →
     NotesReached s text old (in_matroska from) → NotesReached s text new (in_matroska to)
-segment_goes s None old new from to count track segment same whole h = record { known = tt; frames = tt }
+segment_goes s None old new from to count track segment same whole h = record { known = tt; frames = tt; streams = tt }
 segment_goes s (Some file) None new from to count track segment same whole h = absurd h.known
 segment_goes s (Some file) (Some a) None from to count track segment same whole h = absurd whole.consumed
 segment_goes scope.FirstMovi (Some file) (Some a) (Some b) from to count track segment same whole h = absurd h.known
@@ -386,13 +432,14 @@ segment_goes scope.Whole (Some file) (Some a) (Some b) from to count track segme
         record { read = read; fits = there.fits; end_is = same ∙ there.end_is },
       );
       frames = tt;
+      streams = tt;
     }
 
 -- notes are read of a Segment by its size, and if that is known by where it ends
-notes_same : (s : Option ℕ) (track numbers : TrackNumbers) (here there : MatroskaPlace) (end other : ℕ) (cued : Bool) (text : List ℕ) → ((size : ℕ) → s ≡ Some size → end ≡ other) → notes_read (InMatroska s track here) end cued None 0 text ≡ notes_read (InMatroska s numbers there) other cued None 0 text
+notes_same : (s : Option ℕ) (track numbers : TrackNumbers) (here there : MatroskaPlace) (end other : ℕ) (cued : Bool) (text : List ℕ) → track.others ≡ numbers.others → ((size : ℕ) → s ≡ Some size → end ≡ other) → notes_read (InMatroska s track here) end cued None 0 0 text ≡ notes_read (InMatroska s numbers there) other cued None 0 0 text
 unfolding notes_read segment_behind
-notes_same None track numbers here there end other cued text same = refl
-notes_same (Some size) track numbers here there end other cued text same = rw (same size refl) refl
+notes_same None track numbers here there end other cued text others same = rw others refl
+notes_same (Some size) track numbers here there end other cued text others same = rw (others, same size refl) refl
 
 -- which is after as many bytes as it has
 ends_behind : (file begun left amount most : ℕ) → begun ≡ amount + left → begun ≤ file → min (min (0 + (file - begun)) most + amount) most ≡ min (0 + (file - left)) most
@@ -401,19 +448,19 @@ ends_behind file begun left amount most long fits = grind (arith, long, fits)
 module _ (file mid b : List ℕ) (opened : Opened) (place : MatroskaPlace) (cued : Bool) (read : SegmentRead file mid opened place cued) (fits : length read.begun ≤ length file) (last : IsLast place mid b) where
   sized_end : (end size : ℕ) → end ≡ offset_after (bytes_before file read.begun) (amount opened.place) → opened.segment ≡ Some size → end ≡ bytes_before file mid
   sized_end end size is has =
-      let sized = opened_sized.only file read.begun opened read.opens size has in
+      let sized = again_sized.only file read.begun opened read.opens size has in
       let all = read_to_end opened.track.numbers (opened.place, false) (place, cued) read.begun mid b read.count sized read.elements last in
       let long : length read.begun ≡ amount opened.place + length mid = whole_counts read.begun mid read.elements ∙ ap (λ n. n + length mid) all in
       is ∙ ends_behind (length file) (length read.begun) (length mid) (amount opened.place) (2 ^ 64 - 1) long fits
 
 -- at the end of a Segment
-segment_over : (s : Scope) (text old new : Option (List ℕ)) (from to : matroska_reader.Standing) (place : MatroskaPlace) (between : Option (List ℕ)) (count : ℕ) → to.segment ≡ from.segment → to.end ≡ from.end →
+segment_over : (s : Scope) (text old new : Option (List ℕ)) (from to : matroska_reader.Standing) (place : MatroskaPlace) (between : Option (List ℕ)) (count : ℕ) → to.track ≡ from.track → to.segment ≡ from.segment → to.end ≡ from.end →
     ReadsWhole (cued_taken from.track.numbers) (from.place, from.cued) old between (place, to.cued) count → ReadOrNone (step_read from.track.numbers place) between new None → NotesReached s text old (in_matroska from) → NotesEnd s text new (in_matroska to)
-segment_over s None old new from to place between count segment same whole none h = record { known = tt }
-segment_over s (Some file) None new from to place between count segment same whole none h = absurd h.known
-segment_over s (Some file) (Some a) new from to place None count segment same whole none h = absurd whole.consumed
-segment_over scope.FirstMovi (Some file) (Some a) new from to place (Some mid) count segment same whole none h = absurd h.known
-segment_over scope.Whole (Some file) (Some a) new from to place (Some mid) count segment same whole none h = record { known = on_new new (none_known (step_read from.track.numbers place) (record { old = Some mid; new = new; before = 0; after = 0 }) None none) }
+segment_over s None old new from to place between count track segment same whole none h = record { known = tt }
+segment_over s (Some file) None new from to place between count track segment same whole none h = absurd h.known
+segment_over s (Some file) (Some a) new from to place None count track segment same whole none h = absurd whole.consumed
+segment_over scope.FirstMovi (Some file) (Some a) new from to place (Some mid) count track segment same whole none h = absurd h.known
+segment_over scope.Whole (Some file) (Some a) new from to place (Some mid) count track segment same whole none h = record { known = on_new new (none_known (step_read from.track.numbers place) (record { old = Some mid; new = new; before = 0; after = 0 }) None none) }
   where
     opened : Opened
     opened = h.known.0
@@ -445,13 +492,13 @@ segment_over scope.Whole (Some file) (Some a) new from to place (Some mid) count
           behind = mid;
           read = read;
           over = ap (λ (t : TrackNumbers). step_read t place mid) numbers ∙ over ∙ ap (λ z. Ok (None, z)) (sym nothing);
-          noted = sym (notes_same opened.segment to.track.numbers opened.track.numbers to.place place to.end (bytes_before file mid) to.cued mid (λ size has. at_end size (same ∙ there.end_is) has))
-              ∙ ap (λ (z : Option ℕ). notes_read (InMatroska z to.track.numbers to.place) to.end to.cued None 0 mid) (h.known.1 ∙ sym segment)
+          noted = sym (notes_same opened.segment to.track.numbers opened.track.numbers to.place place to.end (bytes_before file mid) to.cued mid (ap (λ (t : TrackNumbers). t.others) (ap (λ (t : Track). t.numbers) track ∙ sym numbers)) (λ size has. at_end size (same ∙ there.end_is) has))
+              ∙ ap (λ (z : Option ℕ). notes_read (InMatroska z to.track.numbers to.place) to.end to.cued None 0 0 mid) (h.known.1 ∙ sym segment)
               ∙ ap (notes_of (in_matroska to)) nothing ∙ looked;
         })
 
 pub segment_noted : (s : Scope) (text : Option (List ℕ)) (from to : matroska_reader.Standing) (p : Passage) (r : Result Bool FileFault) → matroska_reader.StandsAfter from r to → to.end ≡ from.end → CuedNext from.track.numbers (from.place, from.cued) p r (to.place, to.cued) →
     NotesReached s text p.old (in_matroska from) → NotesNext s text p r (in_matroska to)
 segment_noted s text from to p (Ok true) stands same (count, whole) h = segment_goes s text p.old p.new from to count stands.2 stands.3 same whole h
-segment_noted s text from to p (Ok false) stands same (place, (between, count, whole, none)) h = segment_over s text p.old p.new from to place between count stands.3 same whole none h
+segment_noted s text from to p (Ok false) stands same (place, (between, count, whole, none)) h = segment_over s text p.old p.new from to place between count stands.2 stands.3 same whole none h
 segment_noted s text from to p (Err f) stands same cued h = tt

@@ -13,11 +13,11 @@ use Rattle.ffv1_files.specs.Places.{InMatroska}
 use Rattle.ffv1_files.specs.declared.notes.Notes.{Notes}
 
 -- of an AVI
-abbrev avi_with : List ℕ → List (List ℕ) → List ℕ → Notes
-avi_with file frames behind = record { is_open = false; repeated = repeated_in frames; after = stands_after file behind }
+abbrev avi_with : List ℕ → ℕ → List (List ℕ) → List ℕ → Notes
+avi_with file others frames behind = record { is_open = false; others = others; repeated = repeated_in frames; after = stands_after file behind }
 
-pub avi_bare : (file rest : List ℕ) (notes : Notes) (is : RiffsEnd file rest notes) → is.behind ≡ [] → notes ≡ record no_notes { repeated = repeated_in is.frames }
-avi_bare file rest notes is none = is.notes_are ∙ ap (avi_with file is.frames) none
+pub avi_bare : (file rest : List ℕ) (notes : Notes) (is : RiffsEnd file rest notes) → is.behind ≡ [] → notes ≡ record no_notes { others = is.others; repeated = repeated_in is.frames }
+avi_bare file rest notes is none = is.notes_are ∙ ap (avi_with file is.others is.frames) none
 
 pub avi_repeated : (file rest : List ℕ) (notes : Notes) (is : RiffsEnd file rest notes) → notes.repeated ≡ repeated_in is.frames
 avi_repeated file rest notes is = ap (λ (n : Notes). n.repeated) is.notes_are
@@ -30,27 +30,27 @@ avi_others file rest notes is some = (ap (λ (n : Notes). n.is_open) is.notes_ar
     stand (b ∷ bs) some = refl
 
 -- of a Segment whose size is known
-abbrev Told : ℕ → Bool → ℕ → List ℕ → List ℕ → Notes → Type 0
-Told size cued end behind rest notes = (some : Bool) × (behind_read behind ≡ Ok (some, rest)) × (notes ≡ noted (Some size) cued end some)
+abbrev Told : ℕ → ℕ → Bool → ℕ → List ℕ → List ℕ → Notes → Type 0
+Told others size cued end behind rest notes = (some : Bool) × (behind_read behind ≡ Ok (some, rest)) × (notes ≡ noted others (Some size) cued end some)
 
-size_told : (size : ℕ) (track : TrackNumbers) (to : MatroskaPlace) (end : ℕ) (cued : Bool) (behind rest : List ℕ) (notes : Notes) → notes_read (InMatroska (Some size) track to) end cued None 0 behind ≡ Ok (notes, rest) → Told size cued end behind rest notes
+size_told : (size : ℕ) (track : TrackNumbers) (to : MatroskaPlace) (end : ℕ) (cued : Bool) (behind rest : List ℕ) (notes : Notes) → notes_read (InMatroska (Some size) track to) end cued None 0 0 behind ≡ Ok (notes, rest) → Told track.others size cued end behind rest notes
 unfolding notes_read segment_behind
 size_told size track to end cued behind rest notes h =
-    let first = read_on_ok (behind_read behind) (λ some. given (noted (Some size) cued end some)) (notes, rest) h in
-    let both = ok_is (noted (Some size) cued end first.0.0, first.0.1) (notes, rest) first.2 in
+    let first = read_on_ok (behind_read behind) (λ some. given (noted track.others (Some size) cued end some)) (notes, rest) h in
+    let both = ok_is (noted track.others (Some size) cued end first.0.0, first.0.1) (notes, rest) first.2 in
     let left : first.0.1 ≡ rest = ap (λ (z : Notes × List ℕ). z.1) both in
     (first.0.0, first.1 ∙ ap (λ z. Ok (first.0.0, z)) left, sym (ap (λ (z : Notes × List ℕ). z.0) both))
 
 module _ (file rest : List ℕ) (notes : Notes) (is : SegmentEnds file rest notes) where
-  segment_told : (size : ℕ) → is.opened.segment ≡ Some size → Told size is.cued (bytes_before file is.behind) is.behind rest notes
+  segment_told : (size : ℕ) → is.opened.segment ≡ Some size → Told is.opened.track.numbers.others size is.cued (bytes_before file is.behind) is.behind rest notes
   segment_told size has = size_told size is.opened.track.numbers is.to (bytes_before file is.behind) is.cued is.behind rest notes
-      (sym (ap (λ (z : Option ℕ). notes_read (InMatroska z is.opened.track.numbers is.to) (bytes_before file is.behind) is.cued None 0 is.behind) has) ∙ is.noted)
+      (sym (ap (λ (z : Option ℕ). notes_read (InMatroska z is.opened.track.numbers is.to) (bytes_before file is.behind) is.cued None 0 0 is.behind) has) ∙ is.noted)
 
-  pub segment_bare : (size : ℕ) → is.opened.segment ≡ Some size → is.behind ≡ [] → notes ≡ no_notes
+  pub segment_bare : (size : ℕ) → is.opened.segment ≡ Some size → is.behind ≡ [] → notes ≡ record no_notes { others = is.opened.track.numbers.others }
   unfolding is_open
   segment_bare size has none = on_told (segment_told size has)
     where
-      on_told : Told size is.cued (bytes_before file is.behind) is.behind rest notes → notes ≡ no_notes
+      on_told : Told is.opened.track.numbers.others size is.cued (bytes_before file is.behind) is.behind rest notes → notes ≡ record no_notes { others = is.opened.track.numbers.others }
       on_told (false, read, are) = are
       on_told (true, read, are) =
           let nothing : behind_read is.behind ≡ Ok (false, []) = ap behind_read none ∙ few_are_read [] (omega arith) in
@@ -61,28 +61,41 @@ module _ (file rest : List ℕ) (notes : Notes) (is : SegmentEnds file rest note
   unfolding is_open
   segment_others nothing size has some = on_told (segment_told size has)
     where
-      on_told : Told size is.cued (bytes_before file is.behind) is.behind rest notes → (notes.is_open ≡ false) × (notes.after ≡ Some (bytes_before file is.behind))
+      on_told : Told is.opened.track.numbers.others size is.cued (bytes_before file is.behind) is.behind rest notes → (notes.is_open ≡ false) × (notes.after ≡ Some (bytes_before file is.behind))
       on_told (true, read, are) = (ap (λ (n : Notes). n.is_open) are, ap (λ (n : Notes). n.after) are)
       on_told (false, read, are) = absurd (omega (arith, some, ap length (nothing is.behind rest read)))
 
 -- of one whose size is unknown
-open_told : (track : TrackNumbers) (to : MatroskaPlace) (end : ℕ) (cued : Bool) (behind rest : List ℕ) (notes : Notes) → notes_read (InMatroska None track to) end cued None 0 behind ≡ Ok (notes, rest) → (notes.is_open ≡ not cued) × (notes.after ≡ None) × (rest ≡ behind)
+open_told : (track : TrackNumbers) (to : MatroskaPlace) (end : ℕ) (cued : Bool) (behind rest : List ℕ) (notes : Notes) → notes_read (InMatroska None track to) end cued None 0 0 behind ≡ Ok (notes, rest) → (notes.is_open ≡ not cued) × (notes.after ≡ None) × (rest ≡ behind)
 unfolding notes_read segment_behind is_open
 open_told track to end cued behind rest notes h =
-    let both = ok_is (noted None cued end false, behind) (notes, rest) h in
-    let are : noted None cued end false ≡ notes = ap (λ (z : Notes × List ℕ). z.0) both in
+    let both = ok_is (noted track.others None cued end false, behind) (notes, rest) h in
+    let are : noted track.others None cued end false ≡ notes = ap (λ (z : Notes × List ℕ). z.0) both in
     (sym (ap (λ (n : Notes). n.is_open) are), sym (ap (λ (n : Notes). n.after) are), sym (ap (λ (z : Notes × List ℕ). z.1) both))
 
 pub segment_unknown : (file rest : List ℕ) (notes : Notes) (is : SegmentEnds file rest notes) → is.opened.segment ≡ None → (notes.is_open ≡ not is.cued) × (notes.after ≡ None) × (rest ≡ is.behind)
 segment_unknown file rest notes is none = open_told is.opened.track.numbers is.to (bytes_before file is.behind) is.cued is.behind rest notes
-    (sym (ap (λ (z : Option ℕ). notes_read (InMatroska z is.opened.track.numbers is.to) (bytes_before file is.behind) is.cued None 0 is.behind) none) ∙ is.noted)
+    (sym (ap (λ (z : Option ℕ). notes_read (InMatroska z is.opened.track.numbers is.to) (bytes_before file is.behind) is.cued None 0 0 is.behind) none) ∙ is.noted)
 
 -- of any, no frame repeats another
-any_repeated : (size : Option ℕ) (track : TrackNumbers) (to : MatroskaPlace) (end : ℕ) (cued : Bool) (behind rest : List ℕ) (notes : Notes) → notes_read (InMatroska size track to) end cued None 0 behind ≡ Ok (notes, rest) → notes.repeated ≡ 0
+any_repeated : (size : Option ℕ) (track : TrackNumbers) (to : MatroskaPlace) (end : ℕ) (cued : Bool) (behind rest : List ℕ) (notes : Notes) → notes_read (InMatroska size track to) end cued None 0 0 behind ≡ Ok (notes, rest) → notes.repeated ≡ 0
 unfolding notes_read
 any_repeated size track to end cued behind rest notes h =
-    let first = read_on_ok (segment_behind size behind) (λ some. given (noted size cued end some)) (notes, rest) h in
-    sym (ap (λ (z : Notes × List ℕ). z.0.repeated) (ok_is (noted size cued end first.0.0, first.0.1) (notes, rest) first.2))
+    let first = read_on_ok (segment_behind size behind) (λ some. given (noted track.others size cued end some)) (notes, rest) h in
+    sym (ap (λ (z : Notes × List ℕ). z.0.repeated) (ok_is (noted track.others size cued end first.0.0, first.0.1) (notes, rest) first.2))
 
 pub segment_repeated : (file rest : List ℕ) (notes : Notes) → SegmentEnds file rest notes → notes.repeated ≡ 0
 segment_repeated file rest notes is = any_repeated is.opened.segment is.opened.track.numbers is.to (bytes_before file is.behind) is.cued is.behind rest notes is.noted
+
+-- and so many further tracks are FFV1 video
+any_others : (size : Option ℕ) (track : TrackNumbers) (to : MatroskaPlace) (end : ℕ) (cued : Bool) (behind rest : List ℕ) (notes : Notes) → notes_read (InMatroska size track to) end cued None 0 0 behind ≡ Ok (notes, rest) → notes.others ≡ track.others
+unfolding notes_read
+any_others size track to end cued behind rest notes h =
+    let first = read_on_ok (segment_behind size behind) (λ some. given (noted track.others size cued end some)) (notes, rest) h in
+    sym (ap (λ (z : Notes × List ℕ). z.0.others) (ok_is (noted track.others size cued end first.0.0, first.0.1) (notes, rest) first.2))
+
+pub segment_tracks : (file rest : List ℕ) (notes : Notes) (is : SegmentEnds file rest notes) → notes.others ≡ is.opened.track.numbers.others
+segment_tracks file rest notes is = any_others is.opened.segment is.opened.track.numbers is.to (bytes_before file is.behind) is.cued is.behind rest notes is.noted
+
+pub avi_streams : (file rest : List ℕ) (notes : Notes) (is : RiffsEnd file rest notes) → notes.others ≡ is.others
+avi_streams file rest notes is = ap (λ (n : Notes). n.others) is.notes_are

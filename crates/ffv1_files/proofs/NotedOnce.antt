@@ -129,10 +129,12 @@ riffs_once file rest left notes others h k = on_between h.chunks.between k.chunk
         let end = reads_once chunk_taken Over Ended over_stops ended_stays ended_never a h.behind k.behind first there moved here in
         let over : riff_begun h.to h.behind ≡ riff_begun k.to k.behind = rw (end.0, end.1) refl in
         let gives = ok_is ((h.head, h.frames), rest) ((k.head, k.frames), left) (sym h.gives ∙ k.gives) in
+        let others : h.others ≡ k.others = ap (λ (z : ℕ × List ℕ). z.0) (ok_is (h.others, h.begun) (k.others, k.begun) (sym h.counts ∙ k.counts)) in
         let frames : h.frames ≡ k.frames = ap (λ (z : (Head × List (List ℕ)) × List ℕ). z.0.1) gives in (
           h.notes_are
-              ∙ ap (λ (z : List (List ℕ)). record { is_open = false; repeated = repeated_in z; after = stands_after file h.behind }) frames
-              ∙ ap (λ (z : List ℕ). record { is_open = false; repeated = repeated_in k.frames; after = stands_after file z }) end.1
+              ∙ ap (λ (n : ℕ). record { is_open = false; others = n; repeated = repeated_in h.frames; after = stands_after file h.behind }) others
+              ∙ ap (λ (z : List (List ℕ)). record { is_open = false; others = k.others; repeated = repeated_in z; after = stands_after file h.behind }) frames
+              ∙ ap (λ (z : List ℕ). record { is_open = false; others = k.others; repeated = repeated_in k.frames; after = stands_after file z }) end.1
               ∙ sym k.notes_are,
           ap (λ (z : Option AviPlace × List ℕ). z.1) (ok_is (None, rest) (None, left) (sym h.over ∙ over ∙ k.over)),
         )

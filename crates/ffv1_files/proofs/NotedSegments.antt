@@ -41,6 +41,6 @@ segments_once file rest left notes others h k =
     let end = reads_once (cued_taken track) Last Nowhere (last_stops track) (λ s next text more dead is. absurd dead) (λ s text dead is. absurd dead) h.read.begun h.behind k.behind h.read.elements there moved here in
     let to : h.to ≡ k.to = ap (λ (z : Place × Bool). z.0) end.0 in
     let cued : h.cued ≡ k.cued = ap (λ (z : Place × Bool). z.1) end.0 in
-    let same : notes_read (InMatroska h.opened.segment h.opened.track.numbers h.to) (bytes_before file h.behind) h.cued None 0 h.behind ≡ notes_read (InMatroska k.opened.segment k.opened.track.numbers k.to) (bytes_before file k.behind) k.cued None 0 k.behind = rw (opened, to, cued, end.1) refl in
+    let same : notes_read (InMatroska h.opened.segment h.opened.track.numbers h.to) (bytes_before file h.behind) h.cued None 0 0 h.behind ≡ notes_read (InMatroska k.opened.segment k.opened.track.numbers k.to) (bytes_before file k.behind) k.cued None 0 0 k.behind = rw (opened, to, cued, end.1) refl in
     let both = ok_is (notes, rest) (others, left) (sym h.noted ∙ same ∙ k.noted) in
     (ap (λ (z : Notes × List ℕ). z.0) both, ap (λ (z : Notes × List ℕ). z.1) both)

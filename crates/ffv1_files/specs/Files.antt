@@ -9,7 +9,9 @@ use Rattle.ffv1_avi.specs.declared.place.Place.{Place as AviPlace}
 use Rattle.ffv1_avi.specs.Files as avi
 use Rattle.ffv1_matroska.specs.declared.place.Place.{Place as MatroskaPlace}
 use Rattle.ffv1_matroska.specs.Files as matroska
+use Rattle.ffv1_matroska.specs.Late.{again_read}
 use Rattle.ffv1_matroska.specs.Opened as beginning
+use Rattle.ffv1_matroska.specs.Opened.{Opened}
 use Rattle.ffv1_files.specs.declared.container.Scope.{Scope}
 use Rattle.ffv1_files.specs.declared.container.Scope.TheVariants as scope
 use Rattle.ffv1_files.specs.Places.{InAvi, InMatroska, Place}
@@ -19,10 +21,17 @@ use Rattle.ffv1_matroska.specs.declared.track.TrackNumbers.{TrackNumbers}
 abbrev pub avi_opened : Extent → Reading (Head × Place)
 avi_opened extent = avi.open_read extent >>= λ p. given (p.0, InAvi p.1)
 
--- a Matroska file up to its frames
+-- where the frames of a Matroska file begin
+abbrev pub matroska_begun : Opened → Reading (Head × Place)
+matroska_begun o = given (o.track.head, InMatroska o.segment o.track.numbers o.place)
+
+-- a Matroska file up to its frames, wherever its Tracks stand
 abbrev pub matroska_opened : Reading (Head × Place)
-matroska_opened = beginning.open_read >>= λ o.
-    given (o.track.head, InMatroska o.segment o.track.numbers o.place)
+matroska_opened = again_read >>= matroska_begun
+
+-- the same of an input that can't begin again
+abbrev pub matroska_once : Reading (Head × Place)
+matroska_once = beginning.open_read >>= matroska_begun
 
 -- the first byte of an ID of EBML, with which a Matroska file begins (RFC 8794, 11.2.1)
 abbrev pub is_matroska : List ℕ → Bool
@@ -35,6 +44,12 @@ unfoldable pub open_read : Scope → Reading (Head × Place)
 open_read scope.FirstMovi = avi_opened FirstMovi
 open_read scope.Whole = λ text.
     (if is_matroska text then matroska_opened text else avi_opened EveryRiff text)
+
+-- the same of an input that can't begin again
+unfoldable pub once_read : Scope → Reading (Head × Place)
+once_read scope.FirstMovi = avi_opened FirstMovi
+once_read scope.Whole = λ text.
+    (if is_matroska text then matroska_once text else avi_opened EveryRiff text)
 
 -- a frame, and the place after it, of an AVI
 abbrev pub avi_place : Option (List ℕ × AviPlace) → Option (List ℕ × Place)

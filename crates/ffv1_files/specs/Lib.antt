@@ -8,3 +8,4 @@ pub mod Noted
 pub mod Whole
 pub mod Offsets
 pub mod Items
+pub mod Again

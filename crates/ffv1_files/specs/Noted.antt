@@ -8,12 +8,13 @@ use Rattle.ffv1_reads.specs.Head.{Head}
 use Rattle.ffv1_reads.specs.Known.{Known}
 use Rattle.ffv1_reads.specs.Offsets.{ReadsWhole, offset_after}
 use Rattle.ffv1_reads.specs.declared.fault.FileFault.{FileFault}
-use Rattle.ffv1_avi.specs.Files.{frames_read, riff_begun}
+use Rattle.ffv1_avi.specs.Files.{frames_read, others_read, riff_begun}
 use Rattle.ffv1_avi.specs.Places.{extent_of}
 use Rattle.ffv1_avi.specs.declared.place.Extent.TheVariants.{FirstMovi, EveryRiff}
 use Rattle.ffv1_avi.specs.declared.place.Place.{Place as AviPlace}
 use Rattle.ffv1_matroska.specs.Cues.{cued_taken}
-use Rattle.ffv1_matroska.specs.Opened.{Opened, open_read}
+use Rattle.ffv1_matroska.specs.Late.{again_read}
+use Rattle.ffv1_matroska.specs.Opened.{Opened}
 use Rattle.ffv1_matroska.specs.Places.{amount}
 use Rattle.ffv1_matroska.specs.Segments.{step_read}
 use Rattle.ffv1_matroska.specs.declared.place.Place.{Place as MatroskaPlace}
@@ -28,7 +29,7 @@ use Rattle.ffv1_files.specs.declared.notes.Notes.{Notes}
 
 -- nothing is noted
 abbrev pub no_notes : Notes
-no_notes = record { is_open = false; repeated = 0; after = None }
+no_notes = record { is_open = false; others = 0; repeated = 0; after = None }
 
 -- how many bytes of a file come before those that are left of it; it is held in 8 bytes
 abbrev pub bytes_before : List ℕ → List ℕ → ℕ
@@ -51,7 +52,7 @@ repeated_in frames = min (repeats frames) (2 ^ 64 - 1)
 
 -- an AVI: its chunks are read whole up to the end of an RIFF, after which no further one begins,
 -- nor another file, and no frame is owed. What stands there is noted, and is no chunk; and it is
--- noted how many of its frames have no bytes
+-- noted how many of its frames have no bytes, and how many further streams begin as FFV1 video
 pub record RiffsEnd (file rest : List ℕ) (notes : Notes) : Type 0 where
   pub head : Head
   pub to : AviPlace
@@ -64,8 +65,12 @@ pub record RiffsEnd (file rest : List ℕ) (notes : Notes) : Type 0 where
   pub over : riff_begun to behind ≡ Ok (None, rest)
   pub frames : List (List ℕ)
   pub gives : file_read scope.Whole file ≡ Ok ((head, frames), rest)
+  pub others : ℕ
+  pub begun : List ℕ
+  pub counts : others_read EveryRiff file ≡ Ok (others, begun)
   pub notes_are : notes ≡ record {
     is_open = false;
+    others = others;
     repeated = repeated_in frames;
     after = stands_after file behind;
   }
@@ -76,7 +81,7 @@ pub record SegmentRead (file left : List ℕ) (opened : Opened) (place : Matrosk
     : Type 0 where
   pub begun : List ℕ
   pub count : ℕ
-  pub opens : open_read file ≡ Ok (opened, begun)
+  pub opens : again_read file ≡ Ok (opened, begun)
   pub elements : ReadsWhole (cued_taken opened.track.numbers) (opened.place, false) (Some begun)
       (Some left) (place, cued) count
 
@@ -90,7 +95,7 @@ pub record SegmentEnds (file rest : List ℕ) (notes : Notes) : Type 0 where
   pub read : SegmentRead file behind opened to cued
   pub over : step_read opened.track.numbers to behind ≡ Ok (None, behind)
   pub noted : notes_read (InMatroska opened.segment opened.track.numbers to)
-      (bytes_before file behind) cued None 0 behind ≡ Ok (notes, rest)
+      (bytes_before file behind) cued None 0 0 behind ≡ Ok (notes, rest)
 
 -- what is noted of a file, and what is left after the bytes that were looked at for that. Up to
 -- its first movi alone nothing is looked at, and nothing is noted
@@ -131,10 +136,23 @@ frames_reached scope.Whole head (InAvi place) repeated file left =
     × (repeated ≡ repeated_in before)
 frames_reached scope.Whole head (InMatroska segment track place) repeated file left = ⊤
 
+-- so many further streams of an AVI begin as FFV1 video; none is looked at, if the first movi is
+-- read alone
+abbrev pub streams_reached : Scope → Place → ℕ → List ℕ → Type 0
+streams_reached scope.FirstMovi place others file = others ≡ 0
+streams_reached scope.Whole (InAvi place) others file =
+    (begun : List ℕ) × (others_read EveryRiff file ≡ Ok (others, begun))
+streams_reached scope.Whole (InMatroska segment track place) others file = ⊤
+
+abbrev pub StreamsReached : Scope → Option (List ℕ) → Option (List ℕ) → Standing → Type 0
+StreamsReached scope text left r =
+    Known text left (λ file rest. streams_reached scope r.place r.others file)
+
 -- if the bytes of the file are known
 pub record NotesReached (scope : Scope) (text left : Option (List ℕ)) (r : Standing) : Type 0 where
   pub known : Known text left (notes_reached scope r.place r.end r.cued r.after)
   pub frames : Known text left (frames_reached scope r.head r.place r.repeated)
+  pub streams : StreamsReached scope text left r
 
 -- the notes that a reader reads, once the frames have ended, are those of its file
 pub record NotesEnd (scope : Scope) (text left : Option (List ℕ)) (r : Standing) : Type 0 where

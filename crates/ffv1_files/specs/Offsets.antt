@@ -1,8 +1,9 @@
 -- Where in a file a reader stands, and where one is refused: a number of bytes from its beginning.
 -- Before the frames, and from there on, elements of a Matroska file or chunks of an AVI come one
 -- after the other.
-use Rattle.std.specs.Prelude.{◌≡◌, ◌⊎◌, ◌+◌, ℕ, Bool, true, false, List, Option, Result, Ok, Err, ⊤}
-use Rattle.ffv1_wire.specs.Passage.{Passage}
+use Rattle.std.specs.Prelude.{◌≡◌, ◌⊎◌, ◌+◌, ℕ, Bool, true, false, List, Option, Some, None}
+use Rattle.std.specs.Prelude.{Result, Ok, Err, ⊤}
+use Rattle.ffv1_wire.specs.Passage.{Passage, between}
 use Rattle.ffv1_reads.specs.Head.{Head}
 use Rattle.ffv1_reads.specs.Offsets.{ReadsWhole, StopsAfter, offset_after}
 use Rattle.ffv1_reads.specs.Reads.{Reading}
@@ -11,7 +12,9 @@ use Rattle.ffv1_avi.specs.Offsets as avi
 use Rattle.ffv1_avi.specs.declared.place.Extent.{Extent}
 use Rattle.ffv1_avi.specs.declared.place.Extent.TheVariants.{FirstMovi, EveryRiff}
 use Rattle.ffv1_avi.specs.declared.place.Place.{Place as AviPlace}
+use Rattle.ffv1_matroska.specs.Again.{Enters, StopsTwice}
 use Rattle.ffv1_matroska.specs.Offsets as matroska
+use Rattle.ffv1_matroska.specs.Opening.{segment_begun}
 use Rattle.ffv1_matroska.specs.Places.{ended}
 use Rattle.ffv1_matroska.specs.Tracks.{Track}
 use Rattle.ffv1_matroska.specs.declared.place.Place.{Place as MatroskaPlace}
@@ -88,21 +91,65 @@ EndsEarly text left track offset =
     (count : ℕ) × matroska.EndsBeforeFrames matroska.Start text left track count
     × (offset ≡ offset_after 0 count)
 
+-- a file that was begun again, with the track of its first Tracks: elements were read whole up to
+-- its Segment, from there up to its frames, and from these on
+pub record ReadsKnown (text left : Option (List ℕ)) (track : Track) (place : MatroskaPlace)
+    (offset : ℕ) : Type 0 where
+  pub size : Option ℕ
+  pub known : Track
+  pub first : MatroskaPlace
+  pub between : Option (List ℕ)
+  pub begun : Option (List ℕ)
+  pub before : ℕ
+  pub count : ℕ
+  pub after : ℕ
+  pub entered : ReadsWhole matroska.spot_taken matroska.Start text between
+      (matroska.InSegment None (segment_begun size)) before
+  pub opened : ReadsWhole matroska.spot_taken
+      (matroska.InSegment (Some known) (segment_begun size)) between begun
+      (matroska.BeforeFrames track first) count
+  pub framed : ReadsWhole (matroska.element_taken track.numbers) first begun left place after
+  pub offset_is : offset ≡ offset_after 0 (before + (count + after))
+
+-- the same, and the element that comes next was refused
+pub record StopsKnown (p : Passage) (f : FileFault) (offset : ℕ) : Type 0 where
+  pub track : Track
+  pub between : Option (List ℕ)
+  pub place : MatroskaPlace
+  pub before : ℕ
+  pub reads : ReadsKnown p.old between track place before
+  pub to : MatroskaPlace
+  pub after : ℕ
+  pub stops : StopsAfter (matroska.element_taken track.numbers) place (record p { old = between })
+      f to after
+  pub offset_is : offset ≡ offset_after before after
+
+-- its Segment ended before any Cluster
+abbrev pub EndsKnown : Option (List ℕ) → Option (List ℕ) → Track → ℕ → Type 0
+EndsKnown text left track offset =
+    Enters (between text left 0 0) (λ size q count. (known : Track)
+    × matroska.EndsBeforeFrames (matroska.InSegment (Some known) (segment_begun size)) q.old q.new
+    track count) offset
+
 abbrev pub MatroskaReached : Option (List ℕ) → Option (List ℕ) → TrackNumbers → MatroskaPlace → ℕ →
     Type 0
 MatroskaReached text left numbers place offset =
     ((head : Head)
     × ReadsThrough (matroska_layout (record { numbers = numbers; head = head })) text left place
     offset)
-    ⊎ ((place ≡ ended) × (head : Head)
+    ⊎ (((place ≡ ended) × (head : Head)
     × EndsEarly text left (record { numbers = numbers; head = head }) offset)
+    ⊎ (((head : Head)
+    × ReadsKnown text left (record { numbers = numbers; head = head }) place offset)
+    ⊎ ((place ≡ ended) × (head : Head)
+    × EndsKnown text left (record { numbers = numbers; head = head }) offset)))
 
 abbrev pub MatroskaStops : Passage → FileFault → ℕ → Type 0
 MatroskaStops p f offset =
     ((to : matroska.Spot) × (count : ℕ) × matroska.OpeningStops matroska.Start p f to count
     × (offset ≡ offset_after 0 count))
-    ⊎ ((track : Track)
-    × StopsThrough (matroska_layout track) p f offset)
+    ⊎ (((track : Track) × StopsThrough (matroska_layout track) p f offset)
+    ⊎ (StopsTwice p f offset ⊎ StopsKnown p f offset))
 
 -- what was read before a position; up to its first movi a file is read as AVI alone
 abbrev pub PlaceReached : Scope → Option (List ℕ) → Option (List ℕ) → Head → Place → ℕ → Type 0

@@ -15,7 +15,8 @@ use Rattle.ffv1_files.specs.Places.{InAvi, InMatroska, Place}
 -- the head of its file, where it stands in that, how many bytes come before, the fault that it has
 -- met, for how many bytes its record has room; of a Segment how many bytes come before its end, and
 -- whether Cues came after the last Cluster so far; of an AVI, after its end, how many bytes come
--- before others that stand after its last RIFF, and how many frames so far had no bytes
+-- before others that stand after its last RIFF, how many frames so far had no bytes, and how many
+-- further streams begin as FFV1 video
 pub record Standing : Type 0 where
   pub head : Head
   pub place : Place
@@ -26,6 +27,7 @@ pub record Standing : Type 0 where
   pub cued : Bool
   pub after : Option ℕ
   pub repeated : ℕ
+  pub others : ℕ
 
 abbrev pub opened_at : Standing → Head × Place
 opened_at r = (r.head, r.place)
@@ -68,6 +70,7 @@ standing_of (inner.Avi r) = record {
   cued = false;
   after = r.after;
   repeated = r.repeated;
+  others = r.others;
 }
 standing_of (inner.Matroska r) = record {
   head = r.track.head;
@@ -79,4 +82,5 @@ standing_of (inner.Matroska r) = record {
   cued = r.cued;
   after = None;
   repeated = 0;
+  others = 0;
 }

@@ -1,7 +1,7 @@
 -- Files that are read whole, by their chunks or their elements.
 use Rattle.std.specs.Prelude.{◌≡◌, ◌⊎◌, ℕ, List, true}
 use Rattle.ffv1_avi.specs.Behind.{RiffFileThen}
-use Rattle.ffv1_matroska.specs.MatroskaFiles.{MatroskaFile}
+use Rattle.ffv1_matroska.specs.SegmentFiles.{SegmentFile}
 use Rattle.ffv1_reads.specs.Head.{Head}
 use Rattle.ffv1_files.specs.Files.{is_matroska}
 
@@ -11,4 +11,4 @@ use Rattle.ffv1_files.specs.Files.{is_matroska}
 abbrev pub IsWhole : List ℕ → Head → List (List ℕ) → List ℕ → Type 0
 IsWhole file head frames rest =
     RiffFileThen file head frames rest
-    ⊎ ((is_matroska file ≡ true) × ((is : MatroskaFile file head frames) × (is.rest ≡ rest)))
+    ⊎ ((is_matroska file ≡ true) × ((is : SegmentFile file head frames) × (is.rest ≡ rest)))

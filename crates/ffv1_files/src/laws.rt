@@ -17,13 +17,13 @@ ghost use Rattle.ffv1_files.specs.declared.container.Scope.{Scope};
 ghost use Rattle.ffv1_files.specs.Behind.{behind_after, notes_read};
 ghost use Rattle.ffv1_files.specs.declared.notes.Notes.{Notes};
 ghost use Rattle.ffv1_files.specs.Files.{file_read, frame_read, frames_read, more_frames};
-ghost use Rattle.ffv1_files.specs.Noted.{RiffsEnd, SegmentEnds, bytes_before, no_notes};
+ghost use Rattle.ffv1_files.specs.Noted.{IsNotedOf, RiffsEnd, SegmentEnds, bytes_before, no_notes};
 ghost use Rattle.ffv1_files.specs.Noted.{repeated_in};
 ghost use Rattle.ffv1_files.specs.Whole.{IsWhole};
 ghost use Rattle.ffv1_files.specs.Places.{InAvi, InMatroska, Place, extent_in};
 
 use ffv1_avi::laws as avi_laws;
-use ffv1_matroska::laws as matroska_laws;
+use ffv1_matroska::{again_laws, laws as matroska_laws};
 use ffv1_reads::laws as read_laws;
 
 /// The frames are the next one and those after it.
@@ -49,7 +49,7 @@ pub fn what_is_read_is_a_file()
     avi_laws::what_is_read_is_a_file();
     avi_laws::file_is_read_as_its_frames();
     avi_laws::every_riff_is_read_whole();
-    matroska_laws::what_is_read_is_a_file();
+    again_laws::what_is_read_again_is_a_file();
 }
 
 /// Such a file is read so.
@@ -61,7 +61,7 @@ pub fn file_is_read_as_its_frames()
         IsWhole file head frames rest → file_read scope.Whole file ≡ Ok ((head, frames), rest) }
 {
     avi_laws::file_is_read_as_its_frames();
-    matroska_laws::file_is_read_as_its_frames();
+    again_laws::file_is_read_wherever_its_tracks_stand();
 }
 
 /// If no bytes are noted after a file, and no other file was met there, none stand there: the
@@ -78,7 +78,7 @@ pub fn no_bytes_noted_are_none()
         }) (Ok false) None → new ≡ Some [] }
     ensures matroska { (size end : ℕ) (track : TrackNumbers) (place : MatroskaPlace) (cued : Bool)
         (text rest : List ℕ) (notes : Notes) →
-        notes_read (InMatroska (Some size) track place) end cued None 0 text ≡ Ok (notes, rest) →
+        notes_read (InMatroska (Some size) track place) end cued None 0 0 text ≡ Ok (notes, rest) →
         notes.after ≡ None → text ≡ [] }
 {
     avi_laws::no_bytes_told_are_none();
@@ -86,22 +86,29 @@ pub fn no_bytes_noted_are_none()
 }
 
 /// What is noted of a whole file says no more than its end does, and how many of its frames repeat
-/// the one before them. Of an AVI after which no bytes stand it is that number alone, and of a
-/// Segment of known size after which none stand nothing. Of a Segment of unknown size it is whether
-/// Cues came after its last Cluster, and never bytes after it. If bytes stand after an AVI, it is
-/// noted how many come before them. No frame of a Segment repeats another.
+/// the one before them, and how many further tracks of a Segment are FFV1 video. Of an AVI after
+/// which no bytes stand it is the first number alone, and of a Segment of known size after which
+/// none stand the second. Of a Segment of unknown size it is also whether Cues came after its last
+/// Cluster, and never bytes after it. If bytes stand after an AVI, it is noted how many come before
+/// them. No frame of a Segment repeats another.
 pub fn notes_say_what_the_end_leaves()
     ensures avi { (file rest : List ℕ) (notes : Notes) (is : RiffsEnd file rest notes) →
-        is.behind ≡ [] → notes ≡ record no_notes { repeated = repeated_in is.frames } }
+        is.behind ≡ [] →
+        notes ≡ record no_notes { others = is.others; repeated = repeated_in is.frames } }
     ensures repeated { (file rest : List ℕ) (notes : Notes) (is : RiffsEnd file rest notes) →
         notes.repeated ≡ repeated_in is.frames }
     ensures none { (file rest : List ℕ) (notes : Notes) → SegmentEnds file rest notes →
         notes.repeated ≡ 0 }
+    ensures streams { (file rest : List ℕ) (notes : Notes) (is : RiffsEnd file rest notes) →
+        notes.others ≡ is.others }
+    ensures tracks { (file rest : List ℕ) (notes : Notes) (is : SegmentEnds file rest notes) →
+        notes.others ≡ is.opened.track.numbers.others }
     ensures others { (file rest : List ℕ) (notes : Notes) (is : RiffsEnd file rest notes) →
         0 < length is.behind → (notes.is_open ≡ false)
         × (notes.after ≡ Some (bytes_before file is.behind)) }
     ensures sized { (file rest : List ℕ) (notes : Notes) (is : SegmentEnds file rest notes)
-        (size : ℕ) → is.opened.segment ≡ Some size → is.behind ≡ [] → notes ≡ no_notes }
+        (size : ℕ) → is.opened.segment ≡ Some size → is.behind ≡ [] →
+        notes ≡ record no_notes { others = is.opened.track.numbers.others } }
     ensures behind { (file rest : List ℕ) (notes : Notes) (is : SegmentEnds file rest notes)
         (size : ℕ) → is.opened.segment ≡ Some size → 0 < length is.behind →
         (notes.is_open ≡ false)
@@ -129,5 +136,15 @@ pub fn written_avi_is_read_back()
         IsWritable (extent_in scope) head frames →
         file_read scope (file_of head frames) ≡ Ok ((without_colour head, frames), []) }
 {
+    avi_laws::written_file_is_read_back();
+}
+
+/// After an AVI that was written no bytes are noted: it is read to its last one.
+pub fn nothing_is_noted_after_a_written_avi()
+    ensures { (scope : Scope) (head : Head) (frames : List (List ℕ)) (rest : List ℕ)
+        (notes : Notes) → IsWritable (extent_in scope) head frames →
+        IsNotedOf scope (file_of head frames) rest notes → notes.after ≡ None }
+{
+    avi_laws::nothing_stands_after_a_written_file();
     avi_laws::written_file_is_read_back();
 }

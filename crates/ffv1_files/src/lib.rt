@@ -19,6 +19,7 @@
 mod container;
 pub mod laws;
 mod notes;
+mod opening;
 mod reader;
 
 pub use container::{Container, Scope};

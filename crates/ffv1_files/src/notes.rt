@@ -6,6 +6,9 @@ pub struct Notes {
     /// Nothing says that the file is whole: its Segment is of unknown size, and no Cues stand
     /// after its last Cluster.
     pub is_open: bool,
+    /// How many further tracks of a Segment are FFV1 video, or further streams of an AVI begin as
+    /// it; they are not read. A count of 64 bits stays at its greatest value.
+    pub others: u64,
     /// How many frames of an AVI have no bytes: each repeats the one before it. A count of 64 bits
     /// stays at its greatest value.
     pub repeated: u64,
@@ -17,6 +20,7 @@ impl Notes {
     /// Nothing is noted.
     pub const NONE: Notes = Notes {
         is_open: false,
+        others: 0,
         repeated: 0,
         after: None,
     };

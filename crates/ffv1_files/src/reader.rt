@@ -6,49 +6,49 @@ ghost use Rattle.std.specs.Prelude.{IfErr, IfOk, OnErr, Ok, Err, length};
 ghost use Rattle.std.specs.Vec.{vec_capacity};
 ghost use Rattle.ffv1_wire.specs.Passage.{passage};
 ghost use Rattle.ffv1_reads.specs.Head.{head_of};
-ghost use Rattle.ffv1_reads.specs.Room.{HasRoom, RoomRead};
+ghost use Rattle.ffv1_reads.specs.Room.{HasRoom};
 ghost use Rattle.ffv1_reads.specs.declared.fault.FileFault.{FileFault};
 ghost use Rattle.ffv1_files.specs.declared.container.Container.TheVariants as container;
 ghost use Rattle.ffv1_files.specs.declared.container.Scope.{Scope};
 ghost use Rattle.ffv1_files.specs.declared.container.Scope.TheVariants.{FirstMovi, Whole};
+ghost use Rattle.ffv1_files.specs.Again.{OpensAs, RoomWithin};
 ghost use Rattle.ffv1_files.specs.Answers.{FileAnswers};
 ghost use Rattle.std.specs.Prelude.{if◌then◌else◌};
 ghost use Rattle.ffv1_files.specs.Behind.{BehindAfter, CuedAfter, EndStays, EndsThere, any_value};
 ghost use Rattle.ffv1_files.specs.Behind.{is_behind_fault, items_noted, notes_of, notes_read};
 ghost use Rattle.ffv1_files.specs.Behind.{repeated_after};
 ghost use Rattle.ffv1_files.specs.Noted.{NotedOf, NotesEnd, NotesNext, NotesReached};
+ghost use Rattle.ffv1_files.specs.Noted.{StreamsReached};
 ghost use Rattle.ffv1_files.specs.declared.notes.Notes.{Notes};
-ghost use Rattle.ffv1_files.specs.Files.{frame_read, open_read};
+ghost use Rattle.ffv1_files.specs.Files.{frame_read};
 ghost use Rattle.ffv1_files.specs.Items.{ItemAnswers, avi_answer, course_of, cued_item, item_read};
 ghost use Rattle.ffv1_matroska.specs.CuedItems.{CuedBy};
 ghost use Rattle.ffv1_files.specs.Offsets.{LocatedNext, Reached, StopsAt};
-ghost use Rattle.ffv1_files.specs.Endings.{endings_from, opening_endings};
+ghost use Rattle.ffv1_files.specs.Endings.{endings_from};
 ghost use Rattle.ffv1_files.specs.Places.{InMatroska, amount, container_of, least_bytes, least_in};
 ghost use Rattle.ffv1_files.specs.Places.{most_bytes, most_in};
 ghost use Rattle.ffv1_files.specs.Readers.{StandsAfter, is_frame_fault, is_opening_fault, next_of};
-ghost use Rattle.ffv1_files.specs.Readers.{Leaves, opened_at};
+ghost use Rattle.ffv1_files.specs.Readers.{Leaves};
 
 use crate::container::{Container, Scope};
 use crate::notes::Notes;
+use crate::opening::open_whole;
 use ffv1_avi::{AviReader, Extent};
 use ffv1_matroska::{Course, Item, MatroskaReader};
 use ffv1_reads::{FileFault, FileHead};
-use ffv1_wire::{ByteIn, read_byte};
+use ffv1_wire::{AgainIn, ByteIn};
 use std::alloc::{Allocator, Global};
 use std::marker::Model;
-
-/// The first byte of a Matroska file, of the ID of its header of EBML.
-const EBML: u8 = 0x1A;
 
 /// A reader of the frames of a file. It holds no input: each call is lent the same one.
 #[derive(Drop)]
 pub struct FileReader<A: Allocator = Global> {
-    inner: Inner<A>,
+    pub(crate) inner: Inner<A>,
 }
 
 /// The reader of its container.
 #[derive(Drop)]
-enum Inner<A: Allocator = Global> {
+pub(crate) enum Inner<A: Allocator = Global> {
     Avi(AviReader<A>),
     Matroska(MatroskaReader<A>),
 }
@@ -65,15 +65,19 @@ impl<A: Allocator + Copy> FileReader<A> {
     /// Reads a file up to where its frames begin. What begins with the byte 1A is read as Matroska,
     /// and all else as AVI; up to its first `movi` a file is read as AVI alone.
     ///
+    /// If the first Cluster of a Matroska file comes before any Tracks, and the input can begin
+    /// again, it is read from its beginning up to the first Tracks, and then once more, with their
+    /// track, as `MatroskaReader::open_again` does. No other file is read twice.
+    ///
     /// The faults are those of `AviReader::open`, and if all of a file is read those of
-    /// `AviReader::open_all` or of `MatroskaReader::open`. The record that it keeps has room for at
-    /// most as many bytes as were read.
-    pub fn open<R: ByteIn>(
+    /// `AviReader::open_all`, of `MatroskaReader::open` or of `MatroskaReader::open_again`. The
+    /// record that it keeps has room for at most as many bytes as were read.
+    pub fn open<R: AgainIn>(
         alloc: A,
         scope: Scope,
         input: &mut R,
     ) -> Result<FileReader<A>, FileFault>
-        ensures answer { FileAnswers (opening_endings scope) opened_at (open_read scope)
+        ensures answer { OpensAs (R.begins input.old) scope
             (passage R.remaining R.failures input.old input.new) result }
         ensures sound { IfOk result (λ r. r.fault ≡ None) }
         ensures avi { scope ≡ FirstMovi →
@@ -81,7 +85,7 @@ impl<A: Allocator + Copy> FileReader<A> {
         ensures most { IfOk result (λ r. most_bytes r.place ≡ most_in scope) }
         ensures least { IfOk result (λ r. least_in scope ≤ least_bytes r.place) }
         ensures own { IfErr result (λ f. is_opening_fault scope f ≡ true) }
-        ensures room { IfOk result (λ r. RoomRead (R.remaining input.old) (R.remaining input.new) 0
+        ensures room { IfOk result (λ r. RoomWithin (R.remaining input.old) (R.remaining input.new)
             r.room) }
         ensures untold { IfOk result (λ r. r.after ≡ None) }
         ensures uncounted { IfOk result (λ r. r.repeated ≡ 0) }
@@ -94,13 +98,13 @@ impl<A: Allocator + Copy> FileReader<A> {
     /// the file before the element or chunk at fault, those before it read whole; no greater than
     /// 2^64 - 1. It is of Matroska the header of EBML, a Void after it, the header of the Segment,
     /// or an element of that; of an AVI its first twelve bytes, or a chunk of its first RIFF.
-    pub fn open_located<R: ByteIn>(
+    pub fn open_located<R: AgainIn>(
         alloc: A,
         scope: Scope,
         input: &mut R,
         offset: &mut u64,
     ) -> Result<FileReader<A>, FileFault>
-        ensures answer { FileAnswers (opening_endings scope) opened_at (open_read scope)
+        ensures answer { OpensAs (R.begins input.old) scope
             (passage R.remaining R.failures input.old input.new) result }
         ensures sound { IfOk result (λ r. r.fault ≡ None) }
         ensures avi { scope ≡ FirstMovi →
@@ -108,7 +112,7 @@ impl<A: Allocator + Copy> FileReader<A> {
         ensures most { IfOk result (λ r. most_bytes r.place ≡ most_in scope) }
         ensures least { IfOk result (λ r. least_in scope ≤ least_bytes r.place) }
         ensures own { IfErr result (λ f. is_opening_fault scope f ≡ true) }
-        ensures room { IfOk result (λ r. RoomRead (R.remaining input.old) (R.remaining input.new) 0
+        ensures room { IfOk result (λ r. RoomWithin (R.remaining input.old) (R.remaining input.new)
             r.room) }
         ensures located { IfOk result
             (Reached scope (R.remaining input.old) (R.remaining input.new)) }
@@ -140,49 +144,6 @@ impl<A: Allocator + Copy> FileReader<A> {
                 Err(fault) => Err(fault),
             },
         }
-    }
-}
-
-/// Looks at the first byte of a file, and opens it as what it is. After a fault `offset` is the
-/// number of bytes before the element or chunk at fault.
-fn open_whole<R: ByteIn, A: Allocator + Copy>(
-    alloc: A,
-    input: &mut R,
-    offset: &mut u64,
-) -> Result<FileReader<A>, FileFault>
-    ensures answer { FileAnswers (opening_endings Whole) opened_at (open_read Whole)
-        (passage R.remaining R.failures input.old input.new) result }
-    ensures sound { IfOk result (λ r. r.fault ≡ None) }
-    ensures most { IfOk result (λ r. most_bytes r.place ≡ most_in Whole) }
-    ensures least { IfOk result (λ r. least_in Whole ≤ least_bytes r.place) }
-    ensures own { IfErr result (λ f. is_opening_fault Whole f ≡ true) }
-    ensures room { IfOk result (λ r. RoomRead (R.remaining input.old) (R.remaining input.new) 0
-        r.room) }
-    ensures located { IfOk result (Reached Whole (R.remaining input.old) (R.remaining input.new)) }
-    ensures stopped { IfErr result (λ f. StopsAt Whole
-        (passage R.remaining R.failures input.old input.new) f offset.new) }
-    ensures ends { IfOk result EndsThere }
-    ensures uncued { IfOk result (λ r. r.cued ≡ false) }
-    ensures untold { IfOk result (λ r. r.after ≡ None) }
-    ensures uncounted { IfOk result (λ r. r.repeated ≡ 0) }
-{
-    *offset = 0;
-    let Ok(first) = read_byte(input) else {
-        return Err(FileFault::Read);
-    };
-    if first == Some(EBML) {
-        return match MatroskaReader::open_located(alloc, first, input, offset) {
-            Ok(reader) => Ok(FileReader {
-                inner: Inner::Matroska(reader),
-            }),
-            Err(fault) => Err(fault),
-        };
-    }
-    match AviReader::open_located(alloc, Extent::EveryRiff, first, input, offset) {
-        Ok(reader) => Ok(FileReader {
-            inner: Inner::Avi(reader),
-        }),
-        Err(fault) => Err(fault),
     }
 }
 
@@ -386,27 +347,30 @@ impl<A: Allocator> FileReader<A> {
     }
 }
 
-/// What is noted of an AVI: how many of its frames have no bytes, and where other bytes stand after
-/// its last RIFF, if any do.
+/// What is noted of an AVI: how many further streams begin as FFV1 video, how many of its frames
+/// have no bytes, and where other bytes stand after its last RIFF, if any do.
 fn avi_notes<A: Allocator>(reader: &AviReader<A>) -> Notes
     ensures { result ≡ record {
       is_open = false;
+      others = reader.now.others;
       repeated = reader.now.repeated;
       after = reader.now.after;
     } }
 {
     Notes {
         is_open: false,
+        others: reader.others(),
         repeated: reader.repeated(),
         after: reader.after(),
     }
 }
 
-/// What is noted of a Segment if other bytes stand after its end or not, and if nothing says that
-/// it is whole.
-fn noted(some: bool, is_open: bool, end: u64) -> Notes
+/// What is noted of a Segment if other bytes stand after its end or not, if nothing says that it is
+/// whole, and if so many further tracks are FFV1 video.
+fn noted(some: bool, is_open: bool, end: u64, others: u64) -> Notes
     ensures { result ≡ record {
       is_open = is_open;
+      others = others;
       repeated = 0;
       after = if some then Some end else None;
     } }
@@ -414,12 +378,14 @@ fn noted(some: bool, is_open: bool, end: u64) -> Notes
     if some {
         return Notes {
             is_open,
+            others,
             repeated: 0,
             after: Some(end),
         };
     }
     Notes {
         is_open,
+        others,
         repeated: 0,
         after: None,
     }
@@ -433,13 +399,18 @@ fn look_behind_segment<R: ByteIn, A: Allocator>(
 ) -> Result<Notes, FileFault>
     ensures answer { FileAnswers any_value (λ (n : Notes). n)
         (notes_read (InMatroska reader.now.segment reader.now.track.numbers reader.now.place)
-        reader.now.end cued None 0)
+        reader.now.end cued None 0 0)
         (passage R.remaining R.failures input.old input.new) result }
     ensures own { IfErr result (λ f. is_behind_fault (InMatroska reader.now.segment
         reader.now.track.numbers reader.now.place) f ≡ true) }
 {
     match reader.look_behind(input) {
-        Ok(some) => Ok(noted(some, reader.is_left_open(cued), reader.end())),
+        Ok(some) => Ok(noted(
+            some,
+            reader.is_left_open(cued),
+            reader.end(),
+            reader.others(),
+        )),
         Err(fault) => Err(fault),
     }
 }

@@ -78,9 +78,9 @@ pub trait LineWord: Word {
         ensures inside { IfErr result (λ e. e.x < length (Self.samples cur.new)) }
         ensures held { AllHeld coding.now.table.now states.new };
 
-    /// Reads a row of a cell of Golomb-Rice coded samples, as `ffv1_rice::decode_row` does, if lines
-    /// of so many bits are coded in words of this type. They have 8 or 9 bits, which words of 32
-    /// bits are never for, and these read nothing.
+    /// Reads a row of a cell of Golomb-Rice coded samples, as `ffv1_rice::decode_row` does, if
+    /// lines of so many bits are coded in words of this type. They have 8 or 9 bits, which words of
+    /// 32 bits are never for, and these read nothing.
     fn decode_bits<B: Allocator>(
         bits: &mut Bits<'_>,
         coding: &LineCoding<'_, B>,

@@ -5,9 +5,7 @@ use Rattle.ffv1_record.specs.Accepted.{Accepted}
 use Rattle.ffv1_record.specs.Reading.{IsRefused, ReachesSets}
 use Rattle.ffv1_record.specs.declared.fault.RecordFault.{RecordFault}
 use Rattle.ffv1_record.specs.declared.fault.RecordFault.TheVariants as record_fault
-use Rattle.ffv1_files.specs.Answers.{StopsReading}
-use Rattle.ffv1_files.specs.Endings.{opening_endings}
-use Rattle.ffv1_files.specs.Files.{open_read}
+use Rattle.ffv1_files.specs.Again.{StopsOpening}
 use Rattle.ffv1_files.specs.Readers.{Standing}
 use Rattle.ffv1_reads.specs.Head.{Head}
 use Rattle.ffv1_reads.specs.declared.fault.FileFault.{FileFault}
@@ -19,28 +17,28 @@ use Rattle.ffv1_video.specs.Profiles.{greatest_depth, record_profile, scope_in}
 use Rattle.ffv1_video.proofs.Output.{silent}
 use Rattle.ffv1_outline.specs.declared.facts.Form.{Form}
 use Rattle.ffv1_unpack.specs.Internal.Opens.{stream_of}
-use Rattle.ffv1_unpack.specs.Internal.Told.{FileStopsBy, WritesFrame}
+use Rattle.ffv1_unpack.specs.Internal.Told.{WritesFrame}
 use Rattle.ffv1_unpack.specs.Opens.{HasSoundRecord, OpensKnown}
 use Rattle.ffv1_unpack.specs.Plays.{FileThen, HasThen}
 use Rattle.ffv1_unpack.specs.Stream.{IsStream}
 use Rattle.ffv1_unpack.proofs.FilePlayed.{file_has}
-use Rattle.ffv1_unpack.proofs.FileSteps.{file_stops}
+use Rattle.ffv1_unpack.proofs.Openings.{LacksHeadBy as OpeningBy, head_by}
 use Rattle.ffv1_info.specs.StreamInfo.{FramesDone, FramesStop, HasHead, StreamInfoDone, StreamInfoStops, LacksHeadBy, LacksRecord, Wrote, stream_facts}
 use Rattle.ffv1_info.specs.StreamFacts.{head_facts, record_facts}
 use Rattle.ffv1_info.proofs.FramesTold.{done_there, stops_there}
 use Rattle.ffv1_info.proofs.Groups.{group_stops, stops_after, wrote_behind}
 
-lacks_by : (profile : Profile) (p : Passage) (f : Fault) (why : Cause) → FileStopsBy (opening_endings (scope_in profile)) (open_read (scope_in profile)) p f why → LacksHeadBy profile p f why
+lacks_by : (profile : Profile) (p : Passage) (f : Fault) (why : Cause) → OpeningBy profile p f why → LacksHeadBy profile p f why
 lacks_by profile p f Reading h = h
 lacks_by profile p f Writing h = h
 lacks_by profile p f Memory h = h
 lacks_by profile p f Content h = h
 
 -- a file without a head
-pub lacks_head : (profile : Profile) (form : Form) (count : Bool) (i0 i1 o : Option (List ℕ)) (ib im ob : ℕ) (f : FileFault) →
-    StopsReading (opening_endings (scope_in profile)) (open_read (scope_in profile)) (between i0 i1 ib im) f → StreamInfoStops profile form count (between i0 i1 ib im) (between o o ob ob) (of_avi f)
-lacks_head profile form count i0 i1 o ib im ob f h =
-    inl (silent o ob, lacks_by profile (between i0 i1 ib im) (of_avi f) (cause_of (of_avi f)) (file_stops (open_read (scope_in profile)) (opening_endings (scope_in profile)) (between i0 i1 ib im) f h))
+pub lacks_head : (profile : Profile) (form : Form) (count : Bool) (i0 i1 o : Option (List ℕ)) (ib im ob : ℕ) (again : Bool) (f : FileFault) →
+    StopsOpening again (scope_in profile) (between i0 i1 ib im) f → StreamInfoStops profile form count (between i0 i1 ib im) (between o o ob ob) (of_avi f)
+lacks_head profile form count i0 i1 o ib im ob again f h =
+    inl (silent o ob, lacks_by profile (between i0 i1 ib im) (of_avi f) (cause_of (of_avi f)) (head_by profile (between i0 i1 ib im) again f h))
 
 -- the facts that were written are those of the reader's head
 pub head_told : (form : Form) (p : Passage) (r : Result (Unit {0}) Fault) {h k : Head} → h ≡ k → WritesFrame (head_facts form h) p r → WritesFrame (head_facts form k) p r

@@ -1,5 +1,5 @@
 -- What `info` writes of a file: what its first bytes say, and then the facts of its stream.
-use Rattle.std.specs.Prelude.{◌≡◌, ◌⊎◌, ℕ, Bool, List, [], Option}
+use Rattle.std.specs.Prelude.{◌≡◌, ◌⊎◌, ℕ, Bool, true, List, [], Option}
 use Rattle.std.specs.Io.KnownBytes.{Appends, Keeps}
 use Rattle.ffv1_wire.specs.Passage.{Passage, between}
 use Rattle.ffv1_video.specs.Output.{Silent}
@@ -9,6 +9,7 @@ use Rattle.ffv1_video.specs.declared.profile.Profile.{Profile}
 use Rattle.ffv1_outline.specs.Beginnings.{IsBeginning}
 use Rattle.ffv1_outline.specs.Outline.{outline_facts}
 use Rattle.ffv1_outline.specs.declared.facts.Form.{Form}
+use Rattle.ffv1_unpack.specs.Opens.{IsReadAgain}
 use Rattle.ffv1_info.specs.StreamInfo.{GroupStops, StreamInfoDone, StreamInfoStops}
 
 -- the first bytes of a file were read, and all of it is as it was to who reads it on; whether a
@@ -49,3 +50,9 @@ module _ (profile : Profile) (form : Form) (count : Bool) (file : Option (List �
   InfoStops f =
       ((f ≡ fault.OutOfMemory) × Silent output) ⊎ OutlineStops form file output f
       ⊎ OutlineThen form file output (λ p q. StreamInfoStops profile form count p q f)
+
+-- that a file lacks Tracks is, if its input can begin again, its fault as it is read again, where
+-- this is left of it; of any other fault this says nothing
+abbrev pub IsInfoReadAgain : Profile → Option (List ℕ) → Fault → Type 0
+IsInfoReadAgain profile file f =
+    (rest : Option (List ℕ)) × IsReadAgain profile true (between file rest 0 0) f

@@ -12,23 +12,20 @@ use Rattle.ffv1_record.specs.declared.fault.RecordFault.{RecordFault}
 use Rattle.ffv1_record.specs.declared.fault.RecordFault.TheVariants as record_fault
 use Rattle.ffv1_frame.specs.SliceList.{Said}
 use Rattle.ffv1_frame.specs.declared.fault.FrameFault.{FrameFault}
-use Rattle.ffv1_files.specs.Answers.{WantsMore}
-use Rattle.ffv1_files.specs.Files.{open_read}
 use Rattle.ffv1_files.specs.Places.{Place}
 use Rattle.ffv1_files.specs.declared.notes.Notes.{Notes}
 use Rattle.ffv1_reads.specs.Head.{Head}
 use Rattle.ffv1_reads.specs.Known.{Known}
-use Rattle.ffv1_reads.specs.Reads.{Kept}
 use Rattle.ffv1_video.specs.Faults.{Cause, cause_of, of_codec, of_record}
 use Rattle.ffv1_video.specs.Faults.Cause.{Reading, Writing, Memory, Content}
 use Rattle.ffv1_video.specs.Output.{Silent, WritesUpTo}
-use Rattle.ffv1_video.specs.Profiles.{greatest_depth, record_profile, scope_in}
+use Rattle.ffv1_video.specs.Profiles.{greatest_depth, record_profile}
 use Rattle.ffv1_video.specs.declared.fault.Fault.{Fault}
 use Rattle.ffv1_video.specs.declared.fault.Fault.TheVariants as fault
 use Rattle.ffv1_video.specs.declared.profile.Profile.{Profile}
 use Rattle.ffv1_outline.specs.declared.facts.Form.{Form}
-use Rattle.ffv1_unpack.specs.Opens.{HasSoundRecord, OpeningWants, OpensKnown}
-use Rattle.ffv1_unpack.specs.Play.{FaultsRead}
+use Rattle.ffv1_unpack.specs.Opens.{HasSoundRecord, OpeningKeeps, OpeningWants, OpensKnown}
+use Rattle.ffv1_unpack.specs.Play.{FaultsOpening}
 use Rattle.ffv1_unpack.specs.Behind.{EndsThen, IsNoted, Looks}
 use Rattle.ffv1_unpack.specs.Plays.{AtMost, FileThen, NextHasFault, NextIsPayload}
 use Rattle.ffv1_unpack.specs.Plays.{NextPayloadLacks, NextReadFails, NextStays, has_more}
@@ -196,9 +193,9 @@ LacksHeadBy profile p f Reading =
     (p.after ≡ one_more p.before) × OpeningWants profile p.old p.new
 LacksHeadBy profile p f Writing = ⊥
 LacksHeadBy profile p f Memory =
-    (p.after ≡ p.before) × Known p.old p.new (WantsMore (open_read (scope_in profile)) Kept)
+    (p.after ≡ p.before) × Known p.old p.new (OpeningKeeps profile)
 LacksHeadBy profile p f Content = (p.after ≡ p.before)
-    × Known p.old p.new (λ file rest. FaultsRead (open_read (scope_in profile)) file rest f)
+    × Known p.old p.new (λ file rest. FaultsOpening profile file rest f)
 
 abbrev pub LacksHead : Profile → Passage → Fault → Type 0
 LacksHead profile p f = LacksHeadBy profile p f (cause_of f)

@@ -11,6 +11,7 @@ ghost use Rattle.ffv1_video.specs.Faults.{cause_of, of_avi};
 ghost use Rattle.ffv1_unpack.specs.Internal.Located.{StaysReached};
 ghost use Rattle.ffv1_unpack.specs.Internal.Opens.{stream_of};
 ghost use Rattle.ffv1_unpack.specs.Internal.Told.{IsToldFault, WritesFrame};
+ghost use Rattle.ffv1_unpack.specs.Opens.{IsReadAgain};
 ghost use Rattle.ffv1_unpack.specs.Plays.{HasThen};
 ghost use Rattle.ffv1_unpack.specs.Stream.{Frame};
 ghost use Rattle.ffv1_info.specs.Internal.Frames.{NextAnswers, ReadsFirst, ReadsOthers};
@@ -28,7 +29,7 @@ use ffv1_reads::{FileFault, FileHead};
 use ffv1_record::{Checked, laws as record_laws};
 use ffv1_unpack::player::{NextFrame, read_head};
 use ffv1_video::{Fault, Profile};
-use ffv1_wire::{ByteIn, ByteOut, write_all};
+use ffv1_wire::{AgainIn, ByteIn, ByteOut, write_all};
 use std::alloc::Allocator;
 
 /// What is asked for.
@@ -348,10 +349,11 @@ fn tell_frames<R: ByteIn, W: ByteOut, A: Allocator + Copy>(
 /// The faults are those of `show` with costs, but what was read up to there is told before: the
 /// facts of the head if the record is refused, and those of the record if the first frame is. A
 /// file without frames is no fault. Without `count` nothing after the first frame is read; behind
-/// the last one it is looked whether another file stands there, which is `Another`. `Read`,
+/// the last one it is looked whether another file stands there, which is `Another`. `NoTracks` is a
+/// file's that begins again, if the input can, as `FileReader::open_located` says. `Read`,
 /// `OutOfMemory` and `Write` come as they come; if a write failed, a beginning of a group is
 /// written, else whole groups are.
-pub fn stream_info<R: ByteIn, W: ByteOut, A: Allocator + Copy>(
+pub fn stream_info<R: AgainIn, W: ByteOut, A: Allocator + Copy>(
     alloc: A,
     profile: Profile,
     input: &mut R,
@@ -366,6 +368,8 @@ pub fn stream_info<R: ByteIn, W: ByteOut, A: Allocator + Copy>(
         (passage R.remaining R.failures input.old input.new)
         (passage W.contents W.failures output.old output.new)) }
     ensures own { IfErr result (IsStreamInfoFault profile) }
+    ensures again { IfErr result (IsReadAgain profile (R.begins input.old)
+        (passage R.remaining R.failures input.old input.new)) }
 {
     let mut offset = 0u64;
     let reader = FileReader::open_located(alloc, profile.scope(), input, &mut offset)?;

@@ -1,8 +1,8 @@
 -- Where no step comes: in no Cluster and in no BlockGroup, at the end of the Segment or of the input.
-use Rattle.std.proofs.Common.{◌≡◌, ◌-◌, ◌==◌, ◌&&◌, ◌∙◌, ℕ, suc, zero, inl, inr, sym, ap, List, [], ◌∷◌, ◌++◌, Ok, Option, Some, None, Bool, true, false, nat_lt, slice_index, refl, arith}
+use Rattle.std.proofs.Common.{◌≡◌, ◌-◌, ◌==◌, ◌&&◌, ◌∙◌, ℕ, suc, zero, inl, inr, sym, ap, List, [], ◌∷◌, ◌++◌, Result, Ok, Err, Option, Some, None, Bool, true, false, nat_lt, slice_index, refl, arith}
 use Rattle.std.proofs.lemmas.Bool.Decides.{nat_tests}
 use Rattle.ffv1_reads.specs.declared.fault.FileFault.TheVariants as fault
-use Rattle.ffv1_reads.specs.Reads.{given, refused, taken}
+use Rattle.ffv1_reads.specs.Reads.{Met, Short, Stop, given, refused, taken, ◌>>=◌}
 use Rattle.ffv1_reads.specs.Offsets.{Leads, ReadsWhole}
 use Rattle.ffv1_reads.proofs.OffsetLaws.{reads_take}
 use Rattle.ffv1_reads.proofs.Results.{ok_is, read_on_ok}
@@ -16,8 +16,9 @@ use Rattle.ffv1_ebml.specs.declared.sum.Sum.{Sum}
 use Rattle.ffv1_ebml.specs.declared.sum.Sum.TheVariants.{Absent, Begins, Awaits}
 use Rattle.ffv1_matroska.specs.Blocks.{block_read, block_rest, fields_read, frame_judged, is_unknown, lacing_of, passed_on}
 use Rattle.ffv1_matroska.specs.Cues.{cued_behind, cued_taken}
+use Rattle.ffv1_matroska.specs.Late.{again_read, opened_again, opened_with, reopened, segment_reopened, track_read}
 use Rattle.ffv1_matroska.specs.Offsets.{element_taken}
-use Rattle.ffv1_matroska.specs.Opened.{Opened, begin_read, begin_up_to, begun_at, ebml_read, element_or_begun, in_cluster, open_read, segment_opened, tracks_or_passed}
+use Rattle.ffv1_matroska.specs.Opened.{Opened, begin_from, begin_up_to, begun_at, ebml_read, element_or_begun, in_cluster, open_read, segment_opened, tracks_or_passed}
 use Rattle.ffv1_matroska.specs.Opening.{segment_begun, segment_entered}
 use Rattle.ffv1_matroska.specs.Tracks.{Track}
 use Rattle.ffv1_matroska.specs.Places.{amount, ended, closed, cluster_at, cluster_entered, frame_at, group_at, is_sound, segment_at, step_to, summed_at}
@@ -202,10 +203,30 @@ begins_sized (suc most) found place sized = gives_any Sized (header_read place) 
 abbrev pub SizedOpened : Opened → Type 0
 SizedOpened o = (size : ℕ) → o.segment ≡ Some size → o.place.endless ≡ false
 
-pub opened_sized : Gives SizedOpened open_read
+-- a Segment of this size, if Tracks were before or not
+segment_sized : (found : Option Track) (size : Option ℕ) → Gives SizedOpened (begin_from found (segment_begun size) >>= λ p. given (record { track = p.0; segment = size; place = p.1 }))
+segment_sized found None = gives_any SizedOpened (begin_from found (segment_begun None)) _ (λ p. gives_given SizedOpened (record { track = p.0; segment = None; place = p.1 }) (λ size is. absurd (cc)))
+segment_sized found (Some n) = gives_then Sized SizedOpened (begin_from found (segment_begun (Some n))) _ (begins_sized (suc (amount (segment_begun (Some n)))) found (segment_begun (Some n)) refl) (λ p sized. gives_given SizedOpened (record { track = p.0; segment = Some n; place = p.1 }) (λ size is. sized))
+
+opened_sized : Gives SizedOpened open_read
 unfolding open_read
-opened_sized = gives_any SizedOpened ebml_read _ (λ _. gives_any SizedOpened segment_entered segment_opened on_size)
+opened_sized = gives_any SizedOpened ebml_read _ (λ _. gives_any SizedOpened segment_entered segment_opened (segment_sized None))
+
+reopened_sized : (track : Track) → Gives SizedOpened (reopened track)
+unfolding reopened
+reopened_sized track = gives_any SizedOpened ebml_read _ (λ _. gives_any SizedOpened segment_entered (segment_reopened track) (segment_sized (Some track)))
+
+-- wherever its Tracks stand
+pub again_sized : Gives SizedOpened again_read
+unfolding again_read
+again_sized = record { only = λ text rest o h. on_open text rest o (open_read text) refl h }
   where
-    on_size : (size : Option ℕ) → Gives SizedOpened (segment_opened size)
-    on_size None = gives_any SizedOpened (begin_read (segment_begun None)) _ (λ p. gives_given SizedOpened (record { track = p.0; segment = None; place = p.1 }) (λ size is. absurd (cc)))
-    on_size (Some n) = gives_then Sized SizedOpened (begin_read (segment_begun (Some n))) _ (begins_sized (suc (amount (segment_begun (Some n)))) None (segment_begun (Some n)) refl) (λ p sized. gives_given SizedOpened (record { track = p.0; segment = Some n; place = p.1 }) (λ size is. sized))
+    on_track : (text rest : List ℕ) (o : Opened) (z : Result (Track × List ℕ) Stop) → opened_with text z ≡ Ok (o, rest) → SizedOpened o
+    on_track text rest o (Ok p) h = (reopened_sized p.0).only text rest o h
+    on_track text rest o (Err why) h = absurd (err_is_no_ok why (o, rest) h)
+
+    on_open : (text rest : List ℕ) (o : Opened) (z : Result (Opened × List ℕ) Stop) → open_read text ≡ z → opened_again text z ≡ Ok (o, rest) → SizedOpened o
+    on_open text rest o (Ok p) is h = opened_sized.only text rest o (is ∙ h)
+    on_open text rest o (Err (Short w)) is h = absurd (err_is_no_ok (Short w) (o, rest) h)
+    on_open text rest o (Err (Met fault.NoTracks left)) is h = on_track text rest o (track_read text) h
+    on_open text rest o (Err (Met f left)) is h = absurd (err_is_no_ok (Met f left) (o, rest) h)

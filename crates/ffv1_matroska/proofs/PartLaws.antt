@@ -238,7 +238,7 @@ top_only n h = on_test (is_section n) refl h
 abbrev pub loose_after : Bool → TopLevel → Bool
 loose_after loose t = if is_section (number_of t.ident) then false else loose
 
-and_false : (b : Bool) → (b && false) ≡ false
+pub and_false : (b : Bool) → (b && false) ≡ false
 and_false true = refl
 and_false false = refl
 

@@ -79,7 +79,7 @@ pub kept_counted : (size : Option ℕ) {a b : Option (List ℕ)} {bytes : List �
 kept_counted size {bytes = bytes} read = reads_counted (length bytes) (kept_takes size) (let long = ((kept_takes size).only _ _ _ (read.is [])).0 in omega (arith, long)) read
 
 -- an element of the Segment
-passed_takes : (ident : ℕ) (size : Option ℕ) → Takes Any (bytes_of size) (λ _. 0) (element_passed ident size)
+pub passed_takes : (ident : ℕ) (size : Option ℕ) → Takes Any (bytes_of size) (λ _. 0) (element_passed ident size)
 unfolding element_passed
 passed_takes ident None = takes_refused fault.BadElement
 passed_takes ident (Some n) =
@@ -90,7 +90,7 @@ told_takes : {X : Type 0} (r : Result X FileFault) → Takes Any 0 (λ _. 0) (to
 told_takes (Ok x) = takes_given x tt refl
 told_takes (Err f) = takes_refused f
 
-tracks_takes : (size : Option ℕ) → Takes Any (bytes_of size) (λ _. 0) (tracks_read size)
+pub tracks_takes : (size : Option ℕ) → Takes Any (bytes_of size) (λ _. 0) (tracks_read size)
 unfolding tracks_read
 tracks_takes size = takes_then (content_kept size) _ (kept_takes size) (λ content _. told_takes (track_in content))
 
@@ -108,7 +108,7 @@ pub header_left : (here : Place) (e : Element) {a b : Option (List ℕ)} → Rea
 unfolding header_bytes
 header_left here e read = let all = takes_read (header_takes here) read in omega (arith, all)
 
-header_counted : (here : Place) (e : Element) {a b : Option (List ℕ)} → Read (header_read here) a b (Some e) → ReadsCounted (header_read here) a b (Some e) (header_bytes here e)
+pub header_counted : (here : Place) (e : Element) {a b : Option (List ℕ)} → Read (header_read here) a b (Some e) → ReadsCounted (header_read here) a b (Some e) (header_bytes here e)
 header_counted here e read = reads_counted (header_bytes here e) (header_takes here) (header_left here e read) read
 
 pub spot_read : (found now : Option Track) (here : Place) (e : Element) {a b c : Option (List ℕ)} → (e.ident == cluster) ≡ false → Read (header_read here) a b (Some e) → Read (tracks_or_passed found e.ident e.size) b c now →
@@ -201,9 +201,9 @@ begun_flat (Some n) = refl
 pub first_offset : (n most : ℕ) → min (0 + n) most ≡ min (0 + (0 + (n + 0))) most
 first_offset n most = grind arith
 
-pub begins_within : (place : Place) (p : Passage) (bytes : List ℕ) (r : Result (Numbers × Place) FileFault) (here : Place) → place.cluster + place.group ≡ 0 → BeginsFrom place p bytes r here → amount here ≤ amount place
-begins_within place p bytes (Ok n) here flat from = let all = from.2 flat in omega (arith, all)
-begins_within place p bytes (Err f) here flat from = let all = from.3 flat in omega (arith, all)
+pub begins_within : (known : Option Track) (place : Place) (p : Passage) (bytes : List ℕ) (r : Result (Numbers × Place) FileFault) (here : Place) → place.cluster + place.group ≡ 0 → BeginsFrom known place p bytes r here → amount here ≤ amount place
+begins_within known place p bytes (Ok n) here flat from = let all = from.2 flat in omega (arith, all)
+begins_within known place p bytes (Err f) here flat from = let all = from.3 flat in omega (arith, all)
 
 pub entered_offset : (m n most : ℕ) → min (0 + (m + n)) most ≡ min (0 + (0 + (m + 0) + n)) most
 entered_offset m n most = grind arith

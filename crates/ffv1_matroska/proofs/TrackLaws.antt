@@ -76,7 +76,7 @@ header_refused base loose left ident size rest passes =
     header_there (segment_at base loose left) ((ident ++ size) ++ rest) some there ∙ ap (λ z. read_on z (λ p. given (Some p.0))) (header_passes left Absent ident size rest passes)
 
 -- a Cluster before any Tracks
-cluster_first : (most : ℕ) (base : Place) (ident size rest : List ℕ) (known : Option ℕ) (m : ℕ) → SaysIdent ident cluster → SaysSize size known →
+pub cluster_first : (most : ℕ) (base : Place) (ident size rest : List ℕ) (known : Option ℕ) (m : ℕ) → SaysIdent ident cluster → SaysSize size known →
     begin_up_to (suc most) None (segment_at base false (length (ident ++ size) + (bytes_of known + m))) ((ident ++ size) ++ rest) ≡ Err (Met fault.NoTracks rest)
 unfolding begin_up_to begun_at
 cluster_first most base ident size rest known m is says =

@@ -3,7 +3,7 @@ use Rattle.std.proofs.Common.{◌≡◌, ℕ, suc, zero, ◌≤◌, ◌<◌, Som
 use Rattle.ffv1_reads.specs.declared.fault.FileFault.{FileFault}
 use Rattle.ffv1_reads.specs.declared.fault.FileFault.TheVariants as fault
 use Rattle.ffv1_ebml.specs.Contents.{Part, content_told, first_part}
-use Rattle.ffv1_matroska.specs.Tracks.{Track, first_track, known_in, known_up_to, known_with, track_among, track_at, track_in, track_up_to}
+use Rattle.ffv1_matroska.specs.Tracks.{Track, first_track, known_in, known_up_to, known_with, others_in, track_among, track_at, track_in, track_up_to, videos_up_to, videos_with}
 
 -- an element that does not count
 pub track_next : (most : ℕ) (rest : List ℕ) (p : Part) → first_part rest ≡ Ok (Some p) → track_at p.ident p.content ≡ Ok None → length rest ≤ most → length p.rest < length rest →
@@ -43,7 +43,7 @@ unfolding first_track
 judged content u rest answer told walk is = rw (← told) (walk ∙ is)
 
 -- the numbers of all tracks stand beside what the first one of FFV1 video says
-pub first_found : (content : List ℕ) (track : Track) → first_track content ≡ Ok track → track_in content ≡ Ok (track_among (known_in content) track)
+pub first_found : (content : List ℕ) (track : Track) → first_track content ≡ Ok track → track_in content ≡ Ok (track_among (known_in content) (others_in content) track)
 unfolding track_in
 first_found content track is = rw is refl
 
@@ -75,3 +75,24 @@ pub known_end : (most known : ℕ) (rest : List ℕ) → first_part rest ≡ Ok 
 unfolding known_up_to
 known_end zero known rest none = refl
 known_end (suc k) known rest none = rw none refl
+
+-- ---- how many are FFV1 video
+
+-- an element that can be read
+pub videos_next : (most count : ℕ) (rest : List ℕ) (p : Part) → first_part rest ≡ Ok (Some p) → length rest ≤ most → length p.rest < length rest →
+    (k : ℕ) × (length p.rest ≤ k) × (videos_up_to most count rest ≡ videos_up_to k (videos_with count p.ident p.content) p.rest)
+unfolding videos_up_to
+videos_next zero count rest p first few less = absurd (omega (arith, few, less))
+videos_next (suc k) count rest p first few less = (k, omega (arith, few, less), rw first refl)
+
+-- one whose header can't be read
+pub videos_cut : (most count : ℕ) (rest : List ℕ) (f : FileFault) → first_part rest ≡ Err f → videos_up_to most count rest ≡ count
+unfolding videos_up_to
+videos_cut zero count rest f bad = refl
+videos_cut (suc k) count rest f bad = rw bad refl
+
+-- no more elements
+pub videos_end : (most count : ℕ) (rest : List ℕ) → first_part rest ≡ Ok None → videos_up_to most count rest ≡ count
+unfolding videos_up_to
+videos_end zero count rest none = refl
+videos_end (suc k) count rest none = rw none refl

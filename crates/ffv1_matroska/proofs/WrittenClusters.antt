@@ -87,7 +87,7 @@ cluster_is = inr (inr (inr (omega arith, omega arith)))
 
 -- the number of the one track, and the numbers of all
 abbrev pub written_numbers : TrackNumbers
-written_numbers = record { number = 1; known = 2 }
+written_numbers = record { number = 1; known = 2; others = 0 }
 
 one_is : IsVint (129 ∷ [])
 unfolding length_of

@@ -23,14 +23,14 @@ use Rattle.ffv1_matroska.specs.Rates.{IsTimed, Rate, greatest, rate_of, second}
 use Rattle.ffv1_matroska.specs.Blocks.{is_unknown}
 use Rattle.ffv1_matroska.proofs.WrittenClusters.{written_numbers}
 use Rattle.ffv1_reads.specs.Bitmap.{is_ffv1}
-use Rattle.ffv1_matroska.specs.Tracks.{Track, known_in, known_with, track_among, with_number, codec_id, codec_private, content_encodings, default_duration, entry, number_at, pixel_height, pixel_width, record_in, track_at, track_in, track_number, track_of, track_type, track_up_to, video, format_record, is_format}
+use Rattle.ffv1_matroska.specs.Tracks.{Track, known_in, known_with, others_in, track_among, videos_up_to, videos_with, with_number, codec_id, codec_private, content_encodings, default_duration, entry, number_at, pixel_height, pixel_width, record_in, track_at, track_in, track_number, track_of, track_type, track_up_to, video, format_record, is_format}
 use Rattle.ffv1_matroska.specs.WrittenIdents.{flag_lacing, language, track_uid}
 use Rattle.ffv1_matroska.specs.Written.{checked, crc_element, duration_field, entry_element, entry_fields, frame_duration, long_element, short_element, video_content, codec_name, private_content, private_end, private_front}
 use Rattle.ffv1_matroska.specs.Writers.{rate_in}
 use Rattle.ffv1_matroska.specs.declared.track_entry.TrackEntry.{TrackEntry}
 use Rattle.ffv1_matroska.proofs.FieldsFound.{AreFields, Field, fields_text, found_in, long_field, number_field, number_is, short_field, short_is}
 use Rattle.ffv1_matroska.proofs.SpelledLengths.{long_long}
-use Rattle.ffv1_matroska.proofs.TrackWalks.{first_found, judged, known_end, known_next, track_here, track_next}
+use Rattle.ffv1_matroska.proofs.TrackWalks.{first_found, judged, known_end, known_next, track_here, track_next, videos_end, videos_next}
 use Rattle.ffv1_matroska.proofs.WrittenBytes.{AreBytes, entry_are, video_few}
 use Rattle.ffv1_matroska.proofs.VideoParts.{beside_size, video_colour, video_parts}
 use Rattle.ffv1_matroska.proofs.WrittenChecks.{checked_told, crc_is_ident}
@@ -206,7 +206,7 @@ record_says codec.Vfw head content number picture short h =
     rw (h.kind, h.codec, h.config_is, is_format_back head) (ap (λ z. Ok (Some z)) (format_back head short))
 
 track_of_says : (id : CodecId) (content : List ℕ) (number : ℕ) (picture held config : List ℕ) (width height : ℕ) → Says id content number picture held → number_at pixel_width picture ≡ Ok width → number_at pixel_height picture ≡ Ok height →
-    track_of content config ≡ Ok (record { numbers = record { number = 1; known = 0 }; head = record { width = min width greatest; height = min height greatest; rate = (rate_of number).rate; scale = (rate_of number).scale; colour = colour_in picture; config_record = config } })
+    track_of content config ≡ Ok (record { numbers = record { number = 1; known = 0; others = 0 }; head = record { width = min width greatest; height = min height greatest; rate = (rate_of number).rate; scale = (rate_of number).scale; colour = colour_in picture; config_record = config } })
 unfolding track_of
 track_of_says id content number picture held config width height h wide high = rw (h.plain, h.track, h.lasts, h.picture_is, wide, high) refl
 
@@ -220,14 +220,14 @@ head_says head picture wide high timed coloured =
     rw (a, b, c, d, coloured) refl
 
 entry_track : (head : Head) (details : TrackEntry) → head.width < 2 ^ 32 → head.height < 2 ^ 32 → IsColour head.colour → IsTimed (rate_in head) → frame_duration head < 2 ^ 64 → length (private_content details.codec_id head) < 2 ^ 56 - 1 → length head.config_record < 2 ^ 31 →
-    track_at entry (content_of_entry head details) ≡ Ok (Some (record { numbers = record { number = 1; known = 0 }; head = head }))
+    track_at entry (content_of_entry head details) ≡ Ok (Some (record { numbers = record { number = 1; known = 0; others = 0 }; head = head }))
 unfolding track_at
 entry_track head details wide high coloured timed fits short few =
     let says = entry_says head details fits short in
     let sizes = size_found head details wide high in
     let config = record_says details.codec_id head (content_of_entry head details) (frame_duration head) (video_content head details) few says in
     let track = track_of_says details.codec_id (content_of_entry head details) (frame_duration head) (video_content head details) (private_content details.codec_id head) head.config_record head.width head.height says sizes.0 sizes.1 in
-    rw (config, track) (ap (λ h. Ok (Some (record { numbers = record { number = 1; known = 0 }; head = h }))) (head_says head (video_content head details) wide high timed (video_colour head details coloured)))
+    rw (config, track) (ap (λ h. Ok (Some (record { numbers = record { number = 1; known = 0; others = 0 }; head = h }))) (head_says head (video_content head details) wide high timed (video_colour head details coloured)))
 
 -- and its number is the only one
 entry_known : (head : Head) (details : TrackEntry) → frame_duration head < 2 ^ 64 → length (private_content details.codec_id head) < 2 ^ 56 - 1 → known_with 0 entry (content_of_entry head details) ≡ Ok 2
@@ -235,6 +235,13 @@ unfolding with_number is_unknown
 entry_known head details fits short =
     let says = entry_says head details fits short in
     rw says.track refl
+
+-- and it is FFV1 video
+entry_video : (head : Head) (details : TrackEntry) → frame_duration head < 2 ^ 64 → length (private_content details.codec_id head) < 2 ^ 56 - 1 → length head.config_record < 2 ^ 31 → videos_with 0 entry (content_of_entry head details) ≡ 1
+entry_video head details fits short few =
+    let says = entry_says head details fits short in
+    let config = record_says details.codec_id head (content_of_entry head details) (frame_duration head) (video_content head details) few says in
+    rw config refl
 
 -- a duration fits in eight bytes
 pub duration_fits : (head : Head) → head.rate < 2 ^ 32 → head.scale < 2 ^ 32 → frame_duration head < 2 ^ 64
@@ -251,7 +258,7 @@ track_says head details wide high rate scale coloured timed bytes within =
     let inner = content_of_entry head details in
     let e = entry_element head details in
     let low = bytes_low_first 0 4 (crc_of e) in
-    let track : Track = record { numbers = record { number = 1; known = 0 }; head = head } in
+    let track : Track = record { numbers = record { number = 1; known = 0; others = 0 }; head = head } in
     let content = checked e in
     let first = part_spelled crc_ident (short 4) low e crc_is_ident (short_spelled 4 (omega arith)) in
     let next = track_next (length content) content (record { ident = crc_ident; content = low; rest = e }) first refl (omega arith) (part_less content (record { ident = crc_ident; content = low; rest = e }) first) in
@@ -266,4 +273,11 @@ track_says head details wide high rate scale coloured timed bytes within =
     let one = known_next (length content) 0 content (record { ident = crc_ident; content = low; rest = e }) 0 first refl (omega arith) (part_less content (record { ident = crc_ident; content = low; rest = e }) first) in
     let two = known_next one.0 0 e (record { ident = entry; content = inner; rest = [] }) 2 second (entry_known head details (duration_fits head rate scale) config_short) one.1 (part_less e (record { ident = entry; content = inner; rest = [] }) second) in
     let known : known_in content ≡ 2 = one.2 ∙ two.2 ∙ known_end two.0 2 [] refl in
-    first_found content track found ∙ ap (λ k. Ok (track_among k track)) known
+    let one_video = videos_next (length content) 0 content (record { ident = crc_ident; content = low; rest = e }) first (omega arith) (part_less content (record { ident = crc_ident; content = low; rest = e }) first) in
+    let two_videos = videos_next one_video.0 0 e (record { ident = entry; content = inner; rest = [] }) second one_video.1 (part_less e (record { ident = entry; content = inner; rest = [] }) second) in
+    let videos : videos_up_to (length content) 0 content ≡ 1 =
+    one_video.2 ∙ two_videos.2 ∙ videos_end two_videos.0 (videos_with 0 entry inner) [] refl ∙ entry_video head details (duration_fits head rate scale) config_short few in
+    let others : others_in content ≡ 0 = ap (λ n. n - 1) videos in
+    first_found content track found
+    ∙ ap (λ k. Ok (track_among k (others_in content) track)) known
+    ∙ ap (λ n. Ok (track_among 2 n track)) others

@@ -8,9 +8,11 @@ pub mod Blocks
 pub mod Segments
 pub mod Files
 pub mod Opened
+pub mod Late
 pub mod Readers
 pub mod Internal
 pub mod Offsets
+pub mod Again
 pub mod Cues
 pub mod WrittenIdents
 pub mod WrittenPlaces
@@ -18,6 +20,7 @@ pub mod Written
 pub mod Writers
 pub mod Elements
 pub mod MatroskaFiles
+pub mod SegmentFiles
 pub mod Begun
 pub mod WrittenFiles
 pub mod Given

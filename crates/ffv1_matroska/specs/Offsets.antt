@@ -113,16 +113,16 @@ EntersFrom p (Err f) before after =
     (most count : ℕ) × OpeningStops (BeforeSegment most_elements) p f (BeforeSegment most) count
     × CountsOn before after count
 
--- the elements of a Segment before the frames: if these begin, `here` is the place where they do;
--- if an element was refused, it is the place before that
-abbrev pub BeginsFrom : Place → Passage → List ℕ → Result (Numbers × Place) FileFault → Place →
-    Type 0
-BeginsFrom place p bytes (Ok n) here =
-    (count : ℕ) × FramesBegin (InSegment None place) p (track_kept n.0 bytes) n.1 count
+-- the elements of a Segment before the frames, if these Tracks were before: if the frames begin,
+-- `here` is the place where they do; if an element was refused, it is the place before that
+abbrev pub BeginsFrom : Option Track → Place → Passage → List ℕ →
+    Result (Numbers × Place) FileFault → Place → Type 0
+BeginsFrom known place p bytes (Ok n) here =
+    (count : ℕ) × FramesBegin (InSegment known place) p (track_kept n.0 bytes) n.1 count
     × (place.cluster + place.group ≡ 0 → count + amount here ≡ amount place)
-BeginsFrom place p bytes (Err f) here =
+BeginsFrom known place p bytes (Err f) here =
     (found : Option Track) × (count : ℕ)
-    × OpeningStops (InSegment None place) p f (InSegment found here) count
+    × OpeningStops (InSegment known place) p f (InSegment found here) count
     × (place.cluster + place.group ≡ 0 → count + amount here ≡ amount place)
 
 -- a file up to its frames: the offset of what comes next; or of the element that was refused

@@ -73,10 +73,14 @@ begin_up_to zero found place = refused fault.NoTracks
 begin_up_to (suc most) found place =
     header_read place >>= element_or_begun (begin_up_to most) found place
 
--- the track and the place where its frames begin. Each element leaves less, and one more comes to
--- the end
+-- the track and the place where its frames begin, if these Tracks were before. Each element leaves
+-- less, and one more comes to the end
+abbrev pub begin_from : Option Track → Place → Reading (Track × Place)
+begin_from found place = begin_up_to (suc (amount place)) found place
+
+-- the same of a Segment from its beginning on
 abbrev pub begin_read : Place → Reading (Track × Place)
-begin_read place = begin_up_to (suc (amount place)) None place
+begin_read place = begin_from None place
 
 -- what is known of a file when its frames begin: its track, the size of its Segment and the place
 pub record Opened : Type 0 where

@@ -1,7 +1,7 @@
 -- Tracks (RFC 9559, 5.1.4), in memory: the first entry of FFV1 video.
 use Rattle.std.specs.Prelude.{ℕ, suc, zero, ◌+◌, ◌-◌, ◌^◌, ◌==◌, ◌&&◌, Bool, if◌then◌else◌, min}
 use Rattle.std.specs.Prelude.{nat_eq, nat_le, List, [], length, take, drop, codes, Option, Some}
-use Rattle.std.specs.Prelude.{None, Result, Ok, Err}
+use Rattle.std.specs.Prelude.{None, Result, Ok, Err, true, false}
 use lib.Pointwise.{pointwise}
 use Rattle.byteorder.specs.Endian.{little_number}
 use Rattle.ffv1_reads.specs.Bitmap.{is_ffv1, record_end}
@@ -116,7 +116,7 @@ track_of content config = found content_encodings content >>? plain
     (number_at pixel_width picture >>? λ width.
     (number_at pixel_height picture >>? λ height.
     Ok (record {
-      numbers = record { number = number; known = 0 };
+      numbers = record { number = number; known = 0; others = 0 };
       head = record {
         width = min width greatest;
         height = min height greatest;
@@ -187,13 +187,44 @@ known_up_to (suc most) known content =
 abbrev pub known_in : List ℕ → ℕ
 known_in content = known_up_to (length content) 0 content
 
-abbrev pub track_among : ℕ → Track → Track
-track_among known track =
+-- an element of Tracks is an entry of FFV1 video: its record was found. One that can't be read so
+-- far is none
+abbrev pub has_record : Found → Bool
+has_record (Ok (Some bytes)) = true
+has_record (Ok None) = false
+has_record (Err f) = false
+
+abbrev pub is_video : ℕ → List ℕ → Bool
+is_video ident content = if ident == entry then has_record (record_in content) else false
+
+-- how many there are, with one more element; it is held in 8 bytes
+abbrev pub videos_with : ℕ → ℕ → List ℕ → ℕ
+videos_with count ident content =
+    if is_video ident content then min (count + 1) (2 ^ 64 - 1) else count
+
+-- up to the first element that can't be read
+abbrev pub videos_or_on : (ℕ → List ℕ → ℕ) → ℕ → Result (Option Part) FileFault → ℕ
+videos_or_on on count (Ok (Some p)) = on (videos_with count p.ident p.content) p.rest
+videos_or_on on count (Ok None) = count
+videos_or_on on count (Err f) = count
+
+unfoldable pub videos_up_to : ℕ → ℕ → List ℕ → ℕ
+videos_up_to zero count content = count
+videos_up_to (suc most) count content =
+    videos_or_on (videos_up_to most) count (first_part content)
+
+-- how many entries of FFV1 video the content of Tracks has beside the first
+abbrev pub others_in : List ℕ → ℕ
+others_in content = videos_up_to (length content) 0 content - 1
+
+abbrev pub track_among : ℕ → ℕ → Track → Track
+track_among known others track =
     record {
-      numbers = record { number = track.numbers.number; known = known };
+      numbers = record { number = track.numbers.number; known = known; others = others };
       head = track.head;
     }
 
--- the track of the content of Tracks, with the numbers of all
+-- the track of the content of Tracks, with the numbers of all, and how many others are FFV1 video
 unfoldable pub track_in : List ℕ → Result Track FileFault
-track_in content = first_track content >>? λ track. Ok (track_among (known_in content) track)
+track_in content = first_track content >>? λ track.
+    Ok (track_among (known_in content) (others_in content) track)

@@ -10,7 +10,7 @@ ghost use Rattle.ffv1_reads.specs.Room.{HasRoom, RoomRead};
 ghost use Rattle.ffv1_reads.specs.declared.fault.FileFault.TheVariants as fault;
 ghost use Rattle.ffv1_matroska.specs.Internal.{found_kept, opened_kept, track_kept};
 ghost use Rattle.ffv1_matroska.specs.Offsets.{BeginsFrom, OpensFrom};
-ghost use Rattle.ffv1_matroska.specs.Opened.{begin_read, element_passed, in_cluster, open_read};
+ghost use Rattle.ffv1_matroska.specs.Opened.{begin_from, element_passed, in_cluster, open_read};
 ghost use Rattle.ffv1_matroska.specs.Opened.{tracks_or_passed, tracks_read};
 ghost use Rattle.ffv1_matroska.specs.Opening.{content_kept};
 ghost use Rattle.ffv1_matroska.specs.Places.{ended};
@@ -28,7 +28,7 @@ use ffv1_reads::{FileFault, append, fill, pass};
 use ffv1_wire::ByteIn;
 use std::alloc::Allocator;
 
-const TRACKS: u32 = 0x1654_AE6B;
+pub(crate) const TRACKS: u32 = 0x1654_AE6B;
 
 /// Reads so many bytes, at least one, in place of what the vector has, and makes room for as many
 /// in another vector, which is emptied, before the last of them is read. Both have room as
@@ -111,7 +111,7 @@ pub(crate) fn push_bytes<A: Allocator>(config: &mut Vec<u8, A>, bytes: &[u8])
 ///
 /// Faults as of `keep_tracks` and `read_track`, of which the latter come after all of Tracks.
 #[tactic(auto, unfolding(crate::specs::Opened::tracks_read))]
-fn read_tracks<R: ByteIn, A: Allocator>(
+pub(crate) fn read_tracks<R: ByteIn, A: Allocator>(
     input: &mut R,
     size: Option<u64>,
     content: &mut Vec<u8, A>,
@@ -143,7 +143,11 @@ fn read_tracks<R: ByteIn, A: Allocator>(
 ///
 /// `BadElement` if its size is unknown or it may not stand there, and then as `pass_content`.
 #[tactic(auto, unfolding(crate::specs::Opened::element_passed))]
-fn pass_element<R: ByteIn>(input: &mut R, ident: u32, size: Option<u64>) -> Result<(), FileFault>
+pub(crate) fn pass_element<R: ByteIn>(
+    input: &mut R,
+    ident: u32,
+    size: Option<u64>,
+) -> Result<(), FileFault>
     ensures { Answers (λ (_ : Unit {0}). tt) (element_passed ident size)
         (passage R.remaining R.failures input.old input.new) result }
 {
@@ -194,29 +198,33 @@ fn in_cluster(place: Place, size: Option<u64>) -> Place
 }
 
 /// Reads the elements of a Segment from a position on, up to where its frames begin: what its track
-/// says, with the record in place of what the vector `config` has, and the place.
+/// says, with the record in place of what the vector `config` has, and the place. If the track is
+/// `known`, with that record, Tracks are passed.
 ///
-/// `NoTracks` if no Tracks come before the first Cluster, or the end of the Segment; faults of the
-/// header of an element as of `next_header`, then as `read_tracks` and `pass_element`. `here` is
-/// then the place before the element that was refused, or where no more elements were read.
-fn read_beginning<R: ByteIn, A: Allocator>(
+/// `NoTracks` if it is not known and no Tracks come before the first Cluster, or the end of the
+/// Segment; faults of the header of an element as of `next_header`, then as `read_tracks` and
+/// `pass_element`. `here` is then the place before the element that was refused, or where no more
+/// elements were read.
+pub(crate) fn read_beginning<R: ByteIn, A: Allocator>(
     input: &mut R,
+    known: Option<Numbers>,
     place: Place,
     here: &mut Place,
     content: &mut Vec<u8, A>,
     config: &mut Vec<u8, A>,
 ) -> Result<(Numbers, Place), FileFault>
     ensures answer { AnswersOrFaults fault.NoTracks (λ (p : Track × Place). p.1 ≡ ended)
-        (λ (p : Numbers × Place). (track_kept p.0 config.new.items, p.1)) (begin_read place)
+        (λ (p : Numbers × Place). (track_kept p.0 config.new.items, p.1))
+        (begin_from (found_kept known config.old.items) place)
         (passage R.remaining R.failures input.old input.new) result }
     ensures grown { OnOk result (RoomRead (R.remaining input.old) (R.remaining input.new)
         (vec_capacity config.old) (vec_capacity config.new)) }
     ensures kept { OnOk result (RoomRead (R.remaining input.old) (R.remaining input.new)
         (vec_capacity content.old) (vec_capacity content.new)) }
-    ensures from { BeginsFrom place (passage R.remaining R.failures input.old input.new)
-        config.new.items result here.new }
+    ensures from { BeginsFrom (found_kept known config.old.items) place
+        (passage R.remaining R.failures input.old input.new) config.new.items result here.new }
 {
-    let mut found = None;
+    let mut found = known;
     *here = place;
     while let Some(element) = next_header(input, *here)? {
         let after = segment_at(*here, false, element.left);
@@ -264,7 +272,7 @@ pub(crate) fn read_opening<R: ByteIn, A: Allocator>(
     let size = enter_segment(input, offset)?;
     let begin = begin_segment(size);
     let mut here = begin;
-    let read = read_beginning(input, begin, &mut here, content, config);
+    let read = read_beginning(input, None, begin, &mut here, content, config);
     *offset = offset.saturating_add(passed(begin, here));
     let (numbers, place) = read?;
     Ok((size, numbers, place))

@@ -18,6 +18,7 @@
 //! ```
 #![tactic(auto)]
 
+pub mod again_laws;
 mod beginning;
 mod block;
 mod colour;
@@ -25,6 +26,7 @@ mod course;
 pub mod damage_laws;
 mod frames;
 mod items;
+mod late;
 pub mod laws;
 mod opening;
 mod outer_turn;

@@ -3,13 +3,14 @@
 ghost use Rattle.std.specs.Prelude.{◌≡◌, ◌<◌, ◌≤◌, Bool, List, [], true, false, Option, None, Some};
 ghost use Rattle.std.specs.Prelude.{IfErr, IfOk, OnErr, Ok, Err, length, max, ◌+◌, ◌*◌};
 ghost use Rattle.std.specs.Vec.{vec_capacity};
-ghost use Rattle.ffv1_wire.specs.Passage.{passage};
+ghost use Rattle.ffv1_wire.specs.Passage.{between, passage};
 ghost use Rattle.ffv1_reads.specs.Ends.{AnswersOrEnds, AnswersOrFaults, AnswersOrNone};
 ghost use Rattle.ffv1_reads.specs.First.{bytes_with, passage_with};
 ghost use Rattle.ffv1_reads.specs.Head.{head_of};
 ghost use Rattle.ffv1_reads.specs.Room.{HasRoom, RoomRead};
 ghost use Rattle.ffv1_reads.specs.declared.fault.FileFault.{FileFault};
 ghost use Rattle.ffv1_reads.specs.declared.fault.FileFault.TheVariants as fault;
+ghost use Rattle.ffv1_matroska.specs.Again.{AnswersAgain, RoomTwice, TwiceOpened};
 ghost use Rattle.ffv1_matroska.specs.Files.{frame_read};
 ghost use Rattle.ffv1_matroska.specs.Items.{ItemAnswers, course_at, item_read};
 ghost use Rattle.ffv1_matroska.specs.declared.items.Item.TheVariants as item;
@@ -27,10 +28,11 @@ use crate::beginning::read_opening;
 use crate::course::{Course, Pending};
 use crate::frames::read_frame;
 use crate::items::{Item, read_item};
+use crate::late::read_twice;
 use crate::place::{Place, ended, passed};
 use crate::track::TrackNumbers;
 use ffv1_reads::{FileFault, FileHead, look_behind};
-use ffv1_wire::ByteIn;
+use ffv1_wire::{AgainIn, ByteIn};
 use std::alloc::{Allocator, Global};
 use std::marker::Model;
 
@@ -91,31 +93,15 @@ impl<A: Allocator + Copy> MatroskaReader<A> {
         ensures room { IfOk result (λ r. RoomRead (R.remaining input.old)
             (R.remaining input.new) 0 r.room) }
     {
-        MatroskaReader::open_after(alloc, None, input)
-    }
-
-    /// The same of a file whose first byte was read before, if there was one.
-    pub fn open_after<R: ByteIn>(
-        alloc: A,
-        first: Option<u8>,
-        input: &mut R,
-    ) -> Result<MatroskaReader<A>, FileFault>
-        ensures answer { AnswersOrFaults fault.NoTracks HasEnded opened_at open_read
-            (passage_with first R.remaining R.failures input.old input.new) result }
-        ensures sound { IfOk result (λ r. r.fault ≡ None) }
-        ensures own { IfErr result (λ f. is_opening_fault f ≡ true) }
-        ensures room { IfOk result (λ r. RoomRead (bytes_with first (R.remaining input.old))
-            (R.remaining input.new) 0 r.room) }
-    {
         let mut offset = 0;
-        MatroskaReader::open_located(alloc, first, input, &mut offset)
+        MatroskaReader::open_located(alloc, None, input, &mut offset)
     }
 
-    /// The same, which says where in the file a fault is: `offset` is then the number of bytes
-    /// before the element at fault, counting the byte that was read before; no greater than 2^64 -
-    /// 1. That element is the header of EBML, a Void after it, the header of the Segment, or an
-    /// element of that; if the Segment ends before any Tracks, it is where the next element would
-    /// begin.
+    /// The same of a file of which the first byte may have been read before, if there was one; and
+    /// it says where in the file a fault is: `offset` is then the number of bytes before the
+    /// element at fault, counting the byte that was read before; no greater than 2^64 - 1. That
+    /// element is the header of EBML, a Void after it, the header of the Segment, or an element of
+    /// that; if the Segment ends before any Tracks, it is where the next element would begin.
     pub fn open_located<R: ByteIn>(
         alloc: A,
         first: Option<u8>,
@@ -138,6 +124,63 @@ impl<A: Allocator + Copy> MatroskaReader<A> {
         let (segment, numbers, place) = read_opening(
             first,
             input,
+            &mut content,
+            &mut config_record,
+            offset,
+        )?;
+        Ok(MatroskaReader {
+            head: FileHead {
+                width: numbers.width,
+                height: numbers.height,
+                rate: numbers.rate,
+                scale: numbers.scale,
+                colour: numbers.colour,
+                config_record,
+            },
+            track: numbers.numbers,
+            segment,
+            place,
+            fault: None,
+            offset: *offset,
+            end: offset.saturating_add(passed(place, ended())),
+            cued: false,
+        })
+    }
+}
+
+impl<A: Allocator + Copy> MatroskaReader<A> {
+    /// Reads a file twice from its beginning, since Tracks stand behind its first Cluster: up to
+    /// the end of the first Tracks, wherever these stand, and then up to where its frames begin.
+    /// The frames are those of the first track of the first Tracks that is FFV1 video. Up to the
+    /// Tracks a Cluster of known size is passed whole, and of one of unknown size each element.
+    /// Room for the record is made for at most as many bytes as were read.
+    ///
+    /// The input begins again where `start` says, so its bytes from there on are those of the file.
+    /// Faults as of `open_located`, with the offset: of `NoTracks` it is where the Segment ends.
+    /// `Read` too if the input could not begin again, and then the offset is 0.
+    pub fn open_again<R: AgainIn>(
+        alloc: A,
+        start: &R::Start,
+        input: &mut R,
+        offset: &mut u64,
+    ) -> Result<MatroskaReader<A>, FileFault>
+        ensures answer { AnswersAgain opened_at (R.remaining input.old) (between
+            (R.whole start.now) (R.remaining input.new) (R.failures input.old)
+            (R.failures input.new)) result }
+        ensures sound { IfOk result (λ r. r.fault ≡ None) }
+        ensures own { IfErr result (λ f. is_opening_fault f ≡ true) }
+        ensures room { IfOk result (λ r. RoomTwice (R.whole start.now) (R.remaining input.new) 0
+            r.room) }
+        ensures offset { TwiceOpened (between (R.whole start.now) (R.remaining input.new)
+            (R.failures input.old) (R.failures input.new)) result offset.new }
+        ensures end { IfOk result EndsThere }
+        ensures uncued { IfOk result (λ r. r.cued ≡ false) }
+    {
+        let mut content = Vec::new(alloc);
+        let mut config_record = Vec::new(alloc);
+        let (segment, numbers, place) = read_twice(
+            input,
+            start,
             &mut content,
             &mut config_record,
             offset,
@@ -192,6 +235,14 @@ impl<A: Allocator> MatroskaReader<A> {
         ensures { result ≡ self.now.end }
     {
         self.end
+    }
+
+    /// How many other tracks of Tracks are FFV1 video, which are not read. A count of 64 bits stays
+    /// at its greatest value.
+    pub fn others(&self) -> u64
+        ensures { result ≡ self.now.track.numbers.others }
+    {
+        self.track.others
     }
 
     /// Whether Cues came after the last Cluster before where the reader stands.

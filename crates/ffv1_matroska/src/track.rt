@@ -8,6 +8,7 @@ ghost use Rattle.ffv1_reads.specs.Bitmap.{record_end};
 ghost use Rattle.ffv1_matroska.specs.Tracks.{format_record};
 ghost use Rattle.ffv1_matroska.specs.Tracks.{content_at, is_format, number_at, record_in};
 ghost use Rattle.ffv1_matroska.specs.Tracks.{first_track, known_in, known_up_to, known_with};
+ghost use Rattle.ffv1_matroska.specs.Tracks.{is_video, others_in, videos_up_to, videos_with};
 ghost use Rattle.ffv1_matroska.specs.Tracks.{record_of, track_at, track_in, track_of, with_number};
 ghost use Rattle.ffv1_matroska.specs.Blocks.{bit_of, is_unknown};
 
@@ -45,6 +46,8 @@ pub(crate) struct TrackNumbers {
     /// The numbers of all tracks, of those up to 127: the sum of the powers of two that have them
     /// as exponents; and 1 where a number is above that.
     pub(crate) known: u128,
+    /// How many other tracks are FFV1 video, which are not read.
+    pub(crate) others: u64,
 }
 
 /// A track of FFV1 video: the number of its blocks, and what its head says.
@@ -173,7 +176,11 @@ fn track_of<'a>(content: &[u8], config_record: &'a [u8]) -> Result<Track<'a>, Fi
     let width = samples(number_at(video, PIXEL_WIDTH)?);
     let height = samples(number_at(video, PIXEL_HEIGHT)?);
     Ok(Track {
-        numbers: TrackNumbers { number, known: 0 },
+        numbers: TrackNumbers {
+            number,
+            known: 0,
+            others: 0,
+        },
         width,
         height,
         rate,
@@ -286,8 +293,56 @@ fn known_in(content: &[u8]) -> u128
     known
 }
 
+/// Whether an element of Tracks is an entry of FFV1 video. One of which a field can't be read that
+/// tells this is none.
+fn is_video(child: &Child<'_>) -> bool
+    ensures { result ≡ is_video child.now.ident child.now.content.now }
+{
+    if child.ident != TRACK_ENTRY {
+        return false;
+    }
+    match record_in(child.content) {
+        Ok(Some(_)) => true,
+        Ok(None) => false,
+        Err(_) => false,
+    }
+}
+
+/// How many entries are FFV1 video, with one more element of Tracks. A count of 64 bits stays at
+/// its greatest value.
+fn videos_with(count: u64, child: &Child<'_>) -> u64
+    ensures { result ≡ videos_with count child.now.ident child.now.content.now }
+{
+    if is_video(child) {
+        return count.saturating_add(1);
+    }
+    count
+}
+
+/// Counts the entries of FFV1 video of Tracks, up to the first element that can't be read.
+fn count_videos(content: &[u8], count: &mut u64) -> Result<(), FileFault>
+    ensures { count.new ≡ videos_up_to (length content.now) count.old content.now }
+{
+    let mut rest = content;
+    while let Some(child) = first_child(rest)? {
+        *count = videos_with(*count, &child);
+        rest = child.rest;
+    }
+    Ok(())
+}
+
+/// How many entries of FFV1 video Tracks have beside the first.
+fn others_in(content: &[u8]) -> u64
+    ensures { result ≡ others_in content.now }
+{
+    let mut count = 0;
+    let _ = count_videos(content, &mut count);
+    count.saturating_sub(1)
+}
+
 /// The track that the content of Tracks says, its first entry of FFV1 video, and the numbers of all
-/// entries up to the first element that can't be read. Faults as of `first_track`.
+/// entries up to the first element that can't be read, and how many others of these are FFV1 video.
+/// Faults as of `first_track`.
 #[tactic(auto, unfolding(crate::specs::Tracks::track_in))]
 pub(crate) fn read_track(content: &[u8]) -> Result<Track<'_>, FileFault>
     ensures value { tracks result ≡ track_in content.now }
@@ -298,6 +353,7 @@ pub(crate) fn read_track(content: &[u8]) -> Result<Track<'_>, FileFault>
         numbers: TrackNumbers {
             number: track.numbers.number,
             known: known_in(content),
+            others: others_in(content),
         },
         width: track.width,
         height: track.height,

@@ -150,8 +150,9 @@ pub static ROWS: [&str; 70] = [
      EBML or Segment whatever its size); a BlockGroup ends without a Block; or a block has a \
      number that no track has. It may also come later in the file.\n  Damage, or another file \
      after one whose Segment has no known size. Fetch another copy of the file.",
-    "82 NoTracks\n  A Cluster, or the end of the Segment, comes before any Tracks: some programs \
-     move Tracks to the end when they grow.\n  Write the file anew: mkvmerge -o new.mkv old.mkv.",
+    "82 NoTracks\n  The Segment has no Tracks. Or a Cluster comes before them, as some programs \
+     move Tracks to the end when they grow, and IN is no regular file, which could be read \
+     again.\n  Give the file by its path, or write it anew: mkvmerge -o new.mkv old.mkv.",
     "83 Encoded\n  The track is compressed or encrypted: it has ContentEncodings.\n  Write the \
      file anew, by mkvmerge's number of the track: mkvmerge -o new.mkv --compression 0:none \
      old.mkv.",

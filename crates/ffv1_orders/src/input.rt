@@ -16,20 +16,75 @@ use crate::progress::Watched;
 use crate::refusal::Refusal;
 use either::{Either, Left, Right};
 use ffv1_video::Fault;
-use ffv1_wire::{ByteIn, Failed, FromRead, PatchOut, ToFile, ToWrite};
+use ffv1_wire::{AgainIn, ByteIn, Failed, FromFile, FromRead, PatchOut, ToFile, ToWrite};
 use ffv1_words::is_hyphen;
 use std::alloc::Global;
-use std::fs;
 use std::fs::{Metadata, OpenFile};
-use std::io::{BufReader, Input};
+use std::io::{BufReader, ErrorKind, Input, Read, Seek, SeekFrom};
 use std::rt::Files;
 use std::time::Clock;
+use std::{fs, io};
+
+/// Standard input, which can't be sent to a place.
+#[derive(Drop)]
+pub struct Piped<R> {
+    inner: R,
+}
+
+impl<R: Read> Read for Piped<R> {
+    ghost remaining = { λ s. R.remaining s.inner };
+
+    fn read(&mut self, buf: &mut [u8]) -> io::Result<usize> {
+        self.inner.read(buf)
+    }
+}
+
+impl<R> Seek for Piped<R> {
+    fn seek(&mut self, _to: SeekFrom) -> io::Result<u64> {
+        Err(io::Error::from(ErrorKind::NotSeekable))
+    }
+}
+
+/// A file, or standard input.
+pub type Given<'a, H> = Noted<'a, Either<<H as Files>::File, Piped<<H as Input>::Reader>>>;
 
 /// A reader of a file, or of standard input.
-pub type Source<'a, H> = FromRead<Noted<'a, Either<<H as Files>::File, <H as Input>::Reader>>>;
+pub type Source<'a, H> = FromFile<Given<'a, H>>;
 
 /// Opens IN, and tells what it is if that is known: of `-`, standard input is opened. `Read`
 /// if it cannot be opened.
+fn open_given<'a, H: Files + Input>(
+    rt: &H,
+    path: &str,
+    met: &'a Met,
+) -> Result<(Given<'a, H>, Option<Metadata>), Fault>
+    ensures { IfErr result (λ f. f ≡ fault.Read) }
+{
+    if is_hyphen(path) {
+        let source = Noted::new(met, Right(Piped { inner: rt.reader() }));
+        return Ok((source, fs::metadata(rt, "/dev/stdin").ok()));
+    }
+    match fs::open(rt, path) {
+        Ok(file) => {
+            let metadata = file.metadata().ok();
+            Ok((Noted::new(met, Left(file)), metadata))
+        }
+        Err(error) => {
+            met.refused(&error);
+            Err(Fault::Read)
+        }
+    }
+}
+
+/// Whether a file can begin again: a regular one can, and standard input can't.
+fn begins_again(path: &str, metadata: &Option<Metadata>) -> bool {
+    match metadata {
+        Some(metadata) => metadata.is_file() && !is_hyphen(path),
+        None => false,
+    }
+}
+
+/// A reader of IN, as `open_given` opens it, and what it is if that is known.
 pub fn open_input<'a, H: Files + Input>(
     rt: &H,
     path: &str,
@@ -37,20 +92,9 @@ pub fn open_input<'a, H: Files + Input>(
 ) -> Result<(Source<'a, H>, Option<Metadata>), Fault>
     ensures { IfErr result (λ f. f ≡ fault.Read) }
 {
-    if is_hyphen(path) {
-        let source = FromRead::new(Noted::new(met, Right(rt.reader())));
-        return Ok((source, fs::metadata(rt, "/dev/stdin").ok()));
-    }
-    match fs::open(rt, path) {
-        Ok(file) => {
-            let metadata = file.metadata().ok();
-            Ok((FromRead::new(Noted::new(met, Left(file))), metadata))
-        }
-        Err(error) => {
-            met.refused(&error);
-            Err(Fault::Read)
-        }
-    }
+    let (given, metadata) = open_given(rt, path, met)?;
+    let begins = begins_again(path, &metadata);
+    Ok((FromFile::new(given, begins), metadata))
 }
 
 /// Wraps a reader of IN so that it tells how much was read, if that is asked for.
@@ -69,9 +113,7 @@ pub fn watched<'a, H: Files + Input + Eprint + Clock>(
 }
 
 /// A reader of a list, which reads more at a time than a list is asked for.
-pub type ListSource<'a, H> = FromRead<
-    BufReader<Noted<'a, Either<<H as Files>::File, <H as Input>::Reader>>>,
->;
+pub type ListSource<'a, H> = FromRead<BufReader<Given<'a, H>>>;
 
 /// A writer of OUT, which is written over if it is a regular file.
 pub type Written<'a, H> = ToFile<ToWrite<Target<'a, H>>>;
@@ -79,7 +121,7 @@ pub type Written<'a, H> = ToFile<ToWrite<Target<'a, H>>>;
 /// What opens files, and makes them.
 pub trait Opens {
     /// What reads a file.
-    type Reader: ByteIn + Drop;
+    type Reader: AgainIn + Drop;
 
     /// What reads a list.
     type Lines: ByteIn + Drop;
@@ -163,8 +205,8 @@ impl<'a, H: Files + Input + Print + Eprint + Clock> Opens for SystemFiles<'a, H>
     }
 
     fn open_list(&self, alloc: Global, path: &str) -> Result<ListSource<'a, H>, Fault> {
-        let (source, _) = open_input(self.rt, path, self.met)?;
-        match BufReader::new(alloc, source.into_inner()) {
+        let (given, _) = open_given(self.rt, path, self.met)?;
+        match BufReader::new(alloc, given) {
             Ok(buffered) => Ok(FromRead::new(buffered)),
             Err(_) => Err(Fault::OutOfMemory),
         }
@@ -222,5 +264,37 @@ impl<R: ByteIn> ByteIn for Again<R> {
         buf[0] = byte;
         self.first = None;
         Ok(1)
+    }
+}
+
+/// What is kept of such a reader where it stood: the byte that it gives, and where the other one
+/// stood.
+#[derive(Drop)]
+pub struct AgainStart<S> {
+    first: Option<u8>,
+    inner: S,
+}
+
+impl<R: AgainIn> AgainIn for Again<R> {
+    type Start = AgainStart<R::Start>;
+
+    ghost begins = { λ s. R.begins s.inner };
+
+    ghost whole = { λ s. prepend_known (option_to_list s.first) (R.whole s.inner) };
+
+    fn start(&self) -> Option<AgainStart<R::Start>> {
+        match self.inner.start() {
+            Some(inner) => Some(AgainStart {
+                first: self.first,
+                inner,
+            }),
+            None => None,
+        }
+    }
+
+    fn again(&mut self, start: &AgainStart<R::Start>) -> Result<(), Failed> {
+        self.inner.again(&start.inner)?;
+        self.first = start.first;
+        Ok(())
     }
 }

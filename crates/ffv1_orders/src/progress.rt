@@ -3,7 +3,7 @@
 ghost use Rattle.std.specs.Prelude.{◌≡◌};
 
 use crate::met::Met;
-use ffv1_wire::{ByteIn, Failed};
+use ffv1_wire::{AgainIn, ByteIn, Failed};
 use std::fmt;
 use std::time::{Clock, Instant};
 
@@ -13,8 +13,8 @@ const PAUSE: u64 = 1;
 const MEBIBYTE: u64 = 1048576;
 
 /// A reader that gives the bytes and the failures of another one, and tells at most once a second
-/// how much was read. If the clock fails it prints nothing, and a line that cannot be printed is
-/// left out.
+/// how much was read since it began, or began again. If the clock fails it prints nothing, and a
+/// line that cannot be printed is left out.
 #[derive(Drop)]
 pub struct Watched<'a, R, P> {
     inner: R,
@@ -24,6 +24,8 @@ pub struct Watched<'a, R, P> {
     begun: Option<Instant>,
     // How many seconds it had been there when it printed last; 0 if it has not.
     told: u64,
+    // The same, of when it began again; 0 if it has not.
+    since: u64,
     // How many bytes there are, if that is known.
     size: Option<u64>,
     read: u64,
@@ -51,6 +53,7 @@ impl<'a, R, P: Eprint + Clock> Watched<'a, R, P> {
             met,
             begun,
             told: 0,
+            since: 0,
             size,
             read: 0,
         }
@@ -74,7 +77,7 @@ impl<'a, R, P: Eprint + Clock> Watched<'a, R, P> {
                 read: self.read,
                 size: self.size,
                 frames: self.met.frames(),
-                seconds,
+                seconds: seconds.saturating_sub(self.since),
             };
             let _ = eprintln!(self.rt; "ffv1: {so_far}");
         }
@@ -120,5 +123,37 @@ impl<R: ByteIn, P: Eprint + Clock> ByteIn for Watched<'_, R, P> {
         let count = self.inner.read(buf)?;
         self.count(count as u64);
         Ok(count)
+    }
+}
+
+/// What is kept of such a reader where it stood: how much was read, and where the other one stood.
+#[derive(Drop)]
+pub struct WatchedStart<S> {
+    inner: S,
+    read: u64,
+}
+
+impl<R: AgainIn, P: Eprint + Clock> AgainIn for Watched<'_, R, P> {
+    type Start = WatchedStart<R::Start>;
+
+    ghost begins = { λ s. R.begins s.inner };
+
+    ghost whole = { λ s. R.whole s.inner };
+
+    fn start(&self) -> Option<WatchedStart<R::Start>> {
+        match self.inner.start() {
+            Some(inner) => Some(WatchedStart {
+                inner,
+                read: self.read,
+            }),
+            None => None,
+        }
+    }
+
+    fn again(&mut self, start: &WatchedStart<R::Start>) -> Result<(), Failed> {
+        self.inner.again(&start.inner)?;
+        self.read = start.read;
+        self.since = self.told;
+        Ok(())
     }
 }

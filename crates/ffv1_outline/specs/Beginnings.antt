@@ -5,26 +5,27 @@ use Rattle.std.specs.Prelude.{Option, Some, None, ⊤}
 use Rattle.std.specs.Io.KnownBytes.{prepend_known}
 use Rattle.ffv1_wire.specs.Failures.{one_more}
 use Rattle.ffv1_outline.specs.declared.beginning.Beginning.{Beginning}
+use Rattle.ffv1_outline.specs.declared.beginning.BeginningStart.{BeginningStart}
 
 -- the bytes that are kept
-abbrev pub kept : {R A : Type 0} → Beginning R A → List ℕ
-kept b = b.bytes.items
+abbrev pub kept : {R : Type 0} → Beginning R → List ℕ
+kept b = b.bytes.now
 
 -- the reader that gives the bytes after them
-abbrev pub inner_of : {R A : Type 0} → Beginning R A → R
+abbrev pub inner_of : {R : Type 0} → Beginning R → R
 inner_of b = b.inner
 
 -- a read failed after them, and is to fail once more there
-abbrev pub is_broken : {R A : Type 0} → Beginning R A → Bool
+abbrev pub is_broken : {R : Type 0} → Beginning R → Bool
 is_broken b = b.fails
 
 -- how many reads failed, modulo 2 ^ 64
-abbrev pub failures_of : {R A : Type 0} → Beginning R A → ℕ
+abbrev pub failures_of : {R : Type 0} → Beginning R → ℕ
 failures_of b = b.failures
 
 -- the bytes that reads will give, by what shows those of the reader inside
-abbrev pub left_of : {R A : Type 0} → (R → Option (List ℕ)) → Beginning R A → Option (List ℕ)
-left_of remaining b = prepend_known (drop b.given b.bytes.items) (remaining b.inner)
+abbrev pub left_of : {R : Type 0} → (R → Option (List ℕ)) → Beginning R → Option (List ℕ)
+left_of remaining b = prepend_known (drop b.given b.bytes.now) (remaining b.inner)
 
 -- the most bytes that are kept
 abbrev pub most : ℕ
@@ -44,14 +45,29 @@ failures_behind true before = one_more before
 
 -- a read fails where the kept bytes end: once, if a read of the reader inside failed there before;
 -- or since one does now
-abbrev pub Fails : {R A : Type 0} → (R → ℕ) → Beginning R A → Beginning R A → Type 0
+abbrev pub Fails : {R : Type 0} → (R → ℕ) → Beginning R → Beginning R → Type 0
 Fails failures old new =
-    (length old.bytes.items ≤ old.given) × (new.fails ≡ false)
+    (length old.bytes.now ≤ old.given) × (new.fails ≡ false)
     × ((old.fails ≡ true) ⊎ (failures new.inner ≡ one_more (failures old.inner)))
 
 -- a read that gives bytes, or none at the end: none failed for it, and the one that failed where
 -- the kept bytes end is not passed over
-abbrev pub Gives : {R A : Type 0} → (R → ℕ) → Beginning R A → Beginning R A → Type 0
+abbrev pub Gives : {R : Type 0} → (R → ℕ) → Beginning R → Beginning R → Type 0
 Gives failures old new =
-    (new.fails ≡ old.fails) × (length old.bytes.items ≤ old.given → old.fails ≡ false)
+    (new.fails ≡ old.fails) × (length old.bytes.now ≤ old.given → old.fails ≡ false)
     × (failures new.inner ≡ failures old.inner)
+
+-- where a reader stands, as it is kept: among which bytes, how many of them were given, and whether
+-- a read is to fail where they end
+abbrev pub StandsAt : {R S : Type 0} → Beginning R → BeginningStart S → Type 0
+StandsAt b start =
+    (start.bytes.now ≡ b.bytes.now) × (start.given ≡ b.given) × (start.fails ≡ b.fails)
+
+-- the bytes that reads gave from there on, by what shows those of the reader inside
+abbrev pub whole_of : {S : Type 0} → (S → Option (List ℕ)) → BeginningStart S → Option (List ℕ)
+whole_of whole start = prepend_known (drop start.given start.bytes.now) (whole start.inner)
+
+-- it stays where it stood
+abbrev pub StaysThere : {R : Type 0} → Beginning R → Beginning R → Type 0
+StaysThere old new =
+    (new.bytes.now ≡ old.bytes.now) × (new.given ≡ old.given) × (new.fails ≡ old.fails)

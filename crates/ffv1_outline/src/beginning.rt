@@ -1,27 +1,27 @@
 //! The beginning of an input, kept in memory while the input is read.
 
-ghost use Rattle.std.specs.Prelude.{◌≡◌, ◌≤◌, ◌<◌, IfOk, OnErr, OnOk, drop, false, length, min};
-ghost use Rattle.std.specs.Prelude.{take, true};
+ghost use Rattle.std.specs.Prelude.{◌≡◌, ◌≤◌, ◌<◌, IfOk, IfSome, OnErr, OnOk, drop, false, is_some};
+ghost use Rattle.std.specs.Prelude.{length, min, take, true};
 ghost use Rattle.std.specs.Io.{ReadsAtMost};
 ghost use Rattle.std.specs.Io.KnownBytes.{Consumes, IsAtEnd, Keeps, ReadConsumes, prepend_known};
 ghost use Rattle.ffv1_wire.specs.Failures.{Counted};
-ghost use Rattle.ffv1_outline.specs.Beginnings.{Fails, Gives, IsBeginning, failures_behind};
-ghost use Rattle.ffv1_outline.specs.Beginnings.{failures_of, inner_of, is_broken, kept, left_of};
-ghost use Rattle.ffv1_outline.specs.Beginnings.{most};
+ghost use Rattle.ffv1_outline.specs.Beginnings.{Fails, Gives, IsBeginning, StandsAt, StaysThere};
+ghost use Rattle.ffv1_outline.specs.Beginnings.{failures_behind, failures_of, inner_of, is_broken};
+ghost use Rattle.ffv1_outline.specs.Beginnings.{kept, left_of, most, whole_of};
 
-use ffv1_wire::{ByteIn, Failed};
-use std::alloc::{AllocError, Allocator, Global};
+use ffv1_wire::{AgainIn, ByteIn, Failed};
+use std::alloc::{AllocError, Allocator};
 
 /// The most bytes that are kept.
 const MOST: usize = 1048576;
 
-/// A reader that gives what another one has, and keeps the beginning of that: its first 1048576
-/// bytes, or all if it has fewer. If a read fails before, it keeps those that were read until then;
+/// A reader that gives what another one has, of which the beginning is kept: its first 1048576
+/// bytes, or all if it has fewer. If a read fails before, those are kept that were read until then;
 /// a read of this one then fails once where they end, and the next one goes on. It counts its own
 /// failures.
 #[derive(Drop)]
-pub struct Beginning<R, A: Allocator = Global> {
-    bytes: Vec<u8, A>,
+pub struct Beginning<'a, R> {
+    bytes: &'a [u8],
     given: usize,
     fails: bool,
     failures: u64,
@@ -64,12 +64,16 @@ fn give(bytes: &[u8], buf: &mut [u8]) -> usize
     len
 }
 
-impl<R: ByteIn + Drop, A: Allocator> Beginning<R, A> {
-    /// Reads and keeps the beginning of what a reader has. Of the reader that this makes no read
-    /// has failed yet, even if one of the other one did.
+impl<'a, R: ByteIn + Drop> Beginning<'a, R> {
+    /// Reads the beginning of what a reader has, and keeps it in `bytes`, in the place of what
+    /// stood there. Of the reader that this makes no read has failed yet, even if one of the other
+    /// one did.
     ///
     /// An error is memory that was refused; then nothing was read.
-    pub fn new(alloc: A, inner: R) -> Result<Beginning<R, A>, AllocError>
+    pub fn new<A: Allocator>(
+        bytes: &'a mut Vec<u8, A>,
+        inner: R,
+    ) -> Result<Beginning<'a, R>, AllocError>
         ensures begins { IfOk result
             (λ b. IsBeginning (R.remaining inner) (is_broken b) (kept b)) }
         ensures few { IfOk result (λ b. length (kept b) ≤ most) }
@@ -78,13 +82,12 @@ impl<R: ByteIn + Drop, A: Allocator> Beginning<R, A> {
             ≡ failures_behind (is_broken b) (R.failures inner)) }
         ensures none { IfOk result (λ b. failures_of b ≡ 0) }
     {
-        let mut bytes = Vec::new(alloc);
         bytes.resize(MOST, 0)?;
         let mut inner = inner;
         let (len, fails) = read_until(&mut inner, bytes.as_mut_slice());
         bytes.truncate(len);
         Ok(Beginning {
-            bytes,
+            bytes: bytes.as_slice(),
             given: 0,
             fails,
             failures: 0,
@@ -93,17 +96,17 @@ impl<R: ByteIn + Drop, A: Allocator> Beginning<R, A> {
     }
 }
 
-impl<R, A: Allocator> Beginning<R, A> {
+impl<R> Beginning<'_, R> {
     /// The bytes that are kept, whatever was read of them since.
     pub fn bytes(&self) -> &[u8]
         ensures { result.now ≡ kept self.now }
     {
-        self.bytes.as_slice()
+        self.bytes
     }
 }
 
-impl<R: ByteIn, A: Allocator> ByteIn for Beginning<R, A> {
-    ghost remaining = { λ s. prepend_known (drop s.given s.bytes.items) (R.remaining s.inner) };
+impl<R: ByteIn> ByteIn for Beginning<'_, R> {
+    ghost remaining = { λ s. prepend_known (drop s.given s.bytes.now) (R.remaining s.inner) };
 
     ghost failures = { λ s. s.failures };
 
@@ -132,5 +135,61 @@ impl<R: ByteIn, A: Allocator> ByteIn for Beginning<R, A> {
                 Err(Failed)
             }
         }
+    }
+}
+
+/// What is kept of such a reader where it stood: how many of the kept bytes were given, whether a
+/// read was still to fail where they end, and where the reader inside stood.
+#[derive(Drop)]
+pub struct BeginningStart<'a, S> {
+    bytes: &'a [u8],
+    given: usize,
+    fails: bool,
+    inner: S,
+}
+
+/// It begins again if the reader inside can, which then stands where it stood: the kept bytes that
+/// were not given yet are given once more before, and if a read was still to fail where they end,
+/// one fails there once more.
+impl<'a, R: AgainIn> AgainIn for Beginning<'a, R> {
+    type Start = BeginningStart<'a, R::Start>;
+
+    ghost begins = { λ s. R.begins s.inner };
+
+    ghost whole = { λ s. prepend_known (drop s.given s.bytes.now) (R.whole s.inner) };
+
+    fn start(&self) -> Option<BeginningStart<'a, R::Start>>
+        ensures able { is_some result ≡ R.begins (inner_of self.now) }
+        ensures there { IfSome result (λ start. whole_of R.whole start ≡
+            left_of R.remaining self.now) }
+        ensures stands { IfSome result (StandsAt self.now) }
+    {
+        match self.inner.start() {
+            Some(inner) => Some(BeginningStart {
+                bytes: self.bytes,
+                given: self.given,
+                fails: self.fails,
+                inner,
+            }),
+            None => None,
+        }
+    }
+
+    fn again(&mut self, start: &BeginningStart<'a, R::Start>) -> Result<(), Failed>
+        ensures done { OnOk result (left_of R.remaining self.new ≡ whole_of R.whole start.now) }
+        ensures kept { OnErr result
+            (left_of R.remaining self.new ≡ left_of R.remaining self.old) }
+        ensures counted { Counted (failures_of self.old) (failures_of self.new) result }
+        ensures stands { OnOk result (StandsAt self.new start.now) }
+        ensures stays { OnErr result (StaysThere self.old self.new) }
+    {
+        if self.inner.again(&start.inner).is_err() {
+            self.failures = self.failures.wrapping_add(1);
+            return Err(Failed);
+        }
+        self.bytes = start.bytes;
+        self.given = start.given;
+        self.fails = start.fails;
+        Ok(())
     }
 }

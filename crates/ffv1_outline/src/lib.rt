@@ -7,7 +7,8 @@
 //! they say: what holds the video, which application wrote it, how long it is, and its tracks.
 //!
 //! ```text
-//! let mut input = Beginning::new(alloc, input)?;
+//! let mut kept = Vec::new(alloc);
+//! let mut input = Beginning::new(&mut kept, input)?;
 //! push_outline(&mut text, Form::Text, input.bytes())?;
 //! ```
 #![tactic(auto)]
@@ -22,6 +23,6 @@ mod parts;
 mod strings;
 mod tracks;
 
-pub use beginning::Beginning;
+pub use beginning::{Beginning, BeginningStart};
 pub use facts::Form;
 pub use outline::push_outline;

@@ -13,8 +13,8 @@
 //! let again = sample_from(predict(&around), flip, residual, 8);
 //! ```
 //!
-//! Samples of more than 9 bits have `predict_in`, since 16 bits are predicted by signed numbers,
-//! `residual_of_bits` and `sample_of_bits`.
+//! Samples of more than 9 bits have `residual_of_bits` and `sample_of_bits`, and those of 16 bits
+//! `predict_signed`, since they are predicted by signed numbers.
 //!
 //! Samples of up to 17 bits lie in a `WideAround`: `wide_residual` and `wide_sample` have the
 //! prediction in themselves, and `low_around` gives what has the context of the place.
@@ -37,7 +37,7 @@ pub use early::{BLOCK, BlockRows, Early, sample_signed};
 pub use fault::Fault;
 pub use lanes::{AroundLanes, choose_lanes, choose_lanes_of_bits};
 pub use of_bits::{residual_of_bits, sample_of_bits};
-pub use prediction::{Around, predict, predict_in, predict_late, predict_signed};
+pub use prediction::{Around, predict, predict_late, predict_signed};
 pub use quantisation::{
     QuantSet, SetLanes, context, context_by_three_tables, early_sum, late_context,
 };

@@ -2,7 +2,7 @@
 
 ghost use Rattle.std.specs.Prelude.{◌≡◌, ◌≤◌, min, max};
 ghost use Rattle.ffv1_plane.specs.declared.prediction.Around.{Around};
-ghost use Rattle.ffv1_plane.specs.Prediction.{predicted, predicted_signed, predicted_in};
+ghost use Rattle.ffv1_plane.specs.Prediction.{predicted, predicted_signed};
 
 /// The samples around a sample, as RFC 9043, 3.1 and 3.2 names them: left, top, top left, top
 /// right, two to the left and two above.
@@ -58,16 +58,4 @@ pub fn predict_signed(around: &Around) -> i32
         ..*around
     };
     predict(&raised) - 32768
-}
-
-/// The prediction of a sample among samples of `bits` bits (RFC 9043, 3.3): at 16 bits that of
-/// `predict_signed`, else that of `predict`.
-#[inline(always)]
-pub fn predict_in(around: &Around, bits: u8) -> i32
-    ensures { result ≡ predicted_in bits around.now }
-{
-    if bits == 16 {
-        return predict_signed(around);
-    }
-    predict(around)
 }

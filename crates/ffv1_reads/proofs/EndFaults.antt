@@ -22,7 +22,7 @@ stops_last {whole = whole} {old = old} {now = now} r new x h stops =
       is = h.leads stops.bytes ∙ stops.is;
     }
 
-faults_last : {X : Type 0} {whole : Reading X} {old now : Option (List ℕ)} {before after : ℕ} (r : Reading X) (new : Option (List ℕ)) (f : FileFault) → Goes whole old before r now after → FaultsAtEnd r now new f → FaultsAtEnd whole old new f
+pub faults_last : {X : Type 0} {whole : Reading X} {old now : Option (List ℕ)} {before after : ℕ} (r : Reading X) (new : Option (List ℕ)) (f : FileFault) → Goes whole old before r now after → FaultsAtEnd r now new f → FaultsAtEnd whole old new f
 faults_last {whole = whole} {old = old} {now = now} r new f h why =
     record {
       bytes = h.bytes ++ why.bytes;

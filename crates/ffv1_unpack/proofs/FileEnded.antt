@@ -45,10 +45,10 @@ module _ (profile : Profile) (i0 i1 i2 i3 : Option (List ℕ)) (ib im ia ic : �
     (cues : CuedBy (cued_left r.place (course_of r) false) i1 i2 cued) where
   -- how what stands there is read
   looked_there : (Looked : ℕ → Looks) (at left rest : List ℕ) → cued ≡ cued_left r.place (course_of r) false at → Looked r.end (items_noted r cued) left rest →
-      Looked (ends_at r.place r.offset) (notes_read r.place (ends_at r.place r.offset) (cued_left r.place (course_by r.place r.offset) false at) r.after r.repeated) left rest
+      Looked (ends_at r.place r.offset) (notes_read r.place (ends_at r.place r.offset) (cued_left r.place (course_by r.place r.offset) false at) r.after r.repeated r.others) left rest
   looked_there Looked at left rest same looked =
-      subst (λ e. Looked e (notes_read r.place e (cued_left r.place (course_by r.place r.offset) false at) r.after r.repeated) left rest) (end_at r.place r.offset r.end segment stands.ends)
-      (subst (λ b. Looked r.end (notes_read r.place r.end b r.after r.repeated) left rest) same looked)
+      subst (λ e. Looked e (notes_read r.place e (cued_left r.place (course_by r.place r.offset) false at) r.after r.repeated r.others) left rest) (end_at r.place r.offset r.end segment stands.ends)
+      (subst (λ b. Looked r.end (notes_read r.place r.end b r.after r.repeated r.others) left rest) same looked)
 
   pub end_known : (is : List Given) (Looked : ℕ → Looks) (o0 o1 o2 o3 : Option (List ℕ)) → Known o0 o1 (λ file rest. open_read (scope_in profile) file ≡ Ok ((r.head, r.place), rest)) → PlaceReached (scope_in profile) o0 o1 r.head r.place r.offset →
       CuedBy (cued_left r.place (course_of r) false) o1 o2 cued → Known o1 o2 (ItemsFrom r.place (course_of r) is (ItemsOver (length is))) → Known o2 o3 (λ text rest. Looked r.end (items_noted r cued) text rest) → Known o0 o3 (ItemsEnd profile r.head is Looked)
@@ -56,7 +56,7 @@ module _ (profile : Profile) (i0 i1 i2 i3 : Option (List ℕ)) (ib im ia ic : �
   end_known is Looked (Some file) None o2 o3 known reached same has looked = absurd known
   end_known is Looked (Some file) (Some at) None o3 known reached same has looked = absurd has
   end_known is Looked (Some file) (Some at) (Some left) None known reached same has looked = absurd looked
-  end_known is Looked (Some file) (Some at) (Some left) (Some rest) known reached same has looked = (r.place, r.offset, at, left, r.after, r.repeated, known, reached, has, looked_there Looked at left rest same looked)
+  end_known is Looked (Some file) (Some at) (Some left) (Some rest) known reached same has looked = (r.place, r.offset, at, left, r.after, r.repeated, r.others, known, reached, has, looked_there Looked at left rest same looked)
 
   module _ (place : Bool) (o0 o1 o2 : Option (List ℕ)) (ob om oa : ℕ) (xs : List JudgedItem) (counts : JudgedCounts) (were : AreItemCounts counts xs) (all : ItemsAll (ItemsFrom r.place (course_of r)) a place (between i1 i2 im ia) (between o0 o1 ob om) xs) where
     abbrev lines : List JudgedItem → List ℕ

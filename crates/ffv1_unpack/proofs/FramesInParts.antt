@@ -75,23 +75,29 @@ none_behind to at left (m ∷ ms) last rest over h =
 over_behind : (to : Place) (at left : List ℕ) (more : List (List ℕ)) (last : Place) (rest : List ℕ) (notes : Notes) → NextOver notes to at left → ReadsFrames to at more last rest → more ≡ []
 over_behind to at left more last rest notes over h = none_behind to at over.0 more last rest over.1.0 h
 
-pub range_payloads : (profile : Profile) (head other : Head) (first : ℕ) (most : Option ℕ) (held some : List (List ℕ)) (file rest left : List ℕ) → RangeThen profile 0 head held FramesEnd file rest →
-    (notes : Notes) → RangeThen profile first other some (NextBehind notes most (length some)) file left →
-    (before : List (List ℕ)) × (more : List (List ℕ)) × (length before ≡ first) × (held ≡ before ++ (some ++ more)) × (other ≡ head) × (has_more most (length some) ≡ true → more ≡ [])
-range_payloads profile head other first most held some file rest left whole notes part =
+regrouped : (held before some more : List (List ℕ)) → held ≡ (before ++ some) ++ more → held ≡ before ++ (some ++ more)
+regrouped held before some more is = is ∙ append_assoc before some more
+
+-- payloads that come after others are those that the file has there
+pub payloads_behind : (profile : Profile) (head other : Head) (most : Option ℕ) (n : ℕ) (before held some : List (List ℕ)) (file rest left : List ℕ) → RangeThen profile 0 head held FramesEnd file rest →
+    (notes : Notes) → FileThen profile other (before ++ some) (NextBehind notes most n) file left → (more : List (List ℕ)) × (held ≡ before ++ (some ++ more)) × (other ≡ head) × (has_more most n ≡ true → more ≡ [])
+payloads_behind profile head other most n before held some file rest left whole notes p =
     let w = subst (λ b. FileThen profile head (b ++ held) FramesEnd file rest) (no_items whole.0 whole.1) whole.2 in
-    let before = part.0 in
-    let p = part.2 in
     let same = ok_is ((other, p.0), p.1) ((head, w.0), w.1) (sym p.2 ∙ w.2) in
     let heads : other ≡ head = ap (λ (z : (Head × Place) × List ℕ). z.0.0) same in
     let place : p.0 ≡ w.0 = ap (λ (z : (Head × Place) × List ℕ). z.0.1) same in
     let behind : p.1 ≡ w.1 = ap (λ (z : (Head × Place) × List ℕ). z.1) same in
     let reads = subst (λ l. ReadsFrames l w.1 (before ++ some) p.3.0 p.3.1) place (subst (λ t. ReadsFrames p.0 t (before ++ some) p.3.0 p.3.1) behind p.3.2) in
     let r = frames_begin w.0 w.1 (before ++ some) p.3.0 p.3.1 held w.3.0 w.3.1 rest reads w.3.2 w.3.3 in (
-      before,
       r.0,
-      part.1,
-      r.1 ∙ append_assoc before some r.0,
+      regrouped held before some r.0 r.1,
       heads,
       λ room. over_behind p.3.0 p.3.1 left r.0 w.3.0 w.3.1 notes (subst (λ b. NextBehindBy notes b p.3.0 p.3.1 left) room p.3.3) r.2,
     )
+
+pub range_payloads : (profile : Profile) (head other : Head) (first : ℕ) (most : Option ℕ) (held some : List (List ℕ)) (file rest left : List ℕ) → RangeThen profile 0 head held FramesEnd file rest →
+    (notes : Notes) → RangeThen profile first other some (NextBehind notes most (length some)) file left →
+    (before : List (List ℕ)) × (more : List (List ℕ)) × (length before ≡ first) × (held ≡ before ++ (some ++ more)) × (other ≡ head) × (has_more most (length some) ≡ true → more ≡ [])
+range_payloads profile head other first most held some file rest left whole notes part =
+    let b = payloads_behind profile head other most (length some) part.0 held some file rest left whole notes part.2 in
+    (part.0, b.0, part.1, b.1, b.2, b.3)

@@ -17,13 +17,13 @@ use Rattle.ffv1_video.specs.Faults.{Cause}
 use Rattle.ffv1_video.specs.Faults.Cause.{Reading, Writing, Memory, Content}
 use Rattle.ffv1_video.specs.Profiles.{scope_in}
 use Rattle.ffv1_unpack.specs.Internal.Containers.{IsWithin}
-use Rattle.ffv1_unpack.specs.Internal.Opens.{OpensRange, OpensStream, ReachesRange, stream_of}
+use Rattle.ffv1_unpack.specs.Internal.Opens.{OpensPart, OpensRange, OpensStream, ReachesPart, ReachesRange, stream_of}
 use Rattle.ffv1_unpack.specs.Internal.Passing.{Passes, PassesThen, PassingStopsBy}
 use Rattle.ffv1_unpack.specs.Internal.Play.{ReadsEnd, ReadsPayload}
 use Rattle.ffv1_unpack.specs.Internal.Told.{StopsFromBy}
 use Rattle.ffv1_unpack.specs.Plays.{HasThen, NextHasFault, NextOver, NextPayloadLacks, NextReadFails}
 use Rattle.ffv1_unpack.specs.Ranges.{PassStopsBy, PassedThen, RangeThen}
-use Rattle.ffv1_unpack.specs.Stream.{IsStream, ReadsFrames}
+use Rattle.ffv1_unpack.specs.Stream.{IsStream, ReadsFrames, last_bytes}
 use Rattle.ffv1_unpack.proofs.FilePlayed.{file_has}
 use Rattle.ffv1_unpack.proofs.FramesInTurn.{reads_more, reads_none}
 use Rattle.ffv1_unpack.proofs.FramesPlayed.{has_then}
@@ -104,7 +104,25 @@ module _ (profile : Profile) (first : ℕ) (i0 i1 i2 : Option (List ℕ)) (ib im
     kept = passes.kept ∙ opens.kept;
   }
 
-reads_behind : (from : Place) (text : List ℕ) (ps : List (List ℕ)) (to : Place) (at : List ℕ) (qs : List (List ℕ)) (last : Place) (rest : List ℕ) → ReadsFrames from text ps to at → ReadsFrames to at qs last rest →
+  -- the same, and the last payload that has bytes was kept
+  pub opens_part : (last : Standing) (b : Accepted) (ps : List (List ℕ)) (carried : List ℕ) → length ps ≡ first → Passes r.place last.place (between i1 i2 im ia) ps → carried ≡ last_bytes ps → last.head ≡ r.head → b ≡ a →
+      container_of last.place ≡ container_of r.place → last.fault ≡ None → OpensPart profile first carried last b (between i0 i2 ib ia)
+  opens_part last b ps carried counted passes is head same container sound =
+      let ranges = opens_range last b ps counted passes head same container sound in
+      record {
+        stream = ranges.stream;
+        known =
+            subst (λ (z : Head). Known i0 i2 (ReachesPart profile first carried z last.place)) (sym head)
+            (known_map i0 i2 (λ file rest. (left : List ℕ) × (open_read (scope_in profile) file ≡ Ok ((r.head, r.place), left)) × ReadsFrames r.place left ps last.place rest)
+            (ReachesPart profile first carried r.head last.place) (λ file rest p. (ps, counted, is, r.place, p.0, p.1, p.2))
+            (known_then i0 i1 i2 (λ file rest. open_read (scope_in profile) file ≡ Ok ((r.head, r.place), rest)) (λ text rest. ReadsFrames r.place text ps last.place rest) opens.known passes.read));
+        within = ranges.within;
+        sound = sound;
+        kept = ranges.kept;
+      }
+
+-- payloads after payloads
+pub reads_behind : (from : Place) (text : List ℕ) (ps : List (List ℕ)) (to : Place) (at : List ℕ) (qs : List (List ℕ)) (last : Place) (rest : List ℕ) → ReadsFrames from text ps to at → ReadsFrames to at qs last rest →
     ReadsFrames from text (ps ++ qs) last rest
 reads_behind from text [] to at qs last rest h more = subst (λ l. ReadsFrames l text qs last rest) h.0 (subst (λ t. ReadsFrames to t qs last rest) h.1 more)
 reads_behind from text (p ∷ ps) to at qs last rest h more = (h.0, h.1, h.2, reads_behind h.0 h.1 ps to at qs last rest h.3 more)

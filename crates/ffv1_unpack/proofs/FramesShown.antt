@@ -38,6 +38,16 @@ last_none (Again ∷ fs) = last_none fs
 pub shown_more : (frames : List Frame) (f : Frame) → shown_frames (frames ++ (f ∷ [])) ≡ shown_frames frames ++ shows_after (last_of (coded_frames frames)) f
 shown_more frames f = shown_grows None frames f ∙ ap (λ z. shown_frames frames ++ shows_after z f) (last_none frames)
 
+-- those of more frames
+shown_on : (last : Option CodedFrame) (frames more : List Frame) → shown_after last (frames ++ more) ≡ shown_after last frames ++ shown_after (last_after last frames) more
+unfolding last_after
+shown_on last [] more = refl
+shown_on last (Coded g ∷ gs) more = ap (λ z. g ∷ z) (shown_on (Some g) gs more)
+shown_on last (Again ∷ gs) more = ap (λ z. those last ++ z) (shown_on last gs more) ∙ sym (append_assoc (those last) (shown_after last gs) (shown_after (last_after last gs) more))
+
+pub shown_behind : (frames more : List Frame) → shown_frames (frames ++ more) ≡ shown_frames frames ++ shown_after (last_of (coded_frames frames)) more
+shown_behind frames more = shown_on None frames more ∙ ap (λ z. shown_frames frames ++ shown_after z more) (last_none frames)
+
 -- the last one that is shown is the last coded one
 shown_some : (g : CodedFrame) (frames : List Frame) → last_of (g ∷ shown_after (Some g) frames) ≡ last_after (Some g) frames
 unfolding last_after

@@ -36,7 +36,7 @@ use Rattle.ffv1_unpack.specs.Unpacking.{Shows}
 use Rattle.ffv1_unpack.proofs.FramesShown.{coded_again, coded_more, last_is}
 use Rattle.ffv1_codec.specs.Outcome.{FaultsOf, OffersLine}
 use Rattle.ffv1_codec.specs.Outcome.{lines_before}
-use Rattle.ffv1_unpack.specs.Internal.Play.{ReadsPayload}
+use Rattle.ffv1_unpack.specs.Internal.Carried.{ReadsCarried}
 use Rattle.ffv1_unpack.specs.Internal.Told.{StopsFromBy}
 use Rattle.ffv1_video.specs.Output.{Silent, WritesUpTo}
 use Rattle.ffv1_unpack.proofs.ImageLines.{IsImage}
@@ -163,9 +163,9 @@ module _ {W : Type 0} (contents : W → Option (List ℕ)) (failed : W → ℕ) 
           },
         )
 
-  module _ (a : Accepted) (frames : List Frame) (from to : Place) (input : Passage) (payload : List ℕ) (some : 0 < length payload) (reads : ReadsPayload from to payload input) (s u : PpmSink W) (tally : Tally) (f : FrameFault) (is : IsSinkFor a.configuration s) where
+  module _ (a : Accepted) (carried : List ℕ) (frames : List Frame) (from to : Place) (input : Passage) (payload : List ℕ) (some : 0 < length payload) (reads : ReadsCarried carried from to payload input) (s u : PpmSink W) (tally : Tally) (f : FrameFault) (is : IsSinkFor a.configuration s) where
     pub image_faults : (h : Faulty taking (Refuses contents failed) a payload s u tally f) → cause_of (of_codec f.fault) ≡ Content → Appends (contents s.out) (contents u.out) (sink_text s (lines_before h.faulty)) → failed u.out ≡ failed s.out →
-        ImageFaults a frames from to input (between (contents s.out) (contents u.out) (failed s.out) (failed u.out)) (of_codec f.fault)
+        ImageFaults a carried frames from to input (between (contents s.out) (contents u.out) (failed s.out) (failed u.out)) (of_codec f.fault)
     image_faults h content writes same = record {
       payload = record { payload = payload; fault = f; tally = tally; reads = reads; faulty = record { some = some; faulty = h.faulty }; is = refl; content = content };
       written = same;
@@ -175,7 +175,7 @@ module _ {W : Type 0} (contents : W → Option (List ℕ)) (failed : W → ℕ) 
     module _ (r : Refused taking (Refuses contents failed) a payload s u tally f) where
       pub row_cut : Appends (contents s.out) (contents r.sink.between.out) (sink_text s r.sink.state.lines) → failed r.sink.between.out ≡ failed s.out →
           AppendsBeginning (contents r.sink.between.out) (contents u.out) (line_text r.sink.between (get_or r.sink.state.out r.sink.number [])) → failed u.out ≡ one_more (failed r.sink.between.out) →
-          RowCut a frames from to input (between (contents s.out) (contents u.out) (failed s.out) (failed u.out))
+          RowCut a carried frames from to input (between (contents s.out) (contents u.out) (failed s.out) (failed u.out))
       row_cut before same cut fails =
           let row = row_written a payload s u tally f is r before same cut fails in
           record {
@@ -211,19 +211,19 @@ sink_stays {W = W} contents failed s t same =
     subst (λ (z : PpmSink W). Silent (between (contents s.out) (contents z.out) (failed s.out) (failed z.out))) (sym same) (silent (contents s.out) (failed s.out))
 
 -- there is no frame
-pub file_stops : (a : Accepted) (frames : List Frame) (from to : Place) (input output : Passage) (f : Fault) (why : Cause) → Silent output → StopsFromBy from input f why → ImageStopsBy a frames from to input output f why
-file_stops a frames from to input output f Reading none h = (none, h.0, h.1)
-file_stops a frames from to input output f Writing none h = absurd h
-file_stops a frames from to input output f Memory none h = (none, h.0, h.1)
-file_stops a frames from to input output f Content none h = (h.0, inl (none, h.1))
+pub file_stops : (a : Accepted) (carried : List ℕ) (frames : List Frame) (from to : Place) (input output : Passage) (f : Fault) (why : Cause) → Silent output → StopsFromBy from input f why → ImageStopsBy a carried frames from to input output f why
+file_stops a carried frames from to input output f Reading none h = (none, h.0, h.1)
+file_stops a carried frames from to input output f Writing none h = absurd h
+file_stops a carried frames from to input output f Memory none h = (none, h.0, h.1)
+file_stops a carried frames from to input output f Content none h = (h.0, inl (none, h.1))
 
 -- a payload's fault
-pub payload_stops : (a : Accepted) (frames : List Frame) (from to : Place) (input output : Passage) (f : Fault) → ImageFaults a frames from to input output f → ImageStopsBy a frames from to input output f (cause_of f)
-payload_stops a frames from to input output f h = subst (ImageStopsBy a frames from to input output f) (sym h.payload.content) (h.payload.reads.kept, inr h)
+pub payload_stops : (a : Accepted) (carried : List ℕ) (frames : List Frame) (from to : Place) (input output : Passage) (f : Fault) → ImageFaults a carried frames from to input output f → ImageStopsBy a carried frames from to input output f (cause_of f)
+payload_stops a carried frames from to input output f h = subst (ImageStopsBy a carried frames from to input output f) (sym h.payload.content) (h.payload.reads.reads.kept, inr h)
 
 -- the last image was not written whole once more
-pub repeat_stops : (a : Accepted) (frames : List Frame) (from to : Place) (input output : Passage) (source : List ℕ) (f : Fault) → ReadsPayload from to [] input → RepeatsImage a frames source output (Err f) → ImageStopsBy a frames from to input output f (cause_of f)
-repeat_stops a frames from to input output source f reads h = subst (λ z. ImageStopsBy a frames from to input output z (cause_of z)) (sym h.0) (record {
+pub repeat_stops : (a : Accepted) (carried : List ℕ) (frames : List Frame) (from to : Place) (input output : Passage) (source : List ℕ) (f : Fault) → ReadsCarried carried from to [] input → RepeatsImage a frames source output (Err f) → ImageStopsBy a carried frames from to input output f (cause_of f)
+repeat_stops a carried frames from to input output source f reads h = subst (λ z. ImageStopsBy a carried frames from to input output z (cause_of z)) (sym h.0) (record {
   payload = [];
   source = source;
   shows = h.2;

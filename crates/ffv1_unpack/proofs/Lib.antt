@@ -1,11 +1,12 @@
 mod FaultsLocated
 pub mod FramesInTurn
 pub mod FramesShown
-mod Openings
+pub mod Openings
 pub mod FrameDecoded
 pub mod FileRead
 pub mod FramesPlayed
 mod FramesTold
+mod FramesCarried
 mod FramesUnpacked
 pub mod FilePlayed
 pub mod FramesPassed
@@ -34,11 +35,13 @@ pub mod PayloadsRead
 mod LineParts
 mod FirstMovis
 pub mod OwnFaults
+pub mod ReadAgain
 mod Md5sSoFar
 mod Md5Numbers
 mod Md5Lists
 mod FramesCompared
 mod FramesInParts
+mod PartsShown
 mod AllJudged
 mod SalvageLists
 mod SalvageSteps

@@ -6,9 +6,9 @@ use Rattle.ffv1_reads.proofs.Results.{ok_is}
 use Rattle.ffv1_avi.specs.Files as avi
 use Rattle.ffv1_avi.specs.declared.place.Extent.TheVariants.{FirstMovi, EveryRiff}
 use Rattle.ffv1_avi.specs.declared.place.Place.{Place as AviPlace}
-use Rattle.ffv1_matroska.specs.Opened as beginning
+use Rattle.ffv1_matroska.specs.Late.{again_read}
 use Rattle.ffv1_matroska.specs.Opened.{Opened}
-use Rattle.ffv1_files.specs.Files.{avi_opened, is_matroska, matroska_opened, open_read}
+use Rattle.ffv1_files.specs.Files.{avi_opened, is_matroska, matroska_begun, matroska_opened, open_read}
 use Rattle.ffv1_files.specs.Places.{InAvi, InMatroska, Place, container_of}
 use Rattle.ffv1_video.specs.declared.profile.Profile.{Profile}
 use Rattle.ffv1_video.specs.declared.profile.Profile.TheVariants.{Strict, Wide}
@@ -22,13 +22,13 @@ module _ (head : Head) (place : Place) (rest : List ℕ) where
   as_avi (Ok (p, more)) is = ap (λ (z : (Head × Place) × List ℕ). is_segment (container_of z.0.1)) (ok_is ((p.0, InAvi p.1), more) ((head, place), rest) is)
   as_avi (Err why) is = absurd (cc)
 
-  as_matroska : (z : Result (Opened × List ℕ) Stop) → read_on {Y = Head × Place} z (λ o. given (o.track.head, InMatroska o.segment o.track.numbers o.place)) ≡ Ok ((head, place), rest) → true ≡ is_segment (container_of place)
+  as_matroska : (z : Result (Opened × List ℕ) Stop) → read_on {Y = Head × Place} z matroska_begun ≡ Ok ((head, place), rest) → true ≡ is_segment (container_of place)
   as_matroska (Ok (o, more)) is =
       ap (λ (z : (Head × Place) × List ℕ). is_segment (container_of z.0.1)) (ok_is ((o.track.head, InMatroska o.segment o.track.numbers o.place), more) ((head, place), rest) is)
   as_matroska (Err why) is = absurd (cc)
 
   as_whole : (file : List ℕ) (b : Bool) → is_matroska file ≡ b → (if b then matroska_opened file else avi_opened EveryRiff file) ≡ Ok ((head, place), rest) → b ≡ is_segment (container_of place)
-  as_whole file true test is = as_matroska (beginning.open_read file) is
+  as_whole file true test is = as_matroska (again_read file) is
   as_whole file false test is = as_avi (avi.open_read EveryRiff file) is
 
   opened_as : (profile : Profile) (file : List ℕ) → open_read (scope_in profile) file ≡ Ok ((head, place), rest) → reads_matroska profile file ≡ is_segment (container_of place)

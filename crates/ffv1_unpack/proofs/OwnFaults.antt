@@ -23,7 +23,7 @@ use Rattle.ffv1_files.specs.Readers as files
 use Rattle.ffv1_video.specs.declared.profile.Profile.{Profile}
 use Rattle.ffv1_video.specs.declared.profile.Profile.TheVariants.{Strict, Wide}
 use Rattle.ffv1_unpack.specs.Containers.{is_profile_fault}
-use Rattle.ffv1_unpack.specs.Internal.Containers.{IsContainerFault, IsWithin, told_at}
+use Rattle.ffv1_unpack.specs.Internal.Containers.{IsContainerFault, IsWithin, is_segment_fault, told_at}
 use Rattle.ffv1_unpack.specs.Internal.Located.{StaysReached}
 use Rattle.ffv1_unpack.specs.Located.{Stands}
 use Rattle.ffv1_video.specs.Profiles.{scope_in}
@@ -171,12 +171,20 @@ pub within_of : (profile : Profile) (place : Place) → (scope_in profile ≡ Fi
 within_of Strict place avi = avi refl
 within_of Wide place avi = tt
 
+-- those of a Segment are those of Matroska
+segment_matroska : (f : Fault) → is_segment_fault f ≡ true → is_matroska_fault f ≡ true
+segment_matroska fault.BadElement own = refl
+segment_matroska fault.Laced own = refl
+segment_matroska fault.Checksum own = refl
+segment_matroska fault.Another own = refl
+segment_matroska f own = absurd (let no : false ≡ true = own in cc)
+
 -- those of a container are those of a profile that reads it
 own_at : (profile : Profile) (r : Standing) (text left : Option (List ℕ)) (place : Place) (f : Fault) → Stands (scope_in profile) text left r → IsWithin profile place → told_at r left place f → is_profile_fault profile f ≡ true
 own_at Strict r text left (InAvi place) f stands within (is, whole) = absurd (let no : FirstMovi ≡ Whole = whole FirstMovi text stands in cc)
 own_at Strict r text left (InMatroska segment track place) f stands within own = absurd (cc)
 own_at Wide r text left (InAvi place) f stands within (is, whole) = ap is_matroska_fault is
-own_at Wide r text left (InMatroska segment track place) f stands within own = own
+own_at Wide r text left (InMatroska segment track place) f stands within own = segment_matroska f own
 
 pub container_own : (profile : Profile) (r : Standing) (text left : Option (List ℕ)) (f : Fault) → Stands (scope_in profile) text left r → IsWithin profile r.place → IsContainerFault r left f → is_profile_fault profile f ≡ true
 container_own profile r text left f stands within own = own_at profile r text left r.place f stands within own

@@ -23,21 +23,22 @@ use Rattle.ffv1_video.specs.declared.fault.Fault.{Fault}
 use Rattle.ffv1_video.specs.Faults.{Cause, cause_of, of_codec}
 use Rattle.ffv1_video.specs.Faults.Cause.{Reading, Writing, Memory, Content}
 use Rattle.ffv1_unpack.specs.Internal.PicturesOut.{Begun, FrameChanges, begun_behind, IsBegun, KeepsLast, NextStopsBy, RepeatsPicture, SaysAgain, SaysNext, WritesPicture, begun_next, head_saying, planes_next, said_in, text_behind, text_next, writer_behind}
-use Rattle.ffv1_unpack.specs.Stream.{Again, Coded, CodedFrame, Frame, IsFrame, Stream, coded_frames, frame_payload, last_of, payloads, shown_frames}
+use Rattle.ffv1_unpack.specs.Stream.{Again, Coded, CodedFrame, Frame, IsFrame, Stream, carried_after, coded_frames, last_of, payloads, shown_frames}
 use Rattle.ffv1_unpack.specs.Internal.Told.{StopsFromBy}
 use Rattle.ffv1_video.specs.Output.{Silent}
 use Rattle.ffv1_codec.specs.Outcome.{lines_before}
 use Rattle.ffv1_unpack.specs.Unpacked.{AlikeBy, AllSay, is_ppm_stream, pictures, rows_by, shown_text, text_by, text_of, video_of, y4m_text}
-use Rattle.ffv1_unpack.specs.Unpacking.{FormatChanges, PayloadStops, UnpackingStops, UnpackingStopsBy, UnpacksMost, UnpacksThen}
-use Rattle.ffv1_unpack.specs.Plays.{AtMost, HasThen, NextHasFault, NextPayloadLacks, NextReadFails, has_more}
-use Rattle.ffv1_unpack.specs.Internal.Plays.{PayloadFaults, PlaysFrame}
+use Rattle.ffv1_unpack.specs.Unpacking.{FormatChanges, PayloadStops, UnpackingStopsIn, UnpacksMost, UnpacksThen}
+use Rattle.ffv1_unpack.specs.Plays.{AtMost, NextHasFault, NextPayloadLacks, NextReadFails, has_more}
+use Rattle.ffv1_unpack.specs.Ranges.{NextShows}
+use Rattle.ffv1_unpack.specs.Internal.Carried.{CarriedFaults, PlaysCarried, ShowsThen}
 use Rattle.ffv1_unpack.specs.Internal.Play.{ReadsEnd}
 use Rattle.ffv1_reads.proofs.Results.{some_is}
-use Rattle.ffv1_unpack.proofs.FramesInTurn.{all_more, reads_more}
+use Rattle.ffv1_unpack.proofs.FramesCarried.{shows_stays}
+use Rattle.ffv1_unpack.proofs.FramesInTurn.{all_more}
 use Rattle.ffv1_unpack.proofs.FramesShown.{coded_again, coded_more, last_is, no_last, shown_last, shown_more, shows_after}
 use Rattle.ffv1_video.proofs.Output.{silent}
-use Rattle.ffv1_unpack.proofs.FramesPlayed.{has_stays, none_yet}
-use Rattle.ffv1_unpack.proofs.FramesUnpacked.{Unpacked, goes_to, none_unpacked, picture_fails, unpacks_over, unpacks_more, unpacks_on}
+use Rattle.ffv1_unpack.proofs.FramesUnpacked.{Unpacked, frame_read_on, goes_to, none_unpacked, nothing_unpacked, picture_fails, unpacks_over, unpacks_more, unpacks_on}
 
 pub is_begun : (depth : ℕ) (h : VideoHead) (frames : List CodedFrame) → IsBegun depth h (begun_behind depth h frames)
 is_begun depth h [] = tt
@@ -97,7 +98,7 @@ again_text : (depth : ℕ) (h : VideoHead) (shown : List CodedFrame) (f : CodedF
 again_text depth h [] f kept is same = absurd (no_some f is)
 again_text depth h (g ∷ gs) f kept is same = ap picture_text (sym same)
 
-module _ (s : Stream) (h : VideoHead) (heads : (said : Said) → head_saying h said ≡ video_of s said) (plain : is_ppm_stream s ≡ false) (from : Place) where
+module _ (s : Stream) (h : VideoHead) (heads : (said : Said) → head_saying h said ≡ video_of s said) (plain : is_ppm_stream s ≡ false) (carried : List ℕ) (from : Place) where
   abbrev depth : ℕ
   depth = s.accepted.configuration.depth
 
@@ -139,32 +140,32 @@ module _ (s : Stream) (h : VideoHead) (heads : (said : Said) → head_saying h s
       on_last None is = subst (AlikeBy false) (sym (append-nil (shown_frames frames))) alike
       on_last (Some f) is = alike_more depth h (shown_frames frames) f alike (again_says depth h (shown_frames frames) f alike (shown_last frames ∙ is))
 
-  pub unpacked_none : (i o : Option (List ℕ)) (ib ob : ℕ) → Unpacked s from (between i i ib ib) (between o o ob ob) [] from
-  unpacked_none i o ib ob = record { so = none_yet (IsFrame s.accepted) frame_payload (shown_text s) (plain_text []) from i o ib ob; alike = plain_alike [] tt }
+  pub unpacked_none : (i o : Option (List ℕ)) (ib ob : ℕ) → Unpacked s carried from (between i i ib ib) (between o o ob ob) [] from
+  unpacked_none i o ib ob = nothing_unpacked s carried from i o ib ob (plain_alike [] tt) (subst (Appends o o) (sym (plain_text [])) (Appends-nil o))
 
   module _ (to last : Place) (i0 i1 i2 o0 o1 o2 : Option (List ℕ)) (ib im ia ob om oa : ℕ) (frames : List Frame)
-      (un : Unpacked s from (between i0 i1 ib im) (between o0 o1 ob om) frames to) (kept : Planes) (keeps : KeepsLast kept frames) where
+      (un : Unpacked s carried from (between i0 i1 ib im) (between o0 o1 ob om) frames to) (kept : Planes) (keeps : KeepsLast kept frames) where
     abbrev behind : Frame → List ℕ
     behind f = text_next depth h (said_in (begun_behind depth h (shown_frames frames))) kept f
 
     more_alike : (f : Frame) → SaysNext (said_in (begun_behind depth h (shown_frames frames))) f → AlikeBy (is_ppm_stream s) (shown_frames (frames ++ (f ∷ [])))
     more_alike f says = plain_alike (shown_frames (frames ++ (f ∷ []))) (whole_alike frames f (alike_plain (shown_frames frames) un.alike) says)
 
-    pub unpacked_more : (f : Frame) → PlaysFrame s.accepted to last (between i1 i2 im ia) f → SaysNext (said_in (begun_behind depth h (shown_frames frames))) f → oa ≡ om → Appends o1 o2 (behind f) →
-        Unpacked s from (between i0 i2 ib ia) (between o0 o2 ob oa) (frames ++ (f ∷ [])) last
-    unpacked_more f plays says same writes = unpacks_more s from to last i0 i1 i2 o0 o1 o2 ib im ia ob om oa frames un behind (whole_text kept frames keeps) f plays (more_alike f says) same writes
+    pub unpacked_more : (f : Frame) → PlaysCarried s.accepted (carried_after carried (payloads frames)) to last (between i1 i2 im ia) f → SaysNext (said_in (begun_behind depth h (shown_frames frames))) f → oa ≡ om → Appends o1 o2 (behind f) →
+        Unpacked s carried from (between i0 i2 ib ia) (between o0 o2 ob oa) (frames ++ (f ∷ [])) last
+    unpacked_more f plays says same writes = unpacks_more s carried from to last i0 i1 i2 o0 o1 o2 ib im ia ob om oa frames un behind (whole_text kept frames keeps) f plays (more_alike f says) same writes
 
     pub unpacked_over : (notes : Notes) (most : Option ℕ) → has_more most (length frames) ≡ true → AtMost most (length frames) → ReadsEnd to notes (between i1 i2 im ia) → Silent (between o1 o2 om oa) →
-        UnpacksMost (HasThen from) s (between i0 i2 ib ia) (between o0 o2 ob oa) notes most frames
-    unpacked_over = unpacks_over s from to last i0 i1 i2 o0 o1 o2 ib im ia ob om oa frames un
+        UnpacksMost (ShowsThen carried from) s (between i0 i2 ib ia) (between o0 o2 ob oa) notes most frames
+    unpacked_over = unpacks_over s carried from to last i0 i1 i2 o0 o1 o2 ib im ia ob om oa frames un
 
-    then : (Next : Place → List ℕ → List ℕ → Type 0) → Silent (between o1 o2 om oa) → Known i1 i2 (Next to) → UnpacksThen (HasThen from) s (between i0 i2 ib ia) (between o0 o2 ob oa) frames Next
-    then = unpacks_on s from to last i0 i1 i2 o0 o1 o2 ib im ia ob om oa frames un
+    then : (Next : Place → List ℕ → List ℕ → Type 0) → Silent (between o1 o2 om oa) → Known i1 i2 (Next to) → UnpacksThen (ShowsThen carried from) s (between i0 i2 ib ia) (between o0 o2 ob oa) frames Next
+    then = unpacks_on s carried from to last i0 i1 i2 o0 o1 o2 ib im ia ob om oa frames un
 
     kept_text : Silent (between o1 o2 om oa) → Appends o0 o2 (shown_text s frames)
-    kept_text none = Appends-kept o0 o1 o2 (shown_text s frames) un.so.writes none.kept
+    kept_text none = Appends-kept o0 o1 o2 (shown_text s frames) un.writes none.kept
 
-    payload_faults : (f : Fault) → Silent (between o1 o2 om oa) → PayloadFaults s.accepted to last (between i1 i2 im ia) f → PayloadStops (HasThen from) s (between i0 i2 ib ia) (between o0 o2 ob oa) f
+    payload_faults : (f : Fault) → Silent (between o1 o2 om oa) → CarriedFaults s.accepted (carried_after carried (payloads frames)) to last (between i1 i2 im ia) f → PayloadStops (ShowsThen carried from) s (between i0 i2 ib ia) (between o0 o2 ob oa) (NextShows carried) f
     payload_faults f none p =
         let text = shown_text s frames in
         let rows : text ++ rows_by (is_ppm_stream s) s (lines_before p.faulty.faulty) ≡ text = ap (λ b. text ++ rows_by b s (lines_before p.faulty.faulty)) plain ∙ append-nil text in
@@ -173,36 +174,36 @@ module _ (s : Stream) (h : VideoHead) (heads : (said : Said) → head_saying h s
           payload = p.payload;
           fault = p.fault;
           tally = p.tally;
-          goes = goes_to s from to last i0 i1 i2 o0 o1 o2 ib im ia ob om oa frames un p.payload p.reads;
+          goes = goes_to s carried from to last i0 i1 i2 o0 o1 o2 ib im ia ob om oa frames un p.payload p.reads;
           alike = un.alike;
           faulty = p.faulty;
           is = p.is;
-          written = none.same ∙ un.so.written;
+          written = none.same ∙ un.written;
           writes = subst (Appends o0 o2) (sym rows) (kept_text none);
         }
 
-    format_changes : (f : Fault) → Silent (between o1 o2 om oa) → FrameChanges s.accepted h (begun_behind depth h (shown_frames frames)) kept to last (between i1 i2 im ia) (between o1 o2 om oa) f →
-        FormatChanges (HasThen from) s (between i0 i2 ib ia) (between o0 o2 ob oa) f
+    format_changes : (f : Fault) → Silent (between o1 o2 om oa) → FrameChanges s.accepted (carried_after carried (payloads frames)) h (begun_behind depth h (shown_frames frames)) kept to last (between i1 i2 im ia) (between o1 o2 om oa) f →
+        FormatChanges (ShowsThen carried from) s (between i0 i2 ib ia) (between o0 o2 ob oa) f
     format_changes f none p = record {
       frames = frames;
       last = p.frame;
       goes = record {
-        are = all_more (IsFrame s.accepted) frames (Coded p.frame) un.so.are p.plays.is;
-        has = has_stays from last i0 i2 (payloads (frames ++ (Coded p.frame ∷ []))) (reads_more frame_payload from to last i0 i1 i2 frames (Coded p.frame) un.so.read p.plays.reads.next);
+        are = all_more (IsFrame s.accepted) frames (Coded p.frame) un.are p.plays.is;
+        has = shows_stays carried from last i0 i2 (payloads (frames ++ (Coded p.frame ∷ []))) (frame_read_on s carried from to last i0 i1 i2 o0 o1 o2 ib im ia ob om oa frames un (Coded p.frame) p.plays);
       };
       alike = un.alike;
       changed = λ alike. p.changed (last_alike depth h (shown_frames frames) p.frame (subst (AlikeBy false) (shown_more frames (Coded p.frame)) (alike_plain (shown_frames (frames ++ (Coded p.frame ∷ []))) alike)));
       is = p.is;
-      wrote = record { written = none.same ∙ un.so.written; writes = kept_text none };
+      wrote = record { written = none.same ∙ un.written; writes = kept_text none };
     }
 
-    pub unpacking_stops : (f : Fault) (why : Cause) → NextStopsBy s.accepted h (begun_behind depth h (shown_frames frames)) kept to last (between i1 i2 im ia) (between o1 o2 om oa) f why →
-        UnpackingStopsBy (HasThen from) s (between i0 i2 ib ia) (between o0 o2 ob oa) f why
-    unpacking_stops f Writing p = inl (frames ++ (p.0 ∷ []), picture_fails s from to last i0 i1 i2 o0 o1 o2 ib im ia ob om oa frames un behind (whole_text kept frames keeps) p.0 p.1 (more_alike p.0 p.2) p.3 p.4.0 p.4.1 p.4.2)
-    unpacking_stops f Reading p = (p.1 ∙ ap one_more un.so.kept, frames, then NextReadFails p.0 p.2)
-    unpacking_stops f Memory p = (p.1 ∙ un.so.kept, inl (frames, then NextPayloadLacks p.0 p.2))
+    pub unpacking_stops : (f : Fault) (why : Cause) → NextStopsBy s.accepted (carried_after carried (payloads frames)) h (begun_behind depth h (shown_frames frames)) kept to last (between i1 i2 im ia) (between o1 o2 om oa) f why →
+        UnpackingStopsIn (ShowsThen carried from) s (between i0 i2 ib ia) (between o0 o2 ob oa) (NextShows carried) f why
+    unpacking_stops f Writing p = inl (frames ++ (p.0 ∷ []), picture_fails s carried from to last i0 i1 i2 o0 o1 o2 ib im ia ob om oa frames un behind (whole_text kept frames keeps) p.0 p.1 (more_alike p.0 p.2) p.3 p.4.0 p.4.1 p.4.2)
+    unpacking_stops f Reading p = (p.1 ∙ ap one_more un.kept, frames, then NextReadFails p.0 p.2)
+    unpacking_stops f Memory p = (p.1 ∙ un.kept, inl (frames, then NextPayloadLacks p.0 p.2))
     unpacking_stops f Content p = (
-      p.1 ∙ un.so.kept,
+      p.1 ∙ un.kept,
       elim p.2 [
         | inl file ↦ inl (frames, then (NextHasFault f) p.0 file)
         | inr more ↦ elim more [
@@ -245,47 +246,48 @@ heads_of x y b a h head same heads =
     (subst (λ z. (said : Said) → head_saying h said ≡ video_of (record { head = z; accepted = b }) said) head heads)
 
 -- memory for the sink was refused
-pub wants_memory : (s : Stream) (from : Place) (i o : Option (List ℕ)) (ib ob : ℕ) (f : CodecFault) → is_ppm_stream s ≡ false → f ≡ codec_fault.OutOfMemory →
-    UnpackingStops (HasThen from) s (between i i ib ib) (between o o ob ob) (of_codec f)
-wants_memory s from i o ib ob f plain is =
+pub wants_memory : (s : Stream) (carried : List ℕ) (from : Place) (i o : Option (List ℕ)) (ib ob : ℕ) (f : CodecFault) → is_ppm_stream s ≡ false → f ≡ codec_fault.OutOfMemory →
+    UnpackingStopsIn (ShowsThen carried from) s (between i i ib ib) (between o o ob ob) (NextShows carried) (of_codec f) (cause_of (of_codec f))
+wants_memory s carried from i o ib ob f plain is =
     let no_text = subst (λ b. Appends o o (text_by b s [])) (sym plain) (Appends-nil o) in
-    subst (λ z. UnpackingStops (HasThen from) s (between i i ib ib) (between o o ob ob) (of_codec z)) (sym is)
-    (refl, inr (none_unpacked s from i o ib ob (subst (λ b. AlikeBy b []) (sym plain) tt) no_text))
+    subst (λ z. UnpackingStopsIn (ShowsThen carried from) s (between i i ib ib) (between o o ob ob) (NextShows carried) (of_codec z) (cause_of (of_codec z))) (sym is)
+    (refl, inr (none_unpacked s carried from i o ib ob (subst (λ b. AlikeBy b []) (sym plain) tt) no_text))
 
-module _ (a : Accepted) (h : VideoHead) (begun : Begun) (kept : Planes) (from to : Place) (input : Passage) where
+module _ (a : Accepted) (carried : List ℕ) (h : VideoHead) (begun : Begun) (kept : Planes) (from to : Place) (input : Passage) where
   -- a frame was decoded, and its picture was not written
-  pub picture_stops : (output : Passage) (after : Begun) (frame : CodedFrame) (f : Fault) → PlaysFrame a from to input (Coded frame) → WritesPicture a.configuration.depth h (said_in begun) frame.said frame.planes output after (Err f) →
-      NextStopsBy a h begun kept from to input output f (cause_of f)
+  pub picture_stops : (output : Passage) (after : Begun) (frame : CodedFrame) (f : Fault) → PlaysCarried a carried from to input (Coded frame) → WritesPicture a.configuration.depth h (said_in begun) frame.said frame.planes output after (Err f) →
+      NextStopsBy a carried h begun kept from to input output f (cause_of f)
   picture_stops output after frame f plays answer = elim answer [
     | inl write ↦
-        subst (λ z. NextStopsBy a h begun kept from to input output z (cause_of z)) (sym write.0) (Coded frame, plays, write.1, write.2, write.3)
+        subst (λ z. NextStopsBy a carried h begun kept from to input output z (cause_of z)) (sym write.0) (Coded frame, plays, write.1, write.2, write.3)
     | inr other ↦
-        subst (λ z. NextStopsBy a h begun kept from to input output z (cause_of z)) (sym other.0)
-        (other.2, plays.reads.kept, inr (inr (record { frame = frame; plays = plays; changed = other.1; is = refl })))
+        subst (λ z. NextStopsBy a carried h begun kept from to input output z (cause_of z)) (sym other.0)
+        (other.2, plays.reads.reads.kept, inr (inr (record { frame = frame; plays = plays; changed = other.1; is = refl })))
   ]
 
   -- a frame repeats the one before, and its picture was not written once more
-  pub again_stops : (output : Passage) (after : Begun) (f : Fault) → PlaysFrame a from to input Again → RepeatsPicture a.configuration.depth h begun kept output after (Err f) → NextStopsBy a h begun kept from to input output f (cause_of f)
-  again_stops output after f plays answer = subst (λ z. NextStopsBy a h begun kept from to input output z (cause_of z)) (sym answer.0) (Again, plays, tt, answer.1, answer.2)
+  pub again_stops : (output : Passage) (after : Begun) (f : Fault) → PlaysCarried a carried from to input Again → RepeatsPicture a.configuration.depth h begun kept output after (Err f) → NextStopsBy a carried h begun kept from to input output f (cause_of f)
+  again_stops output after f plays answer = subst (λ z. NextStopsBy a carried h begun kept from to input output z (cause_of z)) (sym answer.0) (Again, plays, tt, answer.1, answer.2)
 
   -- there is none
-  pub file_stops : (o : Option (List ℕ)) (n : ℕ) (f : Fault) (why : Cause) → StopsFromBy from input f why → NextStopsBy a h begun kept from to input (between o o n n) f why
+  pub file_stops : (o : Option (List ℕ)) (n : ℕ) (f : Fault) (why : Cause) → StopsFromBy from input f why → NextStopsBy a carried h begun kept from to input (between o o n n) f why
   file_stops o n f Reading stops = (silent o n, stops.0, stops.1)
   file_stops o n f Writing stops = absurd stops
   file_stops o n f Memory stops = (silent o n, stops.0, stops.1)
   file_stops o n f Content stops = (silent o n, stops.0, inl stops.1)
 
   -- its payload has a fault
-  pub payload_stops : (o : Option (List ℕ)) (n : ℕ) (f : Fault) → PayloadFaults a from to input f → NextStopsBy a h begun kept from to input (between o o n n) f (cause_of f)
-  payload_stops o n f p = subst (NextStopsBy a h begun kept from to input (between o o n n) f) (sym p.content) (silent o n, p.reads.kept, inr (inl p))
+  pub payload_stops : (o : Option (List ℕ)) (n : ℕ) (f : Fault) → CarriedFaults a carried from to input f → NextStopsBy a carried h begun kept from to input (between o o n n) f (cause_of f)
+  payload_stops o n f p = subst (NextStopsBy a carried h begun kept from to input (between o o n n) f) (sym p.content) (silent o n, p.reads.reads.kept, inr (inl p))
 
 -- so many frames were unpacked
-pub record UnpackedSo (s : Stream) (h : VideoHead) (from : Place) (input output : Passage) (begun : Begun) (kept : Planes) (count : ℕ) (to : Place) : Type 0 where
+pub record UnpackedSo (s : Stream) (h : VideoHead) (carried : List ℕ) (from : Place) (input output : Passage) (begun : Begun) (kept : Planes) (left : List ℕ) (count : ℕ) (to : Place) : Type 0 where
   pub frames : List Frame
   pub is : count ≡ saturated (length frames)
-  pub un : Unpacked s from input output frames to
+  pub un : Unpacked s carried from input output frames to
   pub begun_is : begun ≡ begun_behind s.accepted.configuration.depth h (shown_frames frames)
   pub keeps : KeepsLast kept frames
+  pub left_is : left ≡ carried_after carried (payloads frames)
 
 -- what is begun, and what is kept, after one more
 pub begun_then : (depth : ℕ) (h : VideoHead) (frames : List Frame) (f : Frame) → AlikeBy false (shown_frames frames) → SaysNext (said_in (begun_behind depth h (shown_frames frames))) f →

@@ -49,30 +49,30 @@ use Rattle.ffv1_unpack.proofs.ItemsJudged.{up_to}
 use Rattle.ffv1_unpack.proofs.SalvageLists.{counted_told, lines_more}
 
 -- what stands behind an AVI was looked at before
-avi_looked : (place : Place) (end : ℕ) (cued was : Bool) (after : Option ℕ) (repeated : ℕ) (from : Place) (told : List JudgedItem) (notes : Notes) (left rest : List ℕ) → container_of place ≡ container.Avi → container_of from ≡ container.Avi → EndTold told notes end (notes_read place end cued after repeated) left rest →
-    EndTold told notes 0 (notes_read from 0 was after repeated) left rest
+avi_looked : (place : Place) (end : ℕ) (cued was : Bool) (after : Option ℕ) (repeated others : ℕ) (from : Place) (told : List JudgedItem) (notes : Notes) (left rest : List ℕ) → container_of place ≡ container.Avi → container_of from ≡ container.Avi → EndTold told notes end (notes_read place end cued after repeated others) left rest →
+    EndTold told notes 0 (notes_read from 0 was after repeated others) left rest
 unfolding notes_read
-avi_looked (InAvi p) end cued was after repeated (InAvi q) told notes left rest avi same (inl h) = inl h
-avi_looked (InAvi p) end cued was after repeated (InAvi q) told notes left rest avi same (inr (is, none, met)) = absurd (cc (met))
-avi_looked (InAvi p) end cued was after repeated (InMatroska size track q) told notes left rest avi same h = absurd (cc (same))
-avi_looked (InMatroska size track p) end cued was after repeated from told notes left rest avi same h = absurd (cc (avi))
+avi_looked (InAvi p) end cued was after repeated others (InAvi q) told notes left rest avi same (inl h) = inl h
+avi_looked (InAvi p) end cued was after repeated others (InAvi q) told notes left rest avi same (inr (is, none, met)) = absurd (cc (met))
+avi_looked (InAvi p) end cued was after repeated others (InMatroska size track q) told notes left rest avi same h = absurd (cc (same))
+avi_looked (InMatroska size track p) end cued was after repeated others from told notes left rest avi same h = absurd (cc (avi))
 
 -- how notes of an AVI are read
-lists_same : (place : Place) (end other : ℕ) (now : Bool) (after : Option ℕ) (repeated : ℕ) (P : Looks) (left rest : List ℕ) → container_of place ≡ container.Avi → P (notes_read place end now after repeated) left rest → P (notes_read place other now after repeated) left rest
+lists_same : (place : Place) (end other : ℕ) (now : Bool) (after : Option ℕ) (repeated others : ℕ) (P : Looks) (left rest : List ℕ) → container_of place ≡ container.Avi → P (notes_read place end now after repeated others) left rest → P (notes_read place other now after repeated others) left rest
 unfolding notes_read
-lists_same (InAvi p) end other now after repeated P left rest avi h = h
-lists_same (InMatroska size track p) end other now after repeated P left rest avi h = absurd (cc (avi))
+lists_same (InAvi p) end other now after repeated others P left rest avi h = h
+lists_same (InMatroska size track p) end other now after repeated others P left rest avi h = absurd (cc (avi))
 
-lists_alike : (place from : Place) (end other : ℕ) (now was : Bool) (after : Option ℕ) (repeated : ℕ) (P : Looks) (left rest : List ℕ) → container_of place ≡ container.Avi → container_of from ≡ container.Avi → P (notes_read place end now after repeated) left rest → P (notes_read from other was after repeated) left rest
+lists_alike : (place from : Place) (end other : ℕ) (now was : Bool) (after : Option ℕ) (repeated others : ℕ) (P : Looks) (left rest : List ℕ) → container_of place ≡ container.Avi → container_of from ≡ container.Avi → P (notes_read place end now after repeated others) left rest → P (notes_read from other was after repeated others) left rest
 unfolding notes_read
-lists_alike (InAvi p) (InAvi q) end other now was after repeated P left rest avi also h = h
-lists_alike (InAvi p) (InMatroska size track q) end other now was after repeated P left rest avi also h = absurd (cc (also))
-lists_alike (InMatroska size track p) from end other now was after repeated P left rest avi also h = absurd (cc (avi))
+lists_alike (InAvi p) (InAvi q) end other now was after repeated others P left rest avi also h = h
+lists_alike (InAvi p) (InMatroska size track q) end other now was after repeated others P left rest avi also h = absurd (cc (also))
+lists_alike (InMatroska size track p) from end other now was after repeated others P left rest avi also h = absurd (cc (avi))
 
-lists_none : (place : Place) (end : ℕ) (now : Bool) (after : Option ℕ) (repeated : ℕ) (left rest : List ℕ) → container_of place ≡ container.Avi → BeginsAnother (notes_read place end now after repeated) left rest → ⊥
+lists_none : (place : Place) (end : ℕ) (now : Bool) (after : Option ℕ) (repeated others : ℕ) (left rest : List ℕ) → container_of place ≡ container.Avi → BeginsAnother (notes_read place end now after repeated others) left rest → ⊥
 unfolding notes_read
-lists_none (InAvi p) end now after repeated left rest avi h = absurd (cc (h))
-lists_none (InMatroska size track p) end now after repeated left rest avi h = absurd (cc (avi))
+lists_none (InAvi p) end now after repeated others left rest avi h = absurd (cc (h))
+lists_none (InMatroska size track p) end now after repeated others left rest avi h = absurd (cc (avi))
 
 avi_end : (place : Place) (offset : ℕ) → container_of place ≡ container.Avi → 0 ≡ ends_at place offset
 avi_end (InAvi p) offset avi = refl
@@ -81,7 +81,7 @@ avi_end (InMatroska size track p) offset avi = absurd (cc (avi))
 module _ (profile : Profile) (i0 i1 i2 i3 : Option (List ℕ)) (ib im ia ic : ℕ) (r last : Standing) (a : Accepted) (opens : OpensStream profile r a (between i0 i1 ib im)) (stands : Stands (scope_in profile) i0 i1 r) (cued : Bool)
     (cues : CuedBy (cued_left r.place (course_of r) false) i1 i2 cued) (same : container_of last.place ≡ container_of r.place) (stays : (size : Option ℕ) → container_of r.place ≡ container.Matroska size → last ≡ r) where
   -- by how it is said of a reading of an AVI, and of one of a Segment
-  module _ (P : Looks) (Looked : ℕ → Looks) (lists : (place from : Place) (end : ℕ) (now was : Bool) (after : Option ℕ) (repeated : ℕ) (left rest : List ℕ) → container_of place ≡ container.Avi → container_of from ≡ container.Avi → P (notes_read place end now after repeated) left rest → Looked 0 (notes_read from 0 was after repeated) left rest)
+  module _ (P : Looks) (Looked : ℕ → Looks) (lists : (place from : Place) (end : ℕ) (now was : Bool) (after : Option ℕ) (repeated others : ℕ) (left rest : List ℕ) → container_of place ≡ container.Avi → container_of from ≡ container.Avi → P (notes_read place end now after repeated others) left rest → Looked 0 (notes_read from 0 was after repeated others) left rest)
       (segments : (left rest : List ℕ) → P (items_noted last cued) left rest → Looked last.end (items_noted last cued) left rest) where
     avi_known : (is : List Given) → container_of r.place ≡ container.Avi → (o0 o1 o2 o3 : Option (List ℕ)) → Known o0 o1 (λ file rest. open_read (scope_in profile) file ≡ Ok ((r.head, r.place), rest)) → PlaceReached (scope_in profile) o0 o1 r.head r.place r.offset →
         Known o1 o2 (ItemsFrom r.place (course_of r) is (ItemsOver (length is))) → Known o2 o3 (P (items_noted last cued)) → Known o0 o3 (ItemsEnd profile r.head is Looked)
@@ -97,10 +97,11 @@ module _ (profile : Profile) (i0 i1 i2 i3 : Option (List ℕ)) (ib im ia ic : �
           left,
           last.after,
           last.repeated,
+          last.others,
           known,
           reached,
           has,
-          subst (λ e. Looked e (notes_read r.place e cues_left last.after last.repeated) left rest) (avi_end r.place r.offset avi) (lists last.place r.place last.end cued cues_left last.after last.repeated left rest (same ∙ avi) avi looked),
+          subst (λ e. Looked e (notes_read r.place e cues_left last.after last.repeated last.others) left rest) (avi_end r.place r.offset avi) (lists last.place r.place last.end cued cues_left last.after last.repeated last.others left rest (same ∙ avi) avi looked),
         )
 
     pub end_either : (is : List Given) → Known i1 i2 (ItemsFrom r.place (course_of r) is (ItemsOver (length is))) → Known i2 i3 (P (items_noted last cued)) → Known i0 i3 (ItemsEnd profile r.head is Looked)
@@ -128,7 +129,7 @@ module _ (profile : Profile) (i0 i1 i2 i3 : Option (List ℕ)) (ib im ia ic : �
       is = opens.stream;
       text = text;
       are = all.goes.are;
-      ends = end_either (EndTold told notes last.end) (EndTold told notes) (λ place from end now was after repeated left rest avi also h. avi_looked place last.end now was after repeated from told notes left rest avi also (lists_same place end last.end now after repeated (EndTold told notes last.end) left rest avi h)) (λ left rest h. h) (map given_as xs) (subst (λ n. Known i1 i2 (ItemsFrom r.place (course_of r) (map given_as xs) (ItemsOver n))) (sym (length-map xs given_as)) all.goes.has) looked;
+      ends = end_either (EndTold told notes last.end) (EndTold told notes) (λ place from end now was after repeated others left rest avi also h. avi_looked place last.end now was after repeated others from told notes left rest avi also (lists_same place end last.end now after repeated others (EndTold told notes last.end) left rest avi h)) (λ left rest h. h) (map given_as xs) (subst (λ n. Known i1 i2 (ItemsFrom r.place (course_of r) (map given_as xs) (ItemsOver n))) (sym (length-map xs given_as)) all.goes.has) looked;
       showed = record { written = all.showed.written; writes = all.showed.writes };
     }
 
@@ -167,11 +168,11 @@ module _ (profile : Profile) (i0 i1 i2 i3 : Option (List ℕ)) (ib im ia ic : �
     over = subst (λ n. Known i1 i2 (ItemsFrom r.place (course_of r) (map given_as xs) (ItemsOver n))) (sym (length-map xs given_as)) all.goes.has
 
     plainly : (Looked : Looks) → Known i2 i3 (Looked (items_noted last cued)) → Known i0 i3 (ItemsEnd profile r.head (map given_as xs) (λ at. Looked))
-    plainly Looked looked = end_either Looked (λ at. Looked) (λ place from end now was after repeated left rest avi also h. lists_alike place from end 0 now was after repeated Looked left rest avi also h) (λ left rest h. h) (map given_as xs) over looked
+    plainly Looked looked = end_either Looked (λ at. Looked) (λ place from end now was after repeated others left rest avi also h. lists_alike place from end 0 now was after repeated others Looked left rest avi also h) (λ left rest h. h) (map given_as xs) over looked
 
     another_at : Known i2 i3 (BeginsAnother (items_noted last cued)) → Known i0 i3 (ItemsEnd profile r.head (map given_as xs) (λ at reading text rest. (at ≡ last.end) × BeginsAnother reading text rest))
     another_at looked =
-        end_either BeginsAnother (λ at reading text rest. (at ≡ last.end) × BeginsAnother reading text rest) (λ place from end now was after repeated left rest avi also h. absurd (lists_none place end now after repeated left rest avi h)) (λ left rest h. (refl, h)) (map given_as xs) over looked
+        end_either BeginsAnother (λ at reading text rest. (at ≡ last.end) × BeginsAnother reading text rest) (λ place from end now was after repeated others left rest avi also h. absurd (lists_none place end now after repeated others left rest avi h)) (λ left rest h. (refl, h)) (map given_as xs) over looked
 
     fails_by : (why : Cause) → BehindFailsBy last cued (between i2 i3 ia ic) (between l1 l2 lm la) why → UnpackEndFailsBy profile Whole (between l0 l2 lb la) output why
     fails_by Writing (another, failed, (k, short, writes)) = (

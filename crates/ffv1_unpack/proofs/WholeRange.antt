@@ -24,12 +24,13 @@ use Rattle.ffv1_unpack.specs.Judged.{payloads_of}
 use Rattle.ffv1_unpack.specs.Located.{LocatedFault, WritesLine}
 use Rattle.ffv1_unpack.specs.Play.End.{Over}
 use Rattle.ffv1_unpack.specs.Plays.{FileStops, FileThen, HoldsNoted, NextBehind, NextOver, NextIsPayload, PlaysFile, StreamGoes}
-use Rattle.ffv1_unpack.specs.Ranges.{PassStopsBy, PlaysRange, RangeNone, RangeStops, RangeThen, all_frames, number_in}
+use Rattle.ffv1_unpack.specs.Ranges.{NextShows, PartThen, PassStopsBy, PlaysRange, RangeNone, RangeStops, RangeThen, all_frames, number_in}
 use Rattle.ffv1_unpack.specs.Stream.{Frame, HoldsPayloads, IsFrame, ReadsFrames, Stream, frame_payload, payloads}
 use Rattle.ffv1_unpack.specs.Unpack.{UnpackDone, UnpackRangeDone, UnpackRangeStops, UnpackStops}
 use Rattle.ffv1_unpack.proofs.FilePlayed.{goes_file, refused_file, stream_goes, then_file}
 use Rattle.ffv1_unpack.proofs.FileRead.{holds_noted, no_items}
 use Rattle.ffv1_unpack.proofs.FileUnpacked.{unpack_goes, unpack_none}
+use Rattle.ffv1_unpack.proofs.FramesCarried.{part_comes, part_file}
 use Rattle.ffv1_video.proofs.KnownTexts.{known_map}
 
 -- what a file has after no frames is what it has
@@ -203,7 +204,9 @@ module _ (holds : (profile : Profile) (file behind rest : List ℕ) (head : Head
     text = h.text;
     played = h.played;
     alike = h.alike;
-    reads = holds_range profile told.1 h.stream.head input.old input.new (payloads h.frames) h.reads;
+    reads =
+        known_map input.old input.new (FileThen profile h.stream.head (payloads h.frames) (NextOver told.1)) (HoldsNoted profile told.1 h.stream.head (payloads h.frames))
+        (holds_noted holds profile told.1 h.stream.head (payloads h.frames)) (part_file profile h.stream.head h.carried input.old input.new (payloads h.frames) (NextOver told.1) h.reads);
     of_file = h.of_file refl;
     kept = h.kept;
     written = h.written;
@@ -220,11 +223,14 @@ unpack_file profile i0 i2 o0 o1 ib ia ob om f h = elim h [
     | inr pass ↦ absurd (none_passed profile (between i0 i2 ib ia) pass.0 f (cause_of f) pass.1)
   ]
   | inr late ↦ elim late [
-    | inl goes ↦
+    | inl part ↦
+        let goes = part.1 in
         let s = goes.stream in
-        inr (inl (unpack_goes profile i0 i0 i2 o0 o1 ib ib ia ob om s goes.is goes.text (RangeThen profile 0 s.head) (FileThen profile) (range_file profile s.head i0 i2) refl f goes.stops))
+        inr (inl (unpack_goes profile i0 i0 i2 o0 o1 ib ib ia ob om s goes.is goes.text (PartThen profile 0 part.0 s.head) (FileThen profile) (part_file profile s.head part.0 i0 i2) refl (NextShows part.0) (λ before. NextIsPayload)
+        (part_comes profile s.head part.0 i0 i2) f goes.stops))
     | inr none ↦
-        let s = none.1.stream in
-        inr (inr (none.0, unpack_none profile i0 i0 i2 o0 o1 ib ib ia ob om s none.1.is none.1.text (RangeThen profile 0 s.head) (FileThen profile) (range_file profile s.head i0 i2) refl none.1.notes None [] refl none.1.all))
+        let goes = none.2 in
+        let s = goes.stream in
+        inr (inr (none.0, unpack_none profile i0 i0 i2 o0 o1 ib ib ia ob om s goes.is goes.text (PartThen profile 0 none.1 s.head) (FileThen profile) (part_file profile s.head none.1 i0 i2) refl goes.notes None [] refl goes.all))
   ]
 ]

@@ -1,4 +1,4 @@
--- Judging all that a file gives that may be damaged, and what stands behind its end.
+-- Judging all that a file gives that may be damaged, and what comes after its end.
 use Rattle.std.specs.Prelude.{◌≡◌, ◌⊎◌, ℕ, ◌<◌, Bool, List, [], ◌∷◌, ◌++◌, length, map, slice_get}
 use Rattle.std.specs.Prelude.{Option}
 use Rattle.std.specs.Io.KnownBytes.{Appends}
@@ -25,19 +25,19 @@ use Rattle.ffv1_unpack.specs.Plays.{BehindReadFails}
 use Rattle.ffv1_unpack.specs.Stream.{AreAll, IsStream, Stream}
 
 module _ (profile : Profile) (place : Bool) (input output : Passage) where
-  -- all its items came; and then this is said of what stands behind its end
+  -- all its items came; and then this is said of what comes after its end
   pub record ItemsCame (stream : Stream) (xs : List JudgedItem) (Looked : ℕ → Looks) : Type 0 where
     pub is : IsStream profile stream
     pub are : AreAll (IsJudgedItem stream.accepted) xs
     pub ends : Known input.old input.new (ItemsEnd profile stream.head (map given_as xs) Looked)
 
-  -- all of them, with what is told behind them, and what is noted
+  -- all of them, with what is told after them, and what is noted
   pub record ItemsEnded (stream : Stream) (xs behind : List JudgedItem) (notes : Notes)
       : Type 0 where
     pub came : ItemsCame stream xs (EndTold behind notes)
     pub kept : input.after ≡ input.before
 
-  -- all items of the file, and another file that is told behind its end, at least one of these,
+  -- all items of the file, and another file that is told after its end, at least one of these,
   -- were judged, and the text of them was written; the answer is the first fault of either kind,
   -- and what is noted of the end
   pub record ItemsDone (first : Option Fault) (notes : Notes) : Type 0 where
@@ -57,7 +57,7 @@ module _ (profile : Profile) (place : Bool) (input output : Passage) where
     pub is : IsStream profile stream
     pub stops : ItemsStopBy (ItemsThen profile stream.head) stream.accepted place input output why
 
-  -- all came, and what stands behind them was not told: the line of another file was not written
+  -- all came, and what comes after them was not told: the line of another file was not written
   -- whole; a read of it failed, which was counted; or memory for that line was refused
   abbrev pub EndFailsBy : Cause → Type 0
   EndFailsBy Writing =
@@ -79,7 +79,7 @@ module _ (profile : Profile) (place : Bool) (input output : Passage) where
   EndFailsBy Content = ⊥
 
   -- the last line was not written whole; memory for it was refused; or there is neither an item nor
-  -- another file behind the end, and nothing was written
+  -- another file after the end, and nothing was written
   abbrev pub CountFailsBy : Fault → Cause → Type 0
   CountFailsBy f Writing =
       (stream : Stream) × (xs : List JudgedItem) × (behind : List JudgedItem) × (notes : Notes)
@@ -97,7 +97,7 @@ module _ (profile : Profile) (place : Bool) (input output : Passage) where
       (f ≡ fault.NoFrames) × (stream : Stream) × (notes : Notes) × ItemsEnded stream [] [] notes
       × Silent output
 
-  -- why it is refused: it was not opened; or no further item was judged; or what stands behind them
+  -- why it is refused: it was not opened; or no further item was judged; or what comes after them
   -- was not told; or the last line is not there
   abbrev pub ItemsFault : Fault → Type 0
   ItemsFault f =

@@ -1,4 +1,4 @@
--- What stands behind the frames of a file: once they have ended, it is looked at, and what the end
+-- What comes after the frames of a file: once they have ended, it is looked at, and what the end
 -- leaves in doubt is noted.
 use Rattle.std.specs.Prelude.{◌≡◌, ℕ, List, None, Ok}
 use Rattle.ffv1_wire.specs.Passage.{Passage}
@@ -16,7 +16,7 @@ use Rattle.ffv1_video.specs.Profiles.{scope_in}
 abbrev pub Looks : Type 1
 Looks = Reading Notes → List ℕ → List ℕ → Type 0
 
--- from this place of a file there is no further frame, and this is left behind it; a reader that
+-- from this place of a file there is no further frame, and this is left after it; a reader that
 -- came to the end, in that container, reads notes of it so
 abbrev pub EndsAt : Looks → List ℕ → Place → List ℕ → List ℕ → Type 0
 EndsAt Looked behind from text rest =

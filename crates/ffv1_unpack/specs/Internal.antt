@@ -1,4 +1,5 @@
 -- What ties calls within the crate to the definitions. No public clause cites it.
+pub mod Carried
 pub mod Compared
 pub mod Containers
 pub mod FrameLines

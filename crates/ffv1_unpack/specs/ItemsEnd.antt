@@ -1,5 +1,5 @@
 -- The end of what a file gives that may be damaged: what its items say of Cues, and what stands
--- behind it.
+-- after it.
 use Rattle.std.specs.Prelude.{◌≡◌, ◌⊎◌, ◌-◌, ◌^◌, ℕ, suc, zero, Bool, false, List, [], ◌∷◌, length}
 use Rattle.std.specs.Prelude.{Option, Some, None, Result, Ok, Err}
 use Rattle.ffv1_reads.specs.Offsets.{offset_after}
@@ -29,7 +29,7 @@ cued_on on cued (Err why) = cued
 cued_on on cued (Ok (None, rest)) = cued
 cued_on on cued (Ok (Some p, rest)) = on p.1 p.2 cued rest
 
--- behind all items from here on, at most so many
+-- after all items from here on, at most so many
 unfoldable pub cued_up_to : ℕ → Place → Course → Bool → List ℕ → Bool
 cued_up_to zero from c cued text = cued
 cued_up_to (suc most) from c cued text =
@@ -38,7 +38,7 @@ cued_up_to (suc most) from c cued text =
 unfoldable pub cued_left : Place → Course → Bool → List ℕ → Bool
 cued_left from c cued text = cued_up_to (2 ^ 64 - 1) from c cued text
 
--- ---- what stands behind the end
+-- ---- what comes after the end
 
 -- how many bytes of a file come before the end of its Segment, if so many come before a place in
 -- that
@@ -47,18 +47,18 @@ ends_at (InAvi place) offset = 0
 ends_at (InMatroska segment track place) offset = offset_after offset (matroska.amount place)
 
 -- a file has this head and these items, and no further one is read; and this is said of how notes
--- are read of what stands behind its end, by how many bytes come before that, and of what is left.
--- What stands behind an AVI was looked at before
+-- are read of what comes after its end, by how many bytes come before that, and of what is left.
+-- What comes after an AVI was looked at before
 abbrev pub ItemsEnd : Profile → Head → List Given → (ℕ → Looks) → List ℕ → List ℕ → Type 0
 ItemsEnd profile head items Looked file rest =
     (from : Place) × (offset : ℕ) × (behind : List ℕ) × (left : List ℕ) × (after : Option ℕ)
-    × (repeated : ℕ)
+    × (repeated : ℕ) × (others : ℕ)
     × (open_read (scope_in profile) file ≡ Ok ((head, from), behind))
     × PlaceReached (scope_in profile) (Some file) (Some behind) head from offset
     × ItemsFrom from (course_by from offset) items (ItemsOver (length items)) behind left
     × Looked (ends_at from offset)
     (notes_read from (ends_at from offset) (cued_left from (course_by from offset) false behind)
-    after repeated) left rest
+    after repeated others) left rest
 
 -- another file begins there
 abbrev pub BeginsAnother : Looks

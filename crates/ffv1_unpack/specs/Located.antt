@@ -32,7 +32,7 @@ pub record Stands (scope : Scope) (text left : Option (List ℕ)) (r : Standing)
   pub ends : EndsThere r
   pub noted : NotesReached scope text left r
 
--- a reader stands so, and then the frames end; what stands behind them was refused with this fault,
+-- a reader stands so, and then the frames end; what comes after them was refused with this fault,
 -- at the offset at which they end
 pub record StopsBehind (scope : Scope) (p : Passage) (f : FileFault) (offset : ℕ) : Type 0 where
   pub last : Standing
@@ -48,7 +48,7 @@ pub record StopsBehind (scope : Scope) (p : Passage) (f : FileFault) (offset : �
   pub offset_is : offset ≡ reader.end
 
 -- if the fault is the file's own, elements and chunks of so many bytes were read whole, and the
--- one that comes next was refused with it, or what stands behind them all
+-- one that comes next was refused with it, or what comes after them all
 abbrev pub LocatedFault : Scope → Passage → Fault → ℕ → Type 0
 LocatedFault scope p f offset =
     is_file_fault f ≡ true → (g : FileFault) × (f ≡ of_avi g)

@@ -7,7 +7,7 @@ use Rattle.ffv1_record.specs.Reading.{IsRefused}
 use Rattle.ffv1_record.specs.declared.fault.RecordFault.{RecordFault}
 use Rattle.ffv1_frame.specs.declared.fault.FrameFault.{FrameFault}
 use Rattle.ffv1_files.specs.Places.{Place}
-use Rattle.ffv1_files.specs.Files.{open_read}
+use Rattle.ffv1_files.specs.Files.{once_read, open_read}
 use Rattle.ffv1_files.specs.declared.notes.Notes.{Notes}
 use Rattle.ffv1_reads.specs.Head.{Head}
 use Rattle.ffv1_reads.specs.Reads.{Reading, Want, Short, Met}
@@ -38,10 +38,17 @@ pub record LacksRecord (profile : Profile) (file rest : List ℕ) (f : Fault) : 
       head.width head.height refusal
   pub is : f ≡ of_record refusal
 
+-- the first fault of a file before its frames; or that of one that is read once, if the input can't
+-- begin again
+abbrev pub FaultsOpening : Profile → List ℕ → List ℕ → Fault → Type 0
+FaultsOpening profile file rest f =
+    FaultsRead (open_read (scope_in profile)) file rest f
+    ⊎ FaultsRead (once_read (scope_in profile)) file rest f
+
 -- the first fault of a file that has no stream, if it is known
 abbrev pub LacksStream : Profile → Option (List ℕ) → Option (List ℕ) → Fault → Type 0
 LacksStream profile old new f = Known old new (λ file rest.
-    FaultsRead (open_read (scope_in profile)) file rest f ⊎ LacksRecord profile file rest f)
+    FaultsOpening profile file rest f ⊎ LacksRecord profile file rest f)
 
 -- why there is no further frame: the file has a fault, or the next payload has one, after so much
 -- was decided, or there is none, and this is noted of the end

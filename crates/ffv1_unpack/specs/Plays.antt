@@ -62,7 +62,7 @@ FrameHasFault f to at rest = FaultsRead (frame_read to) at rest f
 abbrev pub FrameReadFails : Place → List ℕ → List ℕ → Type 0
 FrameReadFails to at rest = ReadFails (endings_from to) (frame_read to) at rest
 
--- what stands behind the end has this fault; a read of it failed
+-- what comes after the end has this fault; a read of it failed
 abbrev pub BehindHasFault : Fault → Looks
 BehindHasFault f reading text rest = FaultsRead reading text rest f
 
@@ -70,7 +70,7 @@ abbrev pub BehindReadFails : Looks
 BehindReadFails = ReadFails any_value
 
 -- nothing more was read; there is no further frame, and this is noted of the end; the file has this
--- fault, in the next frame or behind the end; a read of either failed; memory was refused for the
+-- fault, in the next frame or after the end; a read of either failed; memory was refused for the
 -- next payload, of which more bytes were wanted; it is this one
 abbrev pub NextStays : Place → List ℕ → List ℕ → Type 0
 NextStays to at rest = rest ≡ at
@@ -219,7 +219,7 @@ module _ (Has : List (List ℕ) → (Place → List ℕ → List ℕ → Type 0)
 -- ---- a whole file
 
 -- a file was read to its end, with this head and these payloads; and then these notes were read of
--- what stands behind it
+-- what comes after it
 abbrev pub HoldsNoted : Profile → Notes → Head → List (List ℕ) → List ℕ → List ℕ → Type 0
 HoldsNoted profile notes head held file rest =
     (behind : List ℕ) × HoldsPayloads profile file behind head held

@@ -20,9 +20,11 @@ use Rattle.ffv1_unpack.specs.Behind.{NotedIn}
 use Rattle.ffv1_unpack.specs.Opens.{LacksOpening}
 use Rattle.ffv1_unpack.specs.Play.{Played}
 use Rattle.ffv1_unpack.specs.Plays.{AtMost, FileThen, FramesThen, NextBehind, NextHasFault}
-use Rattle.ffv1_unpack.specs.Plays.{NextOver, NextPayloadLacks, NextReadFails, NotedAfter}
+use Rattle.ffv1_unpack.specs.Plays.{NextIsPayload, NextOver, NextPayloadLacks, NextReadFails}
+use Rattle.ffv1_unpack.specs.Plays.{NotedAfter}
 use Rattle.ffv1_unpack.specs.Plays.{StreamGoes, has_more}
-use Rattle.ffv1_unpack.specs.Stream.{Frame, IsStream, Stream, payloads}
+use Rattle.ffv1_unpack.specs.Stream.{Frame, IsStream, Stream, bytes_or, carried_after, last_bytes}
+use Rattle.ffv1_unpack.specs.Stream.{payloads, shown_by}
 
 -- all frames
 abbrev pub all_frames : FrameRange
@@ -39,6 +41,22 @@ abbrev pub RangeThen : Profile → ℕ → Head → List (List ℕ) →
 RangeThen profile first head held Next file rest =
     (before : List (List ℕ)) × (length before ≡ first)
     × FileThen profile head (before ++ held) Next file rest
+
+-- a file has this head, then so many payloads, of which the last one that has bytes is carried
+-- over; then come payloads that show these, and then a position where this holds of what is left
+-- before and after
+abbrev pub PartThen : Profile → ℕ → List ℕ → Head → List (List ℕ) →
+    (Place → List ℕ → List ℕ → Type 0) → List ℕ → List ℕ → Type 0
+PartThen profile first carried head held Next file rest =
+    (before : List (List ℕ)) × (length before ≡ first) × (carried ≡ last_bytes before)
+    × (own : List (List ℕ)) × (held ≡ shown_by carried own)
+    × FileThen profile head (before ++ own) Next file rest
+
+-- after payloads that show these comes one that shows this
+abbrev pub NextShows : List ℕ → List (List ℕ) → List ℕ → Place → List ℕ → List ℕ → Type 0
+NextShows carried before payload to at rest =
+    (own : List ℕ) × (payload ≡ bytes_or own (carried_after carried before))
+    × NextIsPayload own to at rest
 
 -- ---- a range that is not reached
 

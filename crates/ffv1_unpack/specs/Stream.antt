@@ -108,6 +108,32 @@ last_of [] = None
 last_of (x ∷ []) = Some x
 last_of (x ∷ y ∷ ys) = last_of (y ∷ ys)
 
+-- these bytes; or if there are none, those
+abbrev pub bytes_or : List ℕ → List ℕ → List ℕ
+bytes_or [] other = other
+bytes_or (b ∷ bs) other = b ∷ bs
+
+-- the last one of payloads that has bytes; none if no one has any
+abbrev pub last_bytes : List (List ℕ) → List ℕ
+last_bytes [] = []
+last_bytes (p ∷ ps) = bytes_or (last_bytes ps) p
+
+-- the payloads whose pictures a part of a file shows, after this one, which is carried over to it:
+-- its own, but in place of a first one that has no bytes that one
+abbrev pub shown_by : List ℕ → List (List ℕ) → List (List ℕ)
+shown_by carried [] = []
+shown_by carried (p ∷ ps) = bytes_or p carried ∷ ps
+
+-- what is carried over to the payload after these
+abbrev pub carried_after : List ℕ → List (List ℕ) → List ℕ
+carried_after carried [] = carried
+carried_after carried (p ∷ ps) = []
+
+-- frames after this coded one: a first one that repeats it is that one itself
+abbrev pub frames_after : Option CodedFrame → List Frame → List Frame
+frames_after (Some f) (Again ∷ fs) = Coded f ∷ fs
+frames_after last frames = frames
+
 -- from this place of the file this text begins with these frames; then come that place and that
 -- text
 abbrev pub ReadsFrames : Place → List ℕ → List (List ℕ) → Place → List ℕ → Type 0

@@ -11,18 +11,19 @@ use Rattle.ffv1_words.specs.declared.order.FrameRange.{FrameRange}
 use Rattle.ffv1_video.specs.declared.profile.Profile.{Profile}
 use Rattle.ffv1_video.specs.declared.fault.Fault.{Fault}
 use Rattle.ffv1_video.specs.declared.fault.Fault.TheVariants as fault
+use Rattle.ffv1_video.specs.Faults.{cause_of}
 use Rattle.ffv1_unpack.specs.Behind.{NotedIn}
 use Rattle.ffv1_unpack.specs.Containers.{is_profile_fault}
 use Rattle.ffv1_unpack.specs.Opens.{LacksOpening, is_opening_fault}
 use Rattle.ffv1_unpack.specs.Stream.{Frame, IsStream, Stream, payloads, shown_frames}
 use Rattle.ffv1_unpack.specs.Play.{Played}
-use Rattle.ffv1_unpack.specs.Plays.{AtMost, FileThen, NextBehind, NextStays, NotedAfter}
-use Rattle.ffv1_unpack.specs.Plays.{ReadsFile, has_more}
-use Rattle.ffv1_unpack.specs.Ranges.{PassStops, RangeThen}
+use Rattle.ffv1_unpack.specs.Plays.{AtMost, FileThen, NextBehind, NextIsPayload, NextStays}
+use Rattle.ffv1_unpack.specs.Plays.{NotedAfter, ReadsFile, has_more}
+use Rattle.ffv1_unpack.specs.Ranges.{NextShows, PartThen, PassStops}
 use Rattle.ffv1_unpack.specs.Told.{is_telling_fault}
 use Rattle.ffv1_video.specs.Output.{Silent}
 use Rattle.ffv1_unpack.specs.Unpacked.{AreAlike, HasText, LacksText, shown_text}
-use Rattle.ffv1_unpack.specs.Unpacking.{UnpackingStops, UnpacksMost}
+use Rattle.ffv1_unpack.specs.Unpacking.{UnpackingStopsIn, UnpacksMost}
 
 -- the file is opened, and its pictures have no text
 pub record LacksTextIn (profile : Profile) (p : Passage) (f : Fault) : Type 0 where
@@ -65,26 +66,28 @@ module _ (profile : Profile) (input output : Passage) where
         pub notes : Notes
         pub all : UnpacksMost (Held stream.head) stream input output notes most []
 
-      -- why no further picture is written
-      pub record UnpackGoes (f : Fault) : Type 0 where
+      -- why no further picture is written, by how a payload comes after those of frames
+      pub record UnpackGoes (Comes : List (List ℕ) → List ℕ → Place → List ℕ → List ℕ → Type 0)
+          (f : Fault) : Type 0 where
         pub stream : Stream
         pub is : IsStream profile stream
         pub text : HasText stream
-        pub stops : UnpackingStops (Held stream.head) stream input output f
+        pub stops : UnpackingStopsIn (Held stream.head) stream input output Comes f (cause_of f)
 
   -- why it is refused: the file is not opened for that, and nothing was written; or no further
   -- picture is written; or there is none
   abbrev pub UnpackStops : Fault → Type 0
   UnpackStops f =
       (Silent output × LacksUnpacking profile input f)
-      ⊎ UnpackGoes (FileThen profile) f
+      ⊎ UnpackGoes (FileThen profile) (λ before. NextIsPayload) f
       ⊎ ((f ≡ fault.NoFrames) × UnpackNone (FileThen profile) None)
 
 -- ---- the frames of a range
 
 module _ (profile : Profile) (range : FrameRange) (input output : Passage) where
-  -- they were decoded, at least one, and the text of them was written; this is noted of the end, if
-  -- it was read, and it is what is noted of the bytes of the file
+  -- they were decoded, at least one, of which a first one of no bytes shows the last payload before
+  -- that has bytes, and the text of them was written; this is noted of the end, if it was read, and
+  -- it is what is noted of the bytes of the file
   pub record UnpackRangeDone (count : ℕ) (notes : Notes) : Type 0 where
     pub stream : Stream
     pub frames : List Frame
@@ -94,7 +97,8 @@ module _ (profile : Profile) (range : FrameRange) (input output : Passage) where
     pub text : HasText stream
     pub played : Played profile stream frames
     pub alike : AreAlike stream (shown_frames frames)
-    pub reads : Known input.old input.new (RangeThen profile range.first stream.head
+    pub carried : List ℕ
+    pub reads : Known input.old input.new (PartThen profile range.first carried stream.head
         (payloads frames) (NextBehind notes range.count (length frames)))
     pub noted : NotedAfter notes range.count (length frames)
     pub of_file : has_more range.count (length frames) ≡ true → NotedIn profile input notes
@@ -108,9 +112,10 @@ module _ (profile : Profile) (range : FrameRange) (input output : Passage) where
   UnpackRangeStops f =
       (Silent output × (LacksUnpacking profile input f
       ⊎ ((passed : ℕ) × PassStops profile range.first input passed f)))
-      ⊎ UnpackGoes profile input output (RangeThen profile range.first) f
-      ⊎ ((f ≡ fault.NoFrames)
-      × UnpackNone profile input output (RangeThen profile range.first) range.count)
+      ⊎ ((carried : List ℕ) × UnpackGoes profile input output
+      (PartThen profile range.first carried) (NextShows carried) f)
+      ⊎ ((f ≡ fault.NoFrames) × (carried : List ℕ)
+      × UnpackNone profile input output (PartThen profile range.first carried) range.count)
 
 -- the faults that unpacking has, whatever the file: those of opening it, of reading and decoding
 -- its frames and of writing, and its own four

@@ -139,7 +139,7 @@ pub record AreSalvageCounts (ppm : Bool) (counts : JudgedCounts) (xs : List Judg
 -- ---- a whole file
 
 module _ (profile : Profile) (input lines output : Passage) where
-  -- these items are all that the file gives; and then this is said of what stands behind its end
+  -- these items are all that the file gives; and then this is said of what comes after its end
   pub record ItemsSalvaged (stream : Stream) (xs : List JudgedItem) (Looked : ℕ → Looks)
       : Type 0 where
     pub is : IsStream profile stream
@@ -148,7 +148,7 @@ module _ (profile : Profile) (input lines output : Passage) where
     pub ends : Known input.old input.new (ItemsEnd profile stream.head (map given_as xs) Looked)
     pub showed : PicturesShown (ItemsThen profile stream.head) stream input lines output xs
 
-  -- all items of the file, and another file that is told behind its end, at least one of these,
+  -- all items of the file, and another file that is told after its end, at least one of these,
   -- were judged, and their pictures and lines were written; of an AVI it is noted what is noted of
   -- the bytes of the file, if no more items come than are read
   pub record UnpackAllDone (counts : JudgedCounts) (notes : Notes) : Type 0 where
@@ -170,7 +170,7 @@ module _ (profile : Profile) (input lines output : Passage) where
     pub text : HasText stream
     pub stops : SalvageStopsBy (ItemsThen profile stream.head) stream input lines output f why
 
-  -- all items came, and what stands behind them was not told, by the cause: the line of another
+  -- all items came, and what comes after them was not told, by the cause: the line of another
   -- file was not written whole; a read of it failed, which was counted; or memory for that line was
   -- refused
   abbrev pub UnpackEndFailsBy : Cause → Type 0
@@ -200,7 +200,7 @@ module _ (profile : Profile) (input lines output : Passage) where
     pub kept : input.after ≡ input.before
 
   -- why it is refused, which no fault of a payload is a reason for: the file is not opened for
-  -- that, and nothing was written; or it goes no further; or what stands behind its items was not
+  -- that, and nothing was written; or it goes no further; or what comes after its items was not
   -- told; or there is nothing
   abbrev pub UnpackAllStops : Fault → Type 0
   UnpackAllStops f =

@@ -1,4 +1,4 @@
-//! What stands behind the items of a file that may be damaged.
+//! What comes after the items of a file that may be damaged.
 
 ghost use Rattle.std.specs.Prelude.{◌≡◌, ℕ, IfErr, IfOk, List, Option, false, true};
 ghost use Rattle.ffv1_wire.specs.Passage.{passage};
@@ -30,7 +30,7 @@ fn is_another(fault: FileFault) -> bool
     }
 }
 
-/// Looks at what stands behind the items of a file, once there are no more, and answers what is
+/// Looks at what comes after the items of a file, once there are no more, and answers what is
 /// noted of it. If another file begins there, its line is written, as of an element at fault, with
 /// the number of bytes before it; it is one fault more, and nothing is noted.
 pub(crate) fn tell_behind<R: ByteIn, W: ByteOut, A: Allocator + Copy>(

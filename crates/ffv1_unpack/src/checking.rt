@@ -10,6 +10,7 @@ ghost use Rattle.ffv1_unpack.specs.CheckAll.{CheckAllRangeDone, CheckAllRangeSto
 ghost use Rattle.ffv1_unpack.specs.Checked.{LacksRange};
 ghost use Rattle.ffv1_unpack.specs.Internal.Opens.{OpensRange};
 ghost use Rattle.ffv1_unpack.specs.Located.{Stands};
+ghost use Rattle.ffv1_unpack.specs.Opens.{IsReadAgain};
 ghost use Rattle.ffv1_unpack.specs.Judged.{counts_line};
 ghost use Rattle.ffv1_unpack.specs.Internal.Told.{WritesFrame};
 
@@ -22,7 +23,7 @@ use crate::player::{Player, open_player_located};
 use crate::telling::{Places, Telling, tell_byte, tell_frames};
 use ffv1_files::{Container, Notes, laws as files_laws};
 use ffv1_video::{Fault, Profile};
-use ffv1_wire::{ByteIn, ByteOut, write_all};
+use ffv1_wire::{AgainIn, ByteOut, write_all};
 use ffv1_words::FrameRange;
 use std::alloc::Allocator;
 
@@ -62,8 +63,9 @@ fn write_count<W: ByteOut, A: Allocator + Copy>(
 /// `RIFF`, or that has fewer frames than its `dmlh` says, and `NotAvi` one in which something that
 /// is no `RIFF` comes after the last one; and a file that begins with the byte 1A is Matroska, with
 /// the faults that `MatroskaReader::open` and `MatroskaReader::next_frame` name in place of those
-/// of AVI. With `place` one line more is written if a payload is refused, and at `Wide` if
-/// the file itself is; if that line cannot be written, the fault stays what it is:
+/// of AVI; `NoTracks` says that no Tracks stand anywhere in its Segment, if the input can begin
+/// again. With `place` one line more is written if a payload is refused, and at `Wide` if the file
+/// itself is; if that line cannot be written, the fault stays what it is:
 ///
 /// ```text
 /// fault frame {i} slice {s} plane {p} line {l} x {x} decisions {d}
@@ -73,12 +75,12 @@ fn write_count<W: ByteOut, A: Allocator + Copy>(
 /// The second is written of `NotAvi`, `NoFfv1`, `Truncated`, `ChunkTooLong`, `EmptyFrame`, `Read`,
 /// `Another` and the faults of Matroska. Its frame is the one that would come next, 0 up to the
 /// first one; its offset is how many bytes of the file come before the element or the chunk that is
-/// refused, or before what stands behind all of them.
+/// refused, or before what comes after all of them.
 ///
-/// After the last frame what stands behind the file is looked at, as `FileReader::look_behind`
+/// At the end, what comes after the file is looked at, as `FileReader::look_behind`
 /// does: `Another` if another file begins there, after the lines of all frames; else the answer is
 /// what it notes.
-pub fn check<R: ByteIn, W: ByteOut, A: Allocator + Copy>(
+pub fn check<R: AgainIn, W: ByteOut, A: Allocator + Copy>(
     alloc: A,
     profile: Profile,
     input: &mut R,
@@ -92,6 +94,8 @@ pub fn check<R: ByteIn, W: ByteOut, A: Allocator + Copy>(
         (passage R.remaining R.failures input.old input.new)
         (passage W.contents W.failures output.old output.new)) }
     ensures own { IfErr result (IsCheckFault profile) }
+    ensures again { IfErr result (IsReadAgain profile (R.begins input.old)
+        (passage R.remaining R.failures input.old input.new)) }
 {
     files_laws::frames_come_in_turn();
     files_laws::what_is_read_is_a_file();
@@ -101,7 +105,7 @@ pub fn check<R: ByteIn, W: ByteOut, A: Allocator + Copy>(
 /// Opens a file, and passes the frames before a range that begins with this number. If the file is
 /// refused, the line of the byte where it is is written, if it is asked for; a write of that which
 /// fails is counted, and no fault.
-fn open_range<R: ByteIn, W: ByteOut, A: Allocator + Copy>(
+fn open_range<R: AgainIn, W: ByteOut, A: Allocator + Copy>(
     alloc: A,
     profile: Profile,
     input: &mut R,
@@ -118,6 +122,8 @@ fn open_range<R: ByteIn, W: ByteOut, A: Allocator + Copy>(
         (passage R.remaining R.failures input.old input.new)
         (passage W.contents W.failures output.old output.new)) }
     ensures own { IfErr result (IsCheckFault profile) }
+    ensures again { IfErr result (IsReadAgain profile (R.begins input.old)
+        (passage R.remaining R.failures input.old input.new)) }
 {
     let mut offset = 0u64;
     match open_player_located(alloc, profile, input, &mut offset) {
@@ -146,7 +152,7 @@ fn open_range<R: ByteIn, W: ByteOut, A: Allocator + Copy>(
 /// The faults are those of `check`, as far as the file is read; `NoFrames` is also a file that has
 /// no frame of the range. Nothing is noted if the end of the file is not read, as where there are
 /// as many frames as the range names.
-pub fn check_range<R: ByteIn, W: ByteOut, A: Allocator + Copy>(
+pub fn check_range<R: AgainIn, W: ByteOut, A: Allocator + Copy>(
     alloc: A,
     profile: Profile,
     input: &mut R,
@@ -161,6 +167,8 @@ pub fn check_range<R: ByteIn, W: ByteOut, A: Allocator + Copy>(
         (passage R.remaining R.failures input.old input.new)
         (passage W.contents W.failures output.old output.new)) }
     ensures own { IfErr result (IsCheckFault profile) }
+    ensures again { IfErr result (IsReadAgain profile (R.begins input.old)
+        (passage R.remaining R.failures input.old input.new)) }
 {
     let byte = profile.tells_byte(place);
     let mut player = open_range(alloc, profile, input, output, byte, range.first)?;
@@ -216,7 +224,7 @@ fn write_counts<W: ByteOut, A: Allocator + Copy>(
 /// A frame of an AVI that has no bytes has the line that `check` writes of it, and no fault.
 ///
 /// Answers the first fault of either kind, and None if there is none, and what is noted of the end,
-/// as `check` does. If another file begins behind a Matroska file, that is told, too: the line of a
+/// as `check` does. If another file begins after a Matroska file, that is told, too: the line of a
 /// fault with the number of bytes before it, and one fault more. A Segment of unknown size is open
 /// if no Cues came after the last Cluster that was read. Frames are counted from 0; a count of 64
 /// bits stays at its greatest value, and of a Matroska file at most 2^64 - 1 frames and faults are
@@ -228,7 +236,7 @@ fn write_counts<W: ByteOut, A: Allocator + Copy>(
 /// `OutOfMemory` and `Write` as they come, `Write` also if the line of a frame's place is not
 /// written. With `place`, at `Wide`, a fault of the file itself has the line of its byte, as
 /// `check` writes it, but not a read that fails among the frames of a Matroska file.
-pub fn check_all<R: ByteIn, W: ByteOut, A: Allocator + Copy>(
+pub fn check_all<R: AgainIn, W: ByteOut, A: Allocator + Copy>(
     alloc: A,
     profile: Profile,
     input: &mut R,
@@ -242,6 +250,8 @@ pub fn check_all<R: ByteIn, W: ByteOut, A: Allocator + Copy>(
         (passage R.remaining R.failures input.old input.new)
         (passage W.contents W.failures output.old output.new)) }
     ensures own { IfErr result (IsCheckFault profile) }
+    ensures again { IfErr result (IsReadAgain profile (R.begins input.old)
+        (passage R.remaining R.failures input.old input.new)) }
 {
     files_laws::frames_come_in_turn();
     files_laws::what_is_read_is_a_file();
@@ -292,7 +302,7 @@ pub fn check_all<R: ByteIn, W: ByteOut, A: Allocator + Copy>(
 /// what is noted of the end: nothing, if that is not read. The first fault of the file itself ends
 /// it, in a Matroska file, too, which `check_all` reads on. The faults are those of `check`, as far
 /// as the file is read; `NoFrames` is also a file that has no frame of the range.
-pub fn check_all_range<R: ByteIn, W: ByteOut, A: Allocator + Copy>(
+pub fn check_all_range<R: AgainIn, W: ByteOut, A: Allocator + Copy>(
     alloc: A,
     profile: Profile,
     input: &mut R,
@@ -307,6 +317,8 @@ pub fn check_all_range<R: ByteIn, W: ByteOut, A: Allocator + Copy>(
         (passage R.remaining R.failures input.old input.new)
         (passage W.contents W.failures output.old output.new)) }
     ensures own { IfErr result (IsCheckFault profile) }
+    ensures again { IfErr result (IsReadAgain profile (R.begins input.old)
+        (passage R.remaining R.failures input.old input.new)) }
 {
     let byte = profile.tells_byte(place);
     let mut player = open_range(alloc, profile, input, output, byte, range.first)?;

@@ -16,6 +16,7 @@ ghost use Rattle.ffv1_unpack.specs.Compared.{is_md5, met, picture_number};
 ghost use Rattle.ffv1_unpack.specs.Internal.Compared.{CompareAnswers, FramesStop};
 ghost use Rattle.ffv1_unpack.specs.Internal.Plays.{PlaysAll};
 ghost use Rattle.ffv1_unpack.specs.Internal.Told.{IsToldFault};
+ghost use Rattle.ffv1_unpack.specs.Opens.{IsReadAgain};
 ghost use Rattle.ffv1_unpack.specs.Plays.{HasThen};
 ghost use Rattle.ffv1_unpack.specs.Stream.{Frame, IsFrame, coded_frames, frame_payload};
 ghost use Rattle.ffv1_range.specs.Counts.{saturated};
@@ -28,7 +29,7 @@ use ffv1_files::{Notes, laws as files_laws};
 use ffv1_record::{Checked, laws as record_laws};
 use ffv1_video::picture_md5::picture_md5;
 use ffv1_video::{Fault, Profile};
-use ffv1_wire::ByteIn;
+use ffv1_wire::{AgainIn, ByteIn};
 use std::alloc::Allocator;
 
 /// Why the pictures of a file are not those of a list of MD5s.
@@ -194,11 +195,11 @@ fn compare_frames<R: ByteIn, A: Allocator + Copy>(
 /// after a frame that differs nothing is read. `Fault` has the faults of `framemd5`, but for
 /// `Write`.
 ///
-/// After the last frame what stands behind the file is looked at, as `FileReader::look_behind`
+/// At the end, what comes after the file is looked at, as `FileReader::look_behind`
 /// does: `Fault` has `Another` if another file begins there; else the answer is what it notes.
 ///
 /// Beside the list and what the decoder holds, one payload and one picture are held.
-pub fn check_against<R: ByteIn, A: Allocator + Copy>(
+pub fn check_against<R: AgainIn, A: Allocator + Copy>(
     alloc: A,
     profile: Profile,
     input: &mut R,
@@ -209,6 +210,8 @@ pub fn check_against<R: ByteIn, A: Allocator + Copy>(
     ensures err { IfErr result (ComparingStops profile md5s.now
         (passage R.remaining R.failures input.old input.new)) }
     ensures own { IfErr result (IsUnlike (IsCheckFault profile)) }
+    ensures again { IfErr result (IsUnlike (IsReadAgain profile (R.begins input.old)
+        (passage R.remaining R.failures input.old input.new))) }
 {
     files_laws::frames_come_in_turn();
     files_laws::what_is_read_is_a_file();

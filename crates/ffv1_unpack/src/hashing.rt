@@ -14,7 +14,7 @@ ghost use Rattle.ffv1_unpack.specs.FrameMd5.{md5_from};
 ghost use Rattle.ffv1_unpack.specs.Internal.FrameMd5.{Md5Answers, headed_md5};
 ghost use Rattle.ffv1_video.specs.RawPicture.{AreEven};
 ghost use Rattle.ffv1_unpack.specs.Internal.Opens.{OpensRange, stream_of};
-ghost use Rattle.ffv1_unpack.specs.Opens.{LacksOpening};
+ghost use Rattle.ffv1_unpack.specs.Opens.{IsReadAgain, LacksOpening};
 ghost use Rattle.ffv1_unpack.specs.Ranges.{PassStops};
 ghost use Rattle.ffv1_video.specs.KeptLines.{IsKeptFor};
 ghost use Rattle.ffv1_unpack.specs.Internal.PicturesOut.{head_saying};
@@ -35,7 +35,7 @@ use ffv1_files::{Notes, laws as files_laws};
 use ffv1_record::{Checked, laws as record_laws};
 use ffv1_video::md5_lines::{push_picture, put_head};
 use ffv1_video::{Fault, Profile};
-use ffv1_wire::{ByteIn, ByteOut, write_all};
+use ffv1_wire::{AgainIn, ByteIn, ByteOut, write_all};
 use ffv1_words::FrameRange;
 use ffv1_y4m::VideoHead;
 use std::alloc::{AllocError, Allocator};
@@ -263,10 +263,11 @@ fn write_frames<R: ByteIn, W: ByteOut, A: Allocator + Copy>(
 /// inside a `RIFF`, or that has fewer frames than its `dmlh` says, and `NotAvi` one in which
 /// something that is no `RIFF` comes after the last one; and a file that begins with the byte 1A
 /// is Matroska, with the faults that `MatroskaReader::open` and `MatroskaReader::next_frame` name
-/// in place of those of AVI. After the last frame what stands behind the file is looked at, as
+/// in place of those of AVI; `NoTracks` says that no Tracks stand anywhere in its Segment, if the
+/// input can begin again. At the end, what comes after the file is looked at, as
 /// `FileReader::look_behind` does: `Another` if another file begins there, after all lines; else
 /// the answer is what it notes.
-pub fn framemd5<R: ByteIn, W: ByteOut, A: Allocator + Copy>(
+pub fn framemd5<R: AgainIn, W: ByteOut, A: Allocator + Copy>(
     alloc: A,
     profile: Profile,
     input: &mut R,
@@ -279,6 +280,8 @@ pub fn framemd5<R: ByteIn, W: ByteOut, A: Allocator + Copy>(
         (passage R.remaining R.failures input.old input.new)
         (passage W.contents W.failures output.old output.new)) }
     ensures own { IfErr result (IsCheckFault profile) }
+    ensures again { IfErr result (IsReadAgain profile (R.begins input.old)
+        (passage R.remaining R.failures input.old input.new)) }
 {
     files_laws::frames_come_in_turn();
     files_laws::what_is_read_is_a_file();
@@ -286,7 +289,7 @@ pub fn framemd5<R: ByteIn, W: ByteOut, A: Allocator + Copy>(
 }
 
 /// Opens a file, and passes the frames before a range that begins with this number.
-fn open_range<R: ByteIn, A: Allocator + Copy>(
+fn open_range<R: AgainIn, A: Allocator + Copy>(
     alloc: A,
     profile: Profile,
     input: &mut R,
@@ -299,6 +302,8 @@ fn open_range<R: ByteIn, A: Allocator + Copy>(
         ⊎ ((passed : ℕ) × PassStops profile first
         (passage R.remaining R.failures input.old input.new) passed f)) }
     ensures own { IfErr result (IsCheckFault profile) }
+    ensures again { IfErr result (IsReadAgain profile (R.begins input.old)
+        (passage R.remaining R.failures input.old input.new)) }
     ensures located { IfOk result (λ p. Stands (scope_in profile) (R.remaining input.old)
         (R.remaining input.new) p.reader) }
 {
@@ -316,7 +321,7 @@ fn open_range<R: ByteIn, A: Allocator + Copy>(
 /// The faults are those of `framemd5`, as far as the file is read; `NoFrames` is also a file that
 /// has no frame of the range. Nothing is noted if the end of the file is not read, as where there
 /// are as many frames as the range names.
-pub fn framemd5_range<R: ByteIn, W: ByteOut, A: Allocator + Copy>(
+pub fn framemd5_range<R: AgainIn, W: ByteOut, A: Allocator + Copy>(
     alloc: A,
     profile: Profile,
     input: &mut R,
@@ -330,6 +335,8 @@ pub fn framemd5_range<R: ByteIn, W: ByteOut, A: Allocator + Copy>(
         (passage R.remaining R.failures input.old input.new)
         (passage W.contents W.failures output.old output.new)) }
     ensures own { IfErr result (IsCheckFault profile) }
+    ensures again { IfErr result (IsReadAgain profile (R.begins input.old)
+        (passage R.remaining R.failures input.old input.new)) }
 {
     let mut player = open_range(alloc, profile, input, range.first)?;
     let count = write_frames(alloc, &mut player, input, output, range)?;

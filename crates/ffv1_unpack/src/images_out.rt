@@ -1,7 +1,7 @@
 //! Writes the pictures of a file as PPM, each row when it is decoded.
 
 ghost use Rattle.std.specs.Prelude.{◌≡◌, ◌<◌, ℕ, IfErr, IfOk, List, length, None, OnOk, false};
-ghost use Rattle.std.specs.Prelude.{true};
+ghost use Rattle.std.specs.Prelude.{[], true};
 ghost use Rattle.ffv1_wire.specs.Passage.{passage};
 ghost use Rattle.ffv1_range.specs.Counts.{saturated};
 ghost use Rattle.ffv1_record.specs.Accepted.{IsAccepted};
@@ -13,13 +13,17 @@ ghost use Rattle.ffv1_unpack.specs.Internal.Opens.{stream_of};
 ghost use Rattle.ffv1_unpack.specs.Stream.{AreFrames, Frame, Stream};
 ghost use Rattle.ffv1_video.specs.declared.fault.Fault.TheVariants as fault;
 ghost use Rattle.ffv1_unpack.specs.Internal.Unpack.{IsWritingFault};
-ghost use Rattle.ffv1_unpack.specs.Unpacking.{UnpackingStops, UnpacksMost};
-ghost use Rattle.ffv1_unpack.specs.Plays.{HasThen, has_more};
+ghost use Rattle.ffv1_unpack.specs.Unpacking.{UnpackingStopsIn, UnpacksMost};
+ghost use Rattle.ffv1_unpack.specs.Plays.{has_more};
+ghost use Rattle.ffv1_unpack.specs.Ranges.{NextShows};
+ghost use Rattle.ffv1_unpack.specs.Internal.Carried.{ShowsThen};
+ghost use Rattle.ffv1_video.specs.Faults.{cause_of};
 ghost use Rattle.ffv1_unpack.specs.Internal.Located.{EndsNoted, StaysReached};
 
+use crate::carrying::play_carried;
 use crate::passing::has_more;
 use crate::picture_out::PictureOut;
-use crate::player::{NextFrame, Player, Stop, play};
+use crate::player::{NextFrame, Player, Stop};
 use ffv1_codec::{CodecFault, FrameDecoder, laws as codec_laws};
 use ffv1_record::laws as record_laws;
 use ffv1_video::Fault;
@@ -57,12 +61,14 @@ fn repeat_image<W: ByteOut, A: Allocator>(
 }
 
 /// Reads the next frame, and decodes it into an image; one that repeats another is the last image
-/// once more, whose payload is kept. Answers false if there is none.
+/// once more, whose payload is kept. One without bytes is the image of what is carried over to it.
+/// Answers false if there is none.
 fn write_next<R: ByteIn, W: ByteOut, A: Allocator>(
     player: &mut Player<A>,
     input: &mut R,
     sink: &mut PpmWriter<W, A>,
     last: &mut Vec<u8, A>,
+    carried: &mut Vec<u8, A>,
 ) -> Result<bool, Fault>
     requires sound { player.old.reader.fault ≡ None }
     requires accepted { IsAccepted player.old.decoder.accepted.configuration
@@ -72,13 +78,15 @@ fn write_next<R: ByteIn, W: ByteOut, A: Allocator>(
     requires sink { IsSinkFor player.old.decoder.accepted.configuration sink.old }
     ensures answer { (frames : List Frame) → AreFrames player.old.decoder.accepted frames →
         IsLastPayload frames last.old.items →
-        WritesImage player.old.decoder.accepted frames player.old.reader.place
-        player.new.reader.place (passage R.remaining R.failures input.old input.new)
+        WritesImage player.old.decoder.accepted carried.old.items frames
+        player.old.reader.place player.new.reader.place
+        (passage R.remaining R.failures input.old input.new)
         (passage W.contents W.failures sink.old.out sink.new.out) player.new.notes last.new.items
         result }
     ensures sink { (frames : List Frame) → AreFrames player.old.decoder.accepted frames →
         IsLastPayload frames last.old.items →
         OnOk result (IsSinkFor player.old.decoder.accepted.configuration sink.new) }
+    ensures none { IfOk result (λ more. more ≡ true → carried.new.items ≡ []) }
     ensures sound { OnOk result (player.new.reader.fault ≡ None) }
     ensures less { IfOk result (λ more. more ≡ true →
         amount player.new.reader.place < amount player.old.reader.place) }
@@ -102,7 +110,7 @@ fn write_next<R: ByteIn, W: ByteOut, A: Allocator>(
     y4m_laws::image_is_written_after_the_others::<W>();
     y4m_laws::sink_writes_the_lines_it_took::<W>();
     y4m_laws::sink_takes_the_next_line::<W>();
-    match play(player, input, sink) {
+    match play_carried(player, input, sink, carried) {
         Ok(NextFrame::End) => Ok(false),
         Ok(NextFrame::Coded(_info)) => {
             swap(&mut player.payload, last);
@@ -121,14 +129,15 @@ fn write_next<R: ByteIn, W: ByteOut, A: Allocator>(
     }
 }
 
-/// Decodes the frames that are left, at most so many, into images. Answers how many there were, at
-/// most 2^64 - 1.
+/// Decodes the frames that are left, at most so many, into images; a first one without bytes shows
+/// what is carried over to it. Answers how many there were, at most 2^64 - 1.
 fn write_all_images<R: ByteIn, W: ByteOut, A: Allocator + Copy>(
     alloc: A,
     player: &mut Player<A>,
     input: &mut R,
     sink: &mut PpmWriter<W, A>,
     most: Option<u32>,
+    carried: &mut Vec<u8, A>,
 ) -> Result<u64, Fault>
     requires sound { player.old.reader.fault ≡ None }
     requires accepted { IsAccepted player.old.decoder.accepted.configuration
@@ -137,14 +146,16 @@ fn write_all_images<R: ByteIn, W: ByteOut, A: Allocator + Copy>(
     requires opaque { player.old.decoder.accepted.configuration.extra_plane ≡ false }
     requires sink { IsSinkFor player.old.decoder.accepted.configuration sink.old }
     ensures ok { IfOk result (λ n. (frames : List Frame) × (n ≡ saturated (length frames))
-        × UnpacksMost (HasThen player.old.reader.place)
+        × UnpacksMost (ShowsThen carried.old.items player.old.reader.place)
         (stream_of player.old.reader player.old.decoder.accepted)
         (passage R.remaining R.failures input.old input.new)
         (passage W.contents W.failures sink.old.out sink.new.out) player.new.notes most frames) }
-    ensures err { IfErr result (UnpackingStops (HasThen player.old.reader.place)
+    ensures err { IfErr result (λ f. UnpackingStopsIn
+        (ShowsThen carried.old.items player.old.reader.place)
         (stream_of player.old.reader player.old.decoder.accepted)
         (passage R.remaining R.failures input.old input.new)
-        (passage W.contents W.failures sink.old.out sink.new.out)) }
+        (passage W.contents W.failures sink.old.out sink.new.out) (NextShows carried.old.items) f
+        (cause_of f)) }
     ensures own { IfErr result (IsWritingFault player.old.reader (R.remaining input.old)) }
     ensures noted { IfOk result (λ n. (k : ℕ) → n ≡ saturated k → has_more most k ≡ true →
         EndsNoted player.old.reader (passage R.remaining R.failures input.old input.new)
@@ -153,7 +164,7 @@ fn write_all_images<R: ByteIn, W: ByteOut, A: Allocator + Copy>(
     let mut last = Vec::new(alloc);
     let mut count = 0u64;
     'frames: while has_more(most, count) {
-        if !write_next(player, input, sink, &mut last)? {
+        if !write_next(player, input, sink, &mut last, carried)? {
             return Ok(count);
         }
         count = count.saturating_add(1);
@@ -169,6 +180,7 @@ pub(crate) fn write_images<R: ByteIn, W: ByteOut, A: Allocator + Copy>(
     input: &mut R,
     output: W,
     most: Option<u32>,
+    carried: &mut Vec<u8, A>,
 ) -> (W, Result<u64, Fault>)
     requires sound { player.old.reader.fault ≡ None }
     requires accepted { IsAccepted player.old.decoder.accepted.configuration
@@ -176,14 +188,16 @@ pub(crate) fn write_images<R: ByteIn, W: ByteOut, A: Allocator + Copy>(
     requires colour { is_rct player.old.decoder.accepted.configuration.colour ≡ true }
     requires opaque { player.old.decoder.accepted.configuration.extra_plane ≡ false }
     ensures ok { IfOk result.1 (λ n. (frames : List Frame) × (n ≡ saturated (length frames))
-        × UnpacksMost (HasThen player.old.reader.place)
+        × UnpacksMost (ShowsThen carried.old.items player.old.reader.place)
         (stream_of player.old.reader player.old.decoder.accepted)
         (passage R.remaining R.failures input.old input.new)
         (passage W.contents W.failures output result.0) player.new.notes most frames) }
-    ensures err { IfErr result.1 (UnpackingStops (HasThen player.old.reader.place)
+    ensures err { IfErr result.1 (λ f. UnpackingStopsIn
+        (ShowsThen carried.old.items player.old.reader.place)
         (stream_of player.old.reader player.old.decoder.accepted)
         (passage R.remaining R.failures input.old input.new)
-        (passage W.contents W.failures output result.0)) }
+        (passage W.contents W.failures output result.0) (NextShows carried.old.items) f
+        (cause_of f)) }
     ensures own { IfErr result.1 (IsWritingFault player.old.reader (R.remaining input.old)) }
     ensures noted { IfOk result.1 (λ n. (k : ℕ) → n ≡ saturated k → has_more most k ≡ true →
         EndsNoted player.old.reader (passage R.remaining R.failures input.old input.new)
@@ -194,7 +208,7 @@ pub(crate) fn write_images<R: ByteIn, W: ByteOut, A: Allocator + Copy>(
     match PpmWriter::sized_at(alloc, output, config.width, config.height, checked.depth()) {
         Err((output, fault)) => (output, Err(Fault::from(fault))),
         Ok(mut sink) => {
-            let count = write_all_images(alloc, player, input, &mut sink, most);
+            let count = write_all_images(alloc, player, input, &mut sink, most, carried);
             (sink.into_inner(), count)
         }
     }

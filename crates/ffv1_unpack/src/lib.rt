@@ -11,6 +11,7 @@
 #![tactic(auto)]
 
 mod behind;
+mod carrying;
 mod checking;
 mod comparing;
 pub mod frame_line;

@@ -39,7 +39,7 @@ pub(crate) fn notes_after(notes: Notes, most: Option<u32>, count: u64) -> Notes
 }
 
 /// Reads so many frames, and decodes none. `passed` is how many were read. Refuses with `NoFrames`
-/// if the file has fewer, after what stands behind it was looked at.
+/// if the file has fewer, once what comes after it was looked at.
 pub(crate) fn pass_frames<R: ByteIn, A: Allocator>(
     player: &mut Player<A>,
     input: &mut R,

@@ -1,7 +1,7 @@
 //! Writes the pictures of a file as YUV4MPEG2, each when it is decoded.
 
 ghost use Rattle.std.specs.Prelude.{◌≡◌, ◌<◌, ℕ, IfErr, IfOk, List, None, OnOk, false, length};
-ghost use Rattle.std.specs.Prelude.{true};
+ghost use Rattle.std.specs.Prelude.{[], true};
 ghost use Rattle.ffv1_wire.specs.Passage.{passage};
 ghost use Rattle.ffv1_range.specs.Counts.{saturated};
 ghost use Rattle.ffv1_record.specs.Accepted.{IsAccepted};
@@ -14,16 +14,20 @@ ghost use Rattle.ffv1_unpack.specs.Internal.Opens.{stream_of};
 ghost use Rattle.ffv1_unpack.specs.Internal.PicturesOut.{IsBegun, WritesNext, head_saying, said_in};
 ghost use Rattle.ffv1_video.specs.KeptLines.{IsKeptFor};
 ghost use Rattle.ffv1_unpack.specs.Internal.PicturesOut.{RepeatsPicture, WritesPicture};
-ghost use Rattle.ffv1_unpack.specs.Plays.{HasThen, has_more};
+ghost use Rattle.ffv1_unpack.specs.Plays.{has_more};
+ghost use Rattle.ffv1_unpack.specs.Ranges.{NextShows};
+ghost use Rattle.ffv1_unpack.specs.Internal.Carried.{ShowsThen};
+ghost use Rattle.ffv1_video.specs.Faults.{cause_of};
 ghost use Rattle.ffv1_unpack.specs.Stream.{Frame};
 ghost use Rattle.ffv1_unpack.specs.Unpack.{IsUnpackFault};
 ghost use Rattle.ffv1_unpack.specs.Internal.Unpack.{IsWritingFault};
 ghost use Rattle.ffv1_unpack.specs.Unpacked.{video_of};
-ghost use Rattle.ffv1_unpack.specs.Unpacking.{UnpackingStops, UnpacksMost};
+ghost use Rattle.ffv1_unpack.specs.Unpacking.{UnpackingStopsIn, UnpacksMost};
 ghost use Rattle.ffv1_unpack.specs.Internal.Located.{EndsNoted, StaysReached};
 
+use crate::carrying::play_carried;
 use crate::passing::has_more;
-use crate::player::{NextFrame, Player, Stop, play};
+use crate::player::{NextFrame, Player, Stop};
 use ffv1_codec::{Info, KeepLines, laws as codec_laws};
 use ffv1_reads::FileHead;
 use ffv1_record::{Checked, laws as record_laws};
@@ -121,13 +125,15 @@ fn repeat_picture<W: ByteOut, A: Allocator>(
 }
 
 /// Reads the next frame, decodes it, and writes its picture, or the last one once more if it
-/// repeats that. Answers false if there is none.
+/// repeats that. One without bytes is the picture of what is carried over to it. Answers false if
+/// there is none.
 fn write_next<R: ByteIn, W: ByteOut, A: Allocator>(
     player: &mut Player<A>,
     input: &mut R,
     output: &mut W,
     kept: &mut KeepLines<A>,
     text: &mut Text,
+    carried: &mut Vec<u8, A>,
 ) -> Result<bool, Fault>
     requires sound { player.old.reader.fault ≡ None }
     requires accepted { IsAccepted player.old.decoder.accepted.configuration
@@ -135,14 +141,15 @@ fn write_next<R: ByteIn, W: ByteOut, A: Allocator>(
     requires kept { IsKeptFor player.old.decoder.accepted kept.old }
     requires begun { IsBegun player.old.decoder.accepted.configuration.depth text.old.head
         text.old.begun }
-    ensures answer { WritesNext player.old.decoder.accepted text.old.head text.old.begun
-        kept.old.planes player.old.reader.place player.new.reader.place
+    ensures answer { WritesNext player.old.decoder.accepted carried.old.items text.old.head
+        text.old.begun kept.old.planes player.old.reader.place player.new.reader.place
         (passage R.remaining R.failures input.old input.new)
         (passage W.contents W.failures output.old output.new) player.new.notes text.new.begun
         kept.new.planes result }
     ensures kept { OnOk result (IsKeptFor player.old.decoder.accepted kept.new) }
     ensures end { IfOk result (λ more. more ≡ false → text.new.begun ≡ text.old.begun) }
     ensures head { text.new.head ≡ text.old.head }
+    ensures none { IfOk result (λ more. more ≡ true → carried.new.items ≡ []) }
     ensures sound { OnOk result (player.new.reader.fault ≡ None) }
     ensures less { IfOk result (λ more. more ≡ true →
         amount player.new.reader.place < amount player.old.reader.place) }
@@ -160,7 +167,7 @@ fn write_next<R: ByteIn, W: ByteOut, A: Allocator>(
     codec_laws::sink::kept_lines_make_up_the_picture();
     codec_laws::answer::answered_fault_is_of_decoding::<KeepLines<A>>();
     let depth = player.decoder.config().depth();
-    match play(player, input, kept) {
+    match play_carried(player, input, kept, carried) {
         Ok(NextFrame::End) => Ok(false),
         Ok(NextFrame::Coded(info)) => {
             write_picture(depth, text, output, info, kept.planes())?;
@@ -175,28 +182,32 @@ fn write_next<R: ByteIn, W: ByteOut, A: Allocator>(
     }
 }
 
-/// Decodes the frames that are left, at most so many, and writes the picture of each. Answers how
-/// many there were, at most 2^64 - 1; what is noted of the end is in the player, if it was read.
+/// Decodes the frames that are left, at most so many, and writes the picture of each; a first one
+/// without bytes shows what is carried over to it. Answers how many there were, at most 2^64 - 1;
+/// what is noted of the end is in the player, if it was read.
 pub(crate) fn write_pictures<R: ByteIn, W: ByteOut, A: Allocator + Copy>(
     alloc: A,
     player: &mut Player<A>,
     input: &mut R,
     output: &mut W,
     most: Option<u32>,
+    carried: &mut Vec<u8, A>,
 ) -> Result<u64, Fault>
     requires sound { player.old.reader.fault ≡ None }
     requires accepted { IsAccepted player.old.decoder.accepted.configuration
         player.old.decoder.accepted.table }
     requires colour { is_rct player.old.decoder.accepted.configuration.colour ≡ false }
     ensures ok { IfOk result (λ n. (frames : List Frame) × (n ≡ saturated (length frames))
-        × UnpacksMost (HasThen player.old.reader.place)
+        × UnpacksMost (ShowsThen carried.old.items player.old.reader.place)
         (stream_of player.old.reader player.old.decoder.accepted)
         (passage R.remaining R.failures input.old input.new)
         (passage W.contents W.failures output.old output.new) player.new.notes most frames) }
-    ensures err { IfErr result (UnpackingStops (HasThen player.old.reader.place)
+    ensures err { IfErr result (λ f. UnpackingStopsIn
+        (ShowsThen carried.old.items player.old.reader.place)
         (stream_of player.old.reader player.old.decoder.accepted)
         (passage R.remaining R.failures input.old input.new)
-        (passage W.contents W.failures output.old output.new)) }
+        (passage W.contents W.failures output.old output.new) (NextShows carried.old.items) f
+        (cause_of f)) }
     ensures own { IfErr result (IsWritingFault player.old.reader (R.remaining input.old)) }
     ensures noted { IfOk result (λ n. (k : ℕ) → n ≡ saturated k → has_more most k ≡ true →
         EndsNoted player.old.reader (passage R.remaining R.failures input.old input.new)
@@ -210,7 +221,7 @@ pub(crate) fn write_pictures<R: ByteIn, W: ByteOut, A: Allocator + Copy>(
     };
     let mut count = 0u64;
     'frames: while has_more(most, count) {
-        if !write_next(player, input, output, &mut kept, &mut text)? {
+        if !write_next(player, input, output, &mut kept, &mut text, carried)? {
             return Ok(count);
         }
         count = count.saturating_add(1);

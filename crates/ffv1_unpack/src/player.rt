@@ -18,7 +18,7 @@ ghost use Rattle.ffv1_unpack.specs.Located.{LocatedFault, Stands};
 ghost use Rattle.ffv1_unpack.specs.Internal.Located.{LocatedPayload, LocatedStep};
 ghost use Rattle.ffv1_video.specs.Faults.{of_avi};
 ghost use Rattle.ffv1_video.specs.Profiles.{greatest_depth, record_profile, scope_in};
-ghost use Rattle.ffv1_unpack.specs.Opens.{LacksOpening, is_opening_fault};
+ghost use Rattle.ffv1_unpack.specs.Opens.{IsReadAgain, LacksOpening, is_opening_fault};
 ghost use Rattle.ffv1_unpack.specs.Internal.Opens.{OpensStream};
 ghost use Rattle.ffv1_unpack.specs.Stream.{IsStream};
 ghost use Rattle.ffv1_unpack.specs.Internal.Told.{IfMore, IsOwnStop, IsToldFault, OnPayload};
@@ -29,7 +29,7 @@ use ffv1_files::{FileReader, Notes};
 use ffv1_reads::{FileFault, FileHead};
 use ffv1_record::{Checked, RecordFault, read_record_in};
 use ffv1_video::{Fault, Profile};
-use ffv1_wire::{ByteIn, LineSink};
+use ffv1_wire::{AgainIn, ByteIn, LineSink};
 use std::alloc::{Allocator, Global};
 
 /// Why a file is not played on.
@@ -88,7 +88,7 @@ pub fn read_head<A: Allocator + Copy>(
 
 /// Opens a file as `open_stream` does. If the file is refused, the offset is how many bytes of
 /// it come before the element or chunk that is.
-fn open_stream_located<R: ByteIn, A: Allocator + Copy>(
+fn open_stream_located<R: AgainIn, A: Allocator + Copy>(
     alloc: A,
     profile: Profile,
     input: &mut R,
@@ -100,6 +100,8 @@ fn open_stream_located<R: ByteIn, A: Allocator + Copy>(
         (passage R.remaining R.failures input.old input.new)) }
     ensures own { IfErr result (λ f. (is_opening_fault f ≡ true)
         ⊎ (is_profile_fault profile f ≡ true)) }
+    ensures again { IfErr result (IsReadAgain profile (R.begins input.old)
+        (passage R.remaining R.failures input.old input.new)) }
     ensures located { IfOk result (λ p. Reached (scope_in profile) (R.remaining input.old)
         (R.remaining input.new) p.0) }
     ensures ends { IfOk result (λ p. EndsThere p.0) }
@@ -116,7 +118,7 @@ fn open_stream_located<R: ByteIn, A: Allocator + Copy>(
 /// Opens a file, as the profile says, and reads the configuration of its frames. The faults are
 /// those of the file up to its frames, then those of its record; `Read` and `OutOfMemory` as they
 /// come.
-pub(crate) fn open_stream<R: ByteIn, A: Allocator + Copy>(
+pub(crate) fn open_stream<R: AgainIn, A: Allocator + Copy>(
     alloc: A,
     profile: Profile,
     input: &mut R,
@@ -127,6 +129,8 @@ pub(crate) fn open_stream<R: ByteIn, A: Allocator + Copy>(
         (passage R.remaining R.failures input.old input.new)) }
     ensures own { IfErr result (λ f. (is_opening_fault f ≡ true)
         ⊎ (is_profile_fault profile f ≡ true)) }
+    ensures again { IfErr result (IsReadAgain profile (R.begins input.old)
+        (passage R.remaining R.failures input.old input.new)) }
     ensures located { IfOk result (λ p. Stands (scope_in profile) (R.remaining input.old)
         (R.remaining input.new) p.0) }
 {
@@ -188,7 +192,7 @@ pub(crate) fn player_of<A: Allocator + Copy>(
 
 /// Opens a file as `open_player` does. If the file is refused, the offset is how many bytes of
 /// it come before the element or chunk that is. No Cues have come.
-pub(crate) fn open_player_located<R: ByteIn, A: Allocator + Copy>(
+pub(crate) fn open_player_located<R: AgainIn, A: Allocator + Copy>(
     alloc: A,
     profile: Profile,
     input: &mut R,
@@ -200,6 +204,8 @@ pub(crate) fn open_player_located<R: ByteIn, A: Allocator + Copy>(
         (passage R.remaining R.failures input.old input.new)) }
     ensures own { IfErr result (λ f. (is_opening_fault f ≡ true)
         ⊎ (is_profile_fault profile f ≡ true)) }
+    ensures again { IfErr result (IsReadAgain profile (R.begins input.old)
+        (passage R.remaining R.failures input.old input.new)) }
     ensures located { IfOk result (λ p. Reached (scope_in profile) (R.remaining input.old)
         (R.remaining input.new) p.reader) }
     ensures ends { IfOk result (λ p. EndsThere p.reader) }
@@ -216,7 +222,7 @@ pub(crate) fn open_player_located<R: ByteIn, A: Allocator + Copy>(
 
 /// Opens a file, and makes the decoder of its frames. The faults are those of `open_stream`, and
 /// `OutOfMemory` if the decoder is refused its memory.
-pub(crate) fn open_player<R: ByteIn, A: Allocator + Copy>(
+pub(crate) fn open_player<R: AgainIn, A: Allocator + Copy>(
     alloc: A,
     profile: Profile,
     input: &mut R,
@@ -227,6 +233,8 @@ pub(crate) fn open_player<R: ByteIn, A: Allocator + Copy>(
         (passage R.remaining R.failures input.old input.new)) }
     ensures own { IfErr result (λ f. (is_opening_fault f ≡ true)
         ⊎ (is_profile_fault profile f ≡ true)) }
+    ensures again { IfErr result (IsReadAgain profile (R.begins input.old)
+        (passage R.remaining R.failures input.old input.new)) }
     ensures located { IfOk result (λ p. Stands (scope_in profile) (R.remaining input.old)
         (R.remaining input.new) p.reader) }
 {
@@ -237,9 +245,9 @@ pub(crate) fn open_player<R: ByteIn, A: Allocator + Copy>(
     }
 }
 
-/// Reads the next payload. Answers false if there is none; then what stands behind the end was
+/// Reads the next payload. Answers false if there is none; then what comes after the end was
 /// looked at, and what is noted of it is in `notes`. After a fault `offset` is the number of bytes
-/// of the file before the element or chunk that is refused, or before what stands behind the end.
+/// of the file before the element or chunk that is refused, or before what comes after the end.
 pub(crate) fn read_payload<R: ByteIn, A: Allocator>(
     player: &mut Player<A>,
     input: &mut R,

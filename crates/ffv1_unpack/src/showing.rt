@@ -7,6 +7,7 @@ ghost use Rattle.ffv1_record.specs.Accepted.{IsAccepted};
 ghost use Rattle.ffv1_unpack.specs.declared.frame_line.FrameLine.TheVariants as line;
 ghost use Rattle.ffv1_unpack.specs.FrameLines.{frame_lines};
 ghost use Rattle.ffv1_unpack.specs.Internal.Located.{LocatedAfter, EndsNoted};
+ghost use Rattle.ffv1_unpack.specs.Opens.{IsReadAgain};
 ghost use Rattle.ffv1_unpack.specs.Plays.{HasThen};
 ghost use Rattle.ffv1_unpack.specs.Ranges.{all_frames};
 ghost use Rattle.ffv1_unpack.specs.Internal.Plays.{PlaysAll};
@@ -24,7 +25,7 @@ use ffv1_files::{Container, FileReader, Notes, laws as files_laws};
 use ffv1_reads::FileHead;
 use ffv1_record::Checked;
 use ffv1_video::{Fault, Profile};
-use ffv1_wire::{ByteIn, ByteOut, write_all};
+use ffv1_wire::{AgainIn, ByteIn, ByteOut, write_all};
 use ffv1_words::FrameRange;
 use std::alloc::Allocator;
 
@@ -116,7 +117,7 @@ fn tell_costs<R: ByteIn, W: ByteOut, A: Allocator + Copy>(
 /// cost frame {i}: ones {n} zeros {n} renormalisations {n}
 /// ```
 ///
-/// A frame of an AVI that has no bytes has `again` behind the colon.
+/// A frame of an AVI that has no bytes has `again` after the colon.
 ///
 /// Frames are counted from 0; a count of 64 bits stays at its greatest value. Without `cost`
 /// nothing after the header of the first `movi`, or of the first Cluster, is read, and no decoder
@@ -129,14 +130,14 @@ fn tell_costs<R: ByteIn, W: ByteOut, A: Allocator + Copy>(
 /// has fewer frames than its `dmlh` says, and `NotAvi` one in which something that is no `RIFF`
 /// comes after the last one. At `Wide` a file that begins with the byte 1A is Matroska, with the
 /// faults that `MatroskaReader::open` and `MatroskaReader::next_frame` name in place of those of
-/// AVI.
+/// AVI; `NoTracks` says that no Tracks stand anywhere in its Segment, if the input can begin again.
 /// `Read`, `OutOfMemory` and `Write` come as they come; if a write failed, a beginning of what
 /// was to be written is.
 ///
-/// With `cost`, after the last frame what stands behind the file is looked at, as
+/// With `cost`, what comes after the file is looked at when all frames were read, as
 /// `FileReader::look_behind` does: `Another` if another file begins there, after all lines; else
 /// the answer is what it notes. Without `cost` nothing is noted.
-pub fn show<R: ByteIn, W: ByteOut, A: Allocator + Copy>(
+pub fn show<R: AgainIn, W: ByteOut, A: Allocator + Copy>(
     alloc: A,
     profile: Profile,
     input: &mut R,
@@ -150,6 +151,8 @@ pub fn show<R: ByteIn, W: ByteOut, A: Allocator + Copy>(
         (passage R.remaining R.failures input.old input.new)
         (passage W.contents W.failures output.old output.new) cost) }
     ensures own { IfErr result (IsShowFault profile cost) }
+    ensures again { IfErr result (IsReadAgain profile (R.begins input.old)
+        (passage R.remaining R.failures input.old input.new)) }
 {
     files_laws::frames_come_in_turn();
     files_laws::what_is_read_is_a_file();

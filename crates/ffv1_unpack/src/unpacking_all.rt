@@ -28,6 +28,7 @@ ghost use Rattle.ffv1_unpack.specs.UnpackAll.{AreSalvageCounts, SalvageStopsBy, 
 ghost use Rattle.ffv1_unpack.specs.UnpackAll.{UnpackAllDone, UnpackAllStops};
 ghost use Rattle.ffv1_unpack.specs.Unpacked.{HasText};
 ghost use Rattle.ffv1_unpack.specs.Located.{Stands};
+ghost use Rattle.ffv1_unpack.specs.Opens.{IsReadAgain};
 
 use crate::behind::tell_behind;
 use crate::judging::JudgedCounts;
@@ -40,12 +41,12 @@ use ffv1_codec::KeepLines;
 use ffv1_files::Notes;
 use ffv1_record::{Colour, laws as record_laws};
 use ffv1_video::{Fault, Profile};
-use ffv1_wire::{ByteIn, ByteOut};
+use ffv1_wire::{AgainIn, ByteIn, ByteOut};
 use ffv1_y4m::PpmWriter;
 use std::alloc::Allocator;
 
 /// Opens a file whose pictures have a text, and makes the decoder of its frames.
-fn open_whole<R: ByteIn, A: Allocator + Copy>(
+fn open_whole<R: AgainIn, A: Allocator + Copy>(
     alloc: A,
     profile: Profile,
     input: &mut R,
@@ -61,6 +62,8 @@ fn open_whole<R: ByteIn, A: Allocator + Copy>(
     ensures err { IfErr result (LacksUnpacking profile
         (passage R.remaining R.failures input.old input.new)) }
     ensures own { IfErr result (IsUnpackFaultIn profile) }
+    ensures again { IfErr result (IsReadAgain profile (R.begins input.old)
+        (passage R.remaining R.failures input.old input.new)) }
 {
     let mut offset = 0u64;
     let player = open_player_located(alloc, profile, input, &mut offset)?;
@@ -235,7 +238,7 @@ fn found(counts: JudgedCounts) -> Result<JudgedCounts, Fault>
     Ok(counts)
 }
 
-/// Tells what stands behind the items of a file, of which these are the counts.
+/// Tells what comes after the items of a file, of which these are the counts.
 fn end_all<R: ByteIn, L: ByteOut, A: Allocator + Copy>(
     alloc: A,
     player: &Player<A>,
@@ -296,10 +299,10 @@ fn end_all<R: ByteIn, L: ByteOut, A: Allocator + Copy>(
 /// nor a fault; `Read`, `OutOfMemory` and `Write` as they come. After `Write` a beginning of the
 /// next line or of the next picture is written.
 ///
-/// After the last picture what stands behind the file is looked at, as `check_all` does: of a
+/// At the end, what comes after the file is looked at, as `check_all` does: of a
 /// Matroska file another one that begins there is told, `Another`, and is one fault more; of an AVI
 /// that is its own fault, and ends it. Else the answer has what is noted of the end.
-pub fn unpack_all<R: ByteIn, L: ByteOut, W: ByteOut, A: Allocator + Copy>(
+pub fn unpack_all<R: AgainIn, L: ByteOut, W: ByteOut, A: Allocator + Copy>(
     alloc: A,
     profile: Profile,
     input: &mut R,
@@ -315,6 +318,8 @@ pub fn unpack_all<R: ByteIn, L: ByteOut, W: ByteOut, A: Allocator + Copy>(
         (passage L.contents L.failures lines.old lines.new)
         (passage W.contents W.failures output result.0)) }
     ensures own { IfErr result.1 (IsUnpackFaultIn profile) }
+    ensures again { IfErr result.1 (IsReadAgain profile (R.begins input.old)
+        (passage R.remaining R.failures input.old input.new)) }
 {
     match open_whole(alloc, profile, input) {
         Err(fault) => (output, Err(fault)),

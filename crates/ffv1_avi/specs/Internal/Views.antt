@@ -53,6 +53,7 @@ headers_with found bytes =
       head = found_with found.sizes bytes;
       frames = found.frames;
       streams = found.streams;
+      others = found.others;
     }
 
 abbrev pub headers_next : Found → List ℕ → Headers × Option ⊥

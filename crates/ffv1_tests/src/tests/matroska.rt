@@ -4,6 +4,7 @@ mod closed;
 mod colours;
 mod commands;
 mod damaged;
+mod late;
 mod packing;
 mod rates;
 mod reading;

@@ -4,7 +4,7 @@
 use crate::tests::shows;
 use ffv1_doubles::made;
 use ffv1_doubles::riffs::MORE;
-use ffv1_engine::{Fault, Notes, Profile, check, show, unpack};
+use ffv1_engine::{Fault, FrameRange, Notes, Profile, check, show, unpack, unpack_range};
 use ffv1_wire::{FromRead, ToWrite};
 use std::alloc::Global;
 use std::test::Fail;
@@ -75,6 +75,7 @@ static AGAIN: &[u8] = b"RIFF\x18\0\0\0AVIXLIST\x0C\0\0\0movi00dc\0\0\0\0";
 /// One frame repeats another.
 const REPEATED: Notes = Notes {
     is_open: false,
+    others: 0,
     repeated: 1,
     after: None,
 };
@@ -99,6 +100,7 @@ fn what_stands_behind_is_looked_at(rt: HostRuntime) -> Result<(), Fail> {
     let file = file_of(rt.alloc(), 2, b"\0\0\0")?;
     let noted = Notes {
         is_open: false,
+        others: 0,
         repeated: 0,
         after: Some(file.len().saturating_sub(3) as u64),
     };
@@ -193,5 +195,42 @@ fn empty_chunks_are_shown(rt: HostRuntime) -> Result<(), Fail> {
     let last = file_of(rt.alloc(), 1, AGAIN)?;
     let end = b"renormalisations 1\ncost frame 2: again\n";
     assert!(rt; is_shown(rt.alloc(), Profile::Wide, &last, REPEATED, end));
+    Ok(())
+}
+
+/// Whether one frame, of this number, is unpacked as this text, with no notes, or is refused.
+fn unpacks_one(
+    alloc: Global,
+    file: &[u8],
+    first: u32,
+    answer: Result<(), Fault>,
+    text: &[u8],
+) -> bool {
+    let output = ToWrite::new(Vec::new(alloc));
+    let range = FrameRange {
+        first,
+        count: Some(1),
+    };
+    let mut input = FromRead::new(file);
+    let (written, found) = unpack_range(alloc, Profile::Wide, &mut input, output, range);
+    let same = written.into_inner().as_slice() == text;
+    found == answer.map(|_| (1, Notes::NONE)) && same
+}
+
+/// A part that begins with a chunk of no bytes shows the last frame before it that has bytes, which
+/// may be refused; before the first one it shows none.
+#[test]
+fn parts_begin_with_empty_chunks(rt: HostRuntime) -> Result<(), Fail> {
+    let one = b"YUV4MPEG2 W1 H1 F25:1 I? A0:0 Cmono\nFRAME\n\0";
+    let mut last = file_of(rt.alloc(), 1, AGAIN)?;
+    last.extend_from_slice(AGAIN)?;
+    assert!(rt; unpacks_one(rt.alloc(), &last, 2, Ok(()), one));
+    assert!(rt; unpacks_one(rt.alloc(), &last, 3, Ok(()), one));
+    let first = first_again(rt.alloc())?;
+    assert!(rt; unpacks_one(rt.alloc(), &first, 0, Ok(()), b""));
+    let config = made::mono(rt.alloc(), 1, 1, 1, false)?;
+    let mut refused = shows::file_of(rt.alloc(), config, 25, 1, b"\x00\x00\x00\x00\x02", 1)?;
+    refused.extend_from_slice(AGAIN)?;
+    assert!(rt; unpacks_one(rt.alloc(), &refused, 1, Err(Fault::NotKey), b""));
     Ok(())
 }

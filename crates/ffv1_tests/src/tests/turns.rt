@@ -8,7 +8,7 @@ use ffv1_engine::{
     Choice, CodecIdChoice, CoderChoice, Fault, Profile, check, pack, pack_matroska, show, trial,
     unpack,
 };
-use ffv1_wire::{ByteIn, ByteOut, FromRead, PatchOut, ToWrite};
+use ffv1_wire::{AgainIn, ByteIn, ByteOut, FromRead, PatchOut, ToWrite};
 use std::alloc::{Allocator, Global};
 use std::io::ErrorKind;
 use std::process::Abort;
@@ -132,7 +132,7 @@ fn pack_plain<R: ByteIn, W: ByteOut, A: Allocator + Copy>(
 }
 
 /// Unpacks, and hands the writer back.
-fn unpack_all<R: ByteIn, W: ByteOut, A: Allocator + Copy>(
+fn unpack_all<R: AgainIn, W: ByteOut, A: Allocator + Copy>(
     alloc: A,
     input: &mut R,
     output: W,
@@ -145,7 +145,7 @@ fn unpack_all<R: ByteIn, W: ByteOut, A: Allocator + Copy>(
 }
 
 /// Runs a command, and hands the writer back.
-fn run<R: ByteIn, W: PatchOut, A: Allocator + Copy>(
+fn run<R: AgainIn, W: PatchOut, A: Allocator + Copy>(
     alloc: A,
     command: Command,
     input: &mut R,

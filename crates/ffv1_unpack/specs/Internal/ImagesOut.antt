@@ -19,11 +19,10 @@ use Rattle.ffv1_video.specs.Faults.{Cause, cause_of}
 use Rattle.ffv1_video.specs.Faults.Cause.{Reading, Writing, Memory, Content}
 use Rattle.ffv1_unpack.specs.Stream.{Again, Coded, CodedFrame, Frame, coded_frames, last_of, those}
 use Rattle.ffv1_unpack.specs.Unpacking.{Shows}
-use Rattle.ffv1_unpack.specs.Internal.Play.{ReadsEnd, ReadsPayload}
+use Rattle.ffv1_unpack.specs.Internal.Play.{ReadsEnd}
 use Rattle.ffv1_video.specs.Output.{WritesUpTo}
 use Rattle.ffv1_unpack.specs.Plays.{NextHasFault, NextPayloadLacks, NextReadFails}
-use Rattle.ffv1_unpack.specs.Internal.Plays.{PayloadFaults}
-use Rattle.ffv1_unpack.specs.Internal.Plays.{PlaysFrame}
+use Rattle.ffv1_unpack.specs.Internal.Carried.{CarriedFaults, PlaysCarried, ReadsCarried}
 use Rattle.ffv1_video.specs.Output.{Silent}
 use Rattle.ffv1_codec.specs.Outcome.{lines_before}
 use Rattle.ffv1_codec.specs.Outcome.{OffersLine}
@@ -57,8 +56,9 @@ IsPayloadOf (Some f) payload = (payload ≡ f.payload) × (0 < length payload)
 abbrev pub IsLastPayload : List Frame → List ℕ → Type 0
 IsLastPayload frames payload = IsPayloadOf (last_of (coded_frames frames)) payload
 
--- of the next frame, after whole images of these
-module _ (a : Accepted) (frames : List Frame) (from to : Place) (input output : Passage) where
+-- of the next frame, to which this is carried over, after whole images of these
+module _ (a : Accepted) (carried : List ℕ) (frames : List Frame) (from to : Place)
+    (input output : Passage) where
   -- a row was not written whole, which a line was to bring
   pub record RowCut : Type 0 where
     pub payload : List ℕ
@@ -66,7 +66,7 @@ module _ (a : Accepted) (frames : List Frame) (from to : Place) (input output : 
     pub shows : Shows frames payload source
     pub lines : List Line
     pub next : Line
-    pub reads : ReadsPayload from to payload input
+    pub reads : ReadsCarried carried from to payload input
     pub hands : OffersLine a source lines next
     pub written : output.after ≡ one_more output.before
     pub writes : WritesUpTo output.old output.new (length (rows_so_far a.configuration lines))
@@ -74,7 +74,7 @@ module _ (a : Accepted) (frames : List Frame) (from to : Place) (input output : 
 
   -- its payload has its first fault
   pub record ImageFaults (f : Fault) : Type 0 where
-    pub payload : PayloadFaults a from to input f
+    pub payload : CarriedFaults a carried from to input f
     pub written : output.after ≡ output.before
     pub writes : Appends output.old output.new
         (rows_so_far a.configuration (lines_before payload.faulty.faulty))
@@ -96,7 +96,7 @@ module _ (a : Accepted) (frames : List Frame) (from to : Place) (input output : 
   -- this is noted of the end, or why it was not
   abbrev pub WritesImage : Notes → List ℕ → Result Bool Fault → Type 0
   WritesImage notes last (Ok true) =
-      (frame : Frame) × PlaysFrame a from to input frame × (output.after ≡ output.before)
+      (frame : Frame) × PlaysCarried a carried from to input frame × (output.after ≡ output.before)
       × Appends output.old output.new (image_next a.configuration frames frame)
       × IsLastPayload (frames ++ (frame ∷ [])) last
   WritesImage notes last (Ok false) = ReadsEnd from notes input × Silent output

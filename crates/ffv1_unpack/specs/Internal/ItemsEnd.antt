@@ -1,4 +1,4 @@
--- Looking at what stands behind the items of a file: what that answers.
+-- Looking at what comes after the items of a file: what that answers.
 use Rattle.std.specs.Prelude.{◌≡◌, ◌⊎◌, Bool, Result, Ok, Err}
 use Rattle.std.specs.Io.KnownBytes.{Appends}
 use Rattle.ffv1_wire.specs.Failures.{one_more}

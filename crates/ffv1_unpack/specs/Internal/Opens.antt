@@ -10,7 +10,7 @@ use Rattle.ffv1_reads.specs.Known.{Known}
 use Rattle.ffv1_video.specs.Profiles.{scope_in}
 use Rattle.ffv1_video.specs.declared.profile.Profile.{Profile}
 use Rattle.ffv1_unpack.specs.Internal.Containers.{IsWithin}
-use Rattle.ffv1_unpack.specs.Stream.{IsStream, ReadsFrames, Stream}
+use Rattle.ffv1_unpack.specs.Stream.{IsStream, ReadsFrames, Stream, last_bytes}
 use Rattle.ffv1_unpack.specs.Opens.{OpensKnown}
 
 abbrev pub stream_of : Standing → Accepted → Stream
@@ -37,6 +37,23 @@ pub record OpensRange (profile : Profile) (first : ℕ) (r : Standing) (a : Acce
     : Type 0 where
   pub stream : IsStream profile (stream_of r a)
   pub known : Known p.old p.new (ReachesRange profile first r.head r.place)
+  pub within : IsWithin profile r.place
+  pub sound : r.fault ≡ None
+  pub kept : p.after ≡ p.before
+
+-- the same, and of the payloads before this is the last one that has bytes
+abbrev pub ReachesPart : Profile → ℕ → List ℕ → Head → Place → List ℕ → List ℕ → Type 0
+ReachesPart profile first carried head place file rest =
+    (before : List (List ℕ)) × (length before ≡ first) × (carried ≡ last_bytes before)
+    × (from : Place) × (behind : List ℕ)
+    × (open_read (scope_in profile) file ≡ Ok ((head, from), behind))
+    × ReadsFrames from behind before place rest
+
+-- a file was opened, so many of its frames were passed, and that was kept
+pub record OpensPart (profile : Profile) (first : ℕ) (carried : List ℕ) (r : Standing)
+    (a : Accepted) (p : Passage) : Type 0 where
+  pub stream : IsStream profile (stream_of r a)
+  pub known : Known p.old p.new (ReachesPart profile first carried r.head r.place)
   pub within : IsWithin profile r.place
   pub sound : r.fault ≡ None
   pub kept : p.after ≡ p.before

@@ -11,7 +11,7 @@ use Rattle.ffv1_video.specs.Faults.{Cause, cause_of}
 use Rattle.ffv1_video.specs.Faults.Cause.{Reading, Writing, Memory, Content}
 use Rattle.ffv1_unpack.specs.Plays.{HasThen, NextHasFault, NextOver, NextPayloadLacks}
 use Rattle.ffv1_unpack.specs.Plays.{NextReadFails}
-use Rattle.ffv1_unpack.specs.Stream.{ReadsFrames}
+use Rattle.ffv1_unpack.specs.Stream.{ReadsFrames, last_bytes}
 
 -- from this place of the file these were read, up to that place
 pub record Passes (from to : Place) (input : Passage) (payloads : List (List ℕ)) : Type 0 where
@@ -43,4 +43,12 @@ abbrev pub PassAnswers : ℕ → Place → Place → Passage → ℕ → Result 
 PassAnswers first from to input passed (Ok done) =
     (payloads : List (List ℕ)) × (length payloads ≡ first) × Passes from to input payloads
 PassAnswers first from to input passed (Err f) =
+    PassingStopsBy first from input passed f (cause_of f)
+
+-- the same, and the last one of them that has bytes was kept; nothing is said of that if they end
+abbrev pub PassKeeps : ℕ → Place → Place → Passage → ℕ → List ℕ → Result (Unit {0}) Fault → Type 0
+PassKeeps first from to input passed kept (Ok done) =
+    (payloads : List (List ℕ)) × (length payloads ≡ first) × Passes from to input payloads
+    × (kept ≡ last_bytes payloads)
+PassKeeps first from to input passed kept (Err f) =
     PassingStopsBy first from input passed f (cause_of f)

@@ -22,8 +22,7 @@ use Rattle.ffv1_video.specs.Faults.Cause.{Reading, Writing, Memory, Content}
 use Rattle.ffv1_unpack.specs.Stream.{Again, Coded, CodedFrame, Frame, coded_frames, last_of}
 use Rattle.ffv1_unpack.specs.Internal.Play.{ReadsEnd}
 use Rattle.ffv1_unpack.specs.Plays.{NextHasFault, NextPayloadLacks, NextReadFails}
-use Rattle.ffv1_unpack.specs.Internal.Plays.{PayloadFaults}
-use Rattle.ffv1_unpack.specs.Internal.Plays.{PlaysFrame}
+use Rattle.ffv1_unpack.specs.Internal.Carried.{CarriedFaults, PlaysCarried}
 use Rattle.ffv1_video.specs.Output.{Silent}
 
 -- the head for pictures that say this
@@ -119,20 +118,21 @@ RepeatsPicture depth h begun kept p after (Err f) =
     (f ≡ fault.Write) × (p.after ≡ one_more p.before)
     × AppendsBeginning p.old p.new (text_next depth h (said_in begun) kept Again)
 
--- of the next frame, after pictures of which the text begins so, and the last one has these planes
-module _ (a : Accepted) (h : VideoHead) (begun : Begun) (kept : Planes) (from to : Place)
-    (input output : Passage) where
+-- of the next frame, to which this is carried over, after pictures of which the text begins so, and
+-- the last one has these planes
+module _ (a : Accepted) (carried : List ℕ) (h : VideoHead) (begun : Begun) (kept : Planes)
+    (from to : Place) (input output : Passage) where
   -- it was decoded, and says something else
   pub record FrameChanges (f : Fault) : Type 0 where
     pub frame : CodedFrame
-    pub plays : PlaysFrame a from to input (Coded frame)
+    pub plays : PlaysCarried a carried from to input (Coded frame)
     pub changed : SaysAgain (said_in begun) frame.said → ⊥
     pub is : f ≡ fault.FormatChanged
 
   -- why there is none, or it is not written, by the cause
   abbrev pub NextStopsBy : Fault → Cause → Type 0
   NextStopsBy f Writing =
-      (frame : Frame) × PlaysFrame a from to input frame × SaysNext (said_in begun) frame
+      (frame : Frame) × PlaysCarried a carried from to input frame × SaysNext (said_in begun) frame
       × (output.after ≡ one_more output.before)
       × AppendsBeginning output.old output.new
       (text_next a.configuration.depth h (said_in begun) kept frame)
@@ -144,14 +144,14 @@ module _ (a : Accepted) (h : VideoHead) (begun : Begun) (kept : Planes) (from to
       × Known input.old input.new (NextPayloadLacks from)
   NextStopsBy f Content =
       Silent output × (input.after ≡ input.before)
-      × (Known input.old input.new (NextHasFault f from) ⊎ PayloadFaults a from to input f
+      × (Known input.old input.new (NextHasFault f from) ⊎ CarriedFaults a carried from to input f
       ⊎ FrameChanges f)
 
   -- what its writing answers, and the text and the planes after it: its picture was written, there
   -- is none, and this is noted of the end, or why it was not
   abbrev pub WritesNext : Notes → Begun → Planes → Result Bool Fault → Type 0
   WritesNext notes after planes (Ok true) =
-      (frame : Frame) × PlaysFrame a from to input frame × SaysNext (said_in begun) frame
+      (frame : Frame) × PlaysCarried a carried from to input frame × SaysNext (said_in begun) frame
       × (output.after ≡ output.before)
       × Appends output.old output.new
       (text_next a.configuration.depth h (said_in begun) kept frame)

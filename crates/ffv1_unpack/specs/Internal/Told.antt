@@ -62,7 +62,7 @@ FileStopsBy ends reading p f Content =
 abbrev pub FileStops : {X : Type 0} → Endings X → avi.Reading X → Passage → Fault → Type 0
 FileStops ends reading p f = FileStopsBy ends reading p f (cause_of f)
 
--- the same of the next frame from a position on, and of what stands behind the last one
+-- the same of the next frame from a position on, and of what comes after the last one
 abbrev pub StopsFromBy : Place → Passage → Fault → Cause → Type 0
 StopsFromBy from p f Reading =
     (p.after ≡ one_more p.before) × Known p.old p.new (NextReadFails from)

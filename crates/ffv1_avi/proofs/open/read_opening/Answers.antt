@@ -7,11 +7,13 @@ use Rattle.std.proofs.lemmas.Bool.{le-leb, lt-leb}
 use Rattle.std.proofs.lemmas.List.{take_all}
 use Rattle.byteorder.specs.Endian.{little_number}
 use Rattle.ffv1_reads.specs.declared.fault.FileFault.TheVariants as fault
-use Rattle.ffv1_avi.specs.Files.{begins, open_read, top_read}
+use Rattle.ffv1_avi.specs.Files.{begins, open_read, others_read, top_others, top_read}
 use Rattle.ffv1_reads.specs.Head.{Head}
 use Rattle.ffv1_avi.specs.declared.place.Extent.{Extent}
 use Rattle.ffv1_avi.specs.declared.place.Place.{Place}
-use Rattle.ffv1_reads.specs.Reads.{Looked, Reading, refused, taken, ◌>>=◌}
+use Rattle.ffv1_reads.specs.Reads.{Looked, Read, Reading, refused, taken, ◌>>=◌}
+use Rattle.ffv1_reads.specs.declared.fault.FileFault.{FileFault}
+use Rattle.ffv1_avi.specs.declared.stream.Sizes.{Sizes}
 use Rattle.ffv1_avi.specs.Walk.{is_name}
 use Rattle.ffv1_avi.proofs.Contents.{number_taken}
 use Rattle.ffv1_reads.proofs.WantedBytes.{wanted_sound}
@@ -20,8 +22,8 @@ use Rattle.std.proofs.lemmas.Result.{err_from_is_err_and}
 use Rattle.ffv1_avi.proofs.RiffReadings.{stops_here}
 use Rattle.ffv1_avi.proofs.SpotReadings.{opens_then, start_differs, start_read, start_refused}
 use Rattle.ffv1_reads.proofs.Answered.{answers_fault, answers_next, answers_of, answers_refused}
-use Rattle.ffv1_reads.proofs.Answered.{answers_same, answers_tail}
-use Rattle.std.proofs.Common.{inl}
+use Rattle.ffv1_reads.proofs.Answered.{answers_ok, answers_same, answers_tail}
+use Rattle.std.proofs.Common.{inl, Err, IfOk, Ok, Option, Result}
 use Rattle.ffv1_avi.proofs.open.read_opening.Goals as goal
 use Rattle.ffv1_avi.proofs.open.read_opening.Goals.{then-not-is_name-via-then-not-is_name}
 use Rattle.ffv1_avi.proofs.open.read_opening.Goals.{then-not-is_name-via-else-not-is_name+then-not-is_name-2}
@@ -30,6 +32,10 @@ use Rattle.ffv1_avi.proofs.open.read_opening.Goals.{then-not-is_name-via-else-no
 abbrev behind : Extent → List ℕ → Reading (Head × Place)
 behind extent bytes = if begins bytes then top_read extent (little_number 4 (drop 4 bytes) - 4) else
     refused fault.NotAvi
+
+abbrev counting : Extent → List ℕ → Reading ℕ
+counting extent bytes = if begins bytes then top_others extent (little_number 4 (drop 4 bytes) - 4)
+    else refused fault.NotAvi
 
 opened : (extent : Extent) (text : List ℕ) → open_read extent text ≡ (taken 12 >>= behind extent)
     text
@@ -149,3 +155,29 @@ returns-clause-from g c =
     c.read_top.result c.in_ok-take_after.ensures.0
     (start_read c.args.extent head here c.in_ok-take_after.ensures.1)
     (rw size at c.read_top.ensures.from)
+
+others_then : (extent : Extent) (head : List ℕ) (old mid new : Option (List ℕ)) (n : ℕ)
+    (result : Result (Sizes × Place) FileFault) → begins head ≡ true → Read (taken 12) old mid
+    head → IfOk result (λ p. Read (top_others extent (little_number 4 (drop 4 head) - 4)) mid new
+    n) → IfOk result (λ p. Read (others_read extent) old new n)
+unfolding others_read
+others_then extent head old mid new n (Ok p) is first more =
+    (answers_ok (answers_next {before = 0} {now = 0} {after = 0} (counting extent) (refl, first)
+    (answers_same (λ text. rw is refl) (record { said = (refl, more) })))).1
+others_then extent head old mid new n (Err f) is first more = tt
+
+pub returns-clause-others : goal.returns-clause-others
+returns-clause-others g c =
+    let head = c.take_after.new.buf in
+    let long : length head ≡ 12 = (wanted_sound Looked 12 (c.in_ok-take_after.ensures.1.bytes ++ [])
+    (head, []) (c.in_ok-take_after.ensures.1.is [])).1 in
+    let form : take 4 (drop 8 head) ≡ drop 8 head = take_all 4 (drop 8 head)
+    (omega (arith, long, length-drop 8 head)) in
+    let size : c.read_u32-size.result ≡ little_number 4 (drop 4 head) = c.read_u32-size.ensures ∙
+    number_taken 8 (drop 4 head) (omega arith) in
+    let enough : nat_le 4 (little_number 4 (drop 4 head)) ≡ true = le-leb _ _
+    (omega (arith, size, c.if-size-lt4.false)) in
+    let here : begins head ≡ true = all_three _ _ _ (sym c.if-not-is_name.ensures)
+    (ap (λ y. is_name y (codes "AVI ")) (sym form) ∙ sym c.if-not-is_name-2.ensures) enough in
+    others_then c.args.extent head _ _ _ _ c.read_top.result here c.in_ok-take_after.ensures.1
+    (rw size at c.read_top.ensures.others)

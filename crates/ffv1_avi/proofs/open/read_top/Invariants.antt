@@ -1,5 +1,5 @@
-use Rattle.std.proofs.Common.{Option}
-use Rattle.ffv1_avi.specs.Files.{Headers, no_headers, opened, top_read, visit_top}
+use Rattle.std.proofs.Common.{ℕ, Option}
+use Rattle.ffv1_avi.specs.Files.{Headers, no_headers, opened, others_of, top_others, top_read, visit_top}
 use Rattle.ffv1_avi.specs.Offsets.{InRiff, ReadsTo, spot_taken}
 use Rattle.ffv1_reads.specs.Head.{Head}
 use Rattle.ffv1_avi.specs.declared.place.Place.{Place}
@@ -14,11 +14,18 @@ use Rattle.ffv1_avi.proofs.open.read_top.Given as goal
 abbrev pub ended : Headers × Option (Head × Place) → Reading (Head × Place)
 ended p = opened p.1
 
+abbrev pub counted : Headers × Option (Head × Place) → Reading ℕ
+counted p = others_of p.0.others p.1
+
 abbrev pub invariant-loop-entry : goal.invariant-loop-entry
 invariant-loop-entry g l =
     (Goes (top_read l.fn.extent l.fn.room) (g.R.ByteIn.remaining l.initial.input)
     (g.R.ByteIn.failures l.initial.input)
     (walk (visit_top l.fn.extent) l.left (headers_with l.found l.config.items) >>= ended)
+    (g.R.ByteIn.remaining l.input) (g.R.ByteIn.failures l.input))
+    × (Goes (top_others l.fn.extent l.fn.room) (g.R.ByteIn.remaining l.initial.input)
+    (g.R.ByteIn.failures l.initial.input)
+    (walk (visit_top l.fn.extent) l.left (headers_with l.found l.config.items) >>= counted)
     (g.R.ByteIn.remaining l.input) (g.R.ByteIn.failures l.input))
     × RoomRead (g.R.ByteIn.remaining l.initial.input) (g.R.ByteIn.remaining l.input)
     (vec_capacity l.initial.config) (vec_capacity l.config)

@@ -36,14 +36,14 @@ known_same f a b (Some head) = refl
 no_head : (f : Found) (bytes : List ℕ) → f.sizes ≡ None → found_with f.sizes bytes ≡ None
 no_head f bytes none = ap (λ z. found_with z bytes) none
 
-pub returns-in_err-pass-2-clause-answer : goal.returns-in_err-pass-2-clause-answer
-returns-in_err-pass-2-clause-answer g c =
+pub returns-in_err-pass-clause-answer : goal.returns-in_err-pass-clause-answer
+returns-in_err-pass-clause-answer g c =
     let k = headers_with c.args.found c.args.config.now.items in
     let many = many_streams c.args.extent k c.args.size k.head
     (no_head c.args.found c.args.config.now.items (search rules)) c.if-found-ge100.true in
-    answers_err _ _ _ _ c.from_residual-in_err-pass-2.ensures.1
+    answers_err _ _ _ _ c.from_residual-in_err-pass.ensures.1
     (answers_same many (answers_first _ _ (rw c.padded-then-found-ge100.ensures at
-    c.in_err-pass-2.ensures)))
+    c.in_err-pass.ensures)))
 
 pub returns-then-found-ge100-clause-answer : goal.returns-then-found-ge100-clause-answer
 returns-then-found-ge100-clause-answer g c =
@@ -51,7 +51,7 @@ returns-then-found-ge100-clause-answer g c =
     let many = many_streams c.args.extent k c.args.size k.head
     (no_head c.args.found c.args.config.now.items (search rules)) c.if-found-ge100.true in
     answers_ok (answers_same many (answers_next _
-    (rw c.padded-then-found-ge100.ensures at c.in_ok-pass-2.ensures) answers_given))
+    (rw c.padded-then-found-ge100.ensures at c.in_ok-pass.ensures) answers_given))
 
 pub returns-in_err-sizes-clause-answer : goal.returns-in_err-sizes-clause-answer
 returns-in_err-sizes-clause-answer g c =
@@ -62,15 +62,15 @@ returns-in_err-sizes-clause-answer g c =
     answers_err _ _ _ _ c.from_residual-in_err-sizes.ensures.1
     (answers_same few (answers_first _ _ c.in_err-sizes.ensures.answer))
 
-pub returns-in_err-pass-3-clause-answer : goal.returns-in_err-pass-3-clause-answer
-returns-in_err-pass-3-clause-answer g c =
+pub returns-in_err-pass-2-clause-answer : goal.returns-in_err-pass-2-clause-answer
+returns-in_err-pass-2-clause-answer g c =
     let k = headers_with c.args.found c.args.config.now.items in
     let few = few_streams c.args.extent k c.args.size k.head
     (no_head c.args.found c.args.config.now.items (search rules))
     (omega (arith, c.if-found-ge100.false)) in
-    answers_err _ _ _ _ c.from_residual-in_err-pass-3.ensures.1
+    answers_err _ _ _ _ c.from_residual-in_err-pass-2.ensures.1
     (answers_same few (answers_next _ c.in_ok-sizes.ensures.answer
-    (answers_first _ _ (rw c.from.ensures at c.in_err-pass-3.ensures))))
+    (answers_first _ _ (rw c.from.ensures at c.in_err-pass-2.ensures))))
 
 pub returns-clause-answer : goal.returns-clause-answer
 returns-clause-answer g c =
@@ -84,8 +84,8 @@ returns-clause-answer g c =
     c.stream_found.ensures bytes ∙ known_same c.args.found bytes c.args.config.now.items found
     in
     rw next (answers_ok (answers_same few (answers_next _ c.in_ok-sizes.ensures.answer
-    (answers_next _ (rw c.from.ensures at c.in_ok-pass-3.ensures) answers_given))))
+    (answers_next _ (rw c.from.ensures at c.in_ok-pass-2.ensures) answers_given))))
 
 pub returns-clause-grown : goal.returns-clause-grown
 returns-clause-grown g c = room_then c.in_ok-sizes.ensures.grown
-    (room_kept _ c.in_ok-pass-3.ensures.1)
+    (room_kept _ c.in_ok-pass-2.ensures.1)

@@ -17,19 +17,20 @@ use Rattle.ffv1_engine.proofs.MatroskaUnpacked.{file_reads, given as of_matroska
 use Rattle.ffv1_engine.proofs.MatroskaUnpacked.{packed_so as matroska_so, read_wide, writable}
 use Rattle.ffv1_engine.proofs.CanonicalVideos.{FileLaws, again_by, again_text, lined_by, ppm_shown}
 use Rattle.ffv1_engine.proofs.CanonicalVideos.{strict_by}
-use Rattle.ffv1_engine.proofs.PackedIsUnpacked.{accepted_as, avi_is, avi_reads, check_refused}
-use Rattle.ffv1_engine.proofs.PackedIsUnpacked.{given, holds, packed_so, read_in, same_ppm}
-use Rattle.ffv1_engine.proofs.PackedIsUnpacked.{same_video, show_refused, unpack_refused, written}
+use Rattle.ffv1_engine.proofs.PackedIsUnpacked.{check_refused, holds, show_refused, unpack_refused}
+use Rattle.ffv1_engine.proofs.PackedIsUnpacked.{written, noted_so, none_behind}
+use Rattle.ffv1_engine.proofs.TextsPacked.{accepted_as, avi_is, avi_opens, avi_reads, given}
+use Rattle.ffv1_engine.proofs.TextsPacked.{none_after, packed_so, read_in, same_ppm, same_video}
 use Rattle.ffv1_engine.proofs.PackedPictures.{name_given}
 use Rattle.ffv1_engine.proofs.PackedText.{RecordLaws}
-use Rattle.ffv1_engine.proofs.PackedIsUnpacked.{noted_so, none_behind}
-use Rattle.ffv1_engine.proofs.MatroskaUnpacked.{file_first}
+use Rattle.ffv1_engine.proofs.MatroskaUnpacked.{file_first, file_opens}
 use Rattle.ffv1_engine.proofs.round_trip.packed_is_unpacked.Goals as goal
 
 file_laws : (profile : Profile) → goal.After-written_bytes_are_a_record → FileLaws profile
 file_laws Strict c = record {
   file = c.written_file_is_read_back.ensures.file;
   read = c.written_avi_is_read_back.ensures FirstMovi;
+  none = c.nothing_is_noted_after_a_written_avi.ensures FirstMovi;
   is_read = c.file_is_read_as_its_frames.ensures.first;
   is_whole = c.file_is_read_as_its_frames.ensures.whole;
   next = c.frames_come_in_turn.ensures;
@@ -42,6 +43,7 @@ file_laws Strict c = record {
 file_laws Wide c = record {
   file = c.written_file_is_read_back.ensures.riff;
   read = c.written_avi_is_read_back.ensures Whole;
+  none = c.nothing_is_noted_after_a_written_avi.ensures Whole;
   is_read = c.file_is_read_as_its_frames.ensures.first;
   is_whole = c.file_is_read_as_its_frames.ensures.whole;
   next = c.frames_come_in_turn.ensures;
@@ -101,6 +103,7 @@ matroska_laws c = record {
   opened = c.written_file_is_read_back-2.ensures.«open»;
   begun = c.written_file_is_read_back-2.ensures.begun;
   is_file = c.what_is_read_is_a_file.ensures;
+  anywhere = c.file_is_read_wherever_its_tracks_stand.ensures.before;
   is_whole = c.file_is_read_as_its_frames.ensures.whole;
 }
 
@@ -123,17 +126,22 @@ returns-clause-written c = λ packing profile choice text w input output count n
     read) input output count notes
 
 pub returns-clause-noted : goal.returns-clause-noted
-returns-clause-noted c = λ packing profile choice text w input output count notes read.
-    noted_so profile (file_laws profile c) (frame_laws c) (record_laws c) (plain_choice choice) (video_in w) (accepted_as profile w) refl read.deep (given packing profile (file_laws profile c) (frame_laws c) choice text w read)
+returns-clause-noted c = λ packing profile choice text w input output count notes read known done.
+    let is = noted_so profile (file_laws profile c) (frame_laws c) (record_laws c) (plain_choice choice) (video_in w) (accepted_as profile w) refl read.deep (given packing profile (file_laws profile c) (frame_laws c) choice text w read)
     (packed_file choice (text_video w) (accepted_as profile w))
     (avi_reads packing profile (file_laws profile c) (frame_laws c) (record_laws c) choice text w
-    read) input output count notes
+    read) input output count notes known done in (
+      is,
+      none_after packing profile (file_laws profile c) (frame_laws c) (record_laws c) choice text w
+          read notes is,
+    )
 
 pub returns-clause-refused : goal.returns-clause-refused
 returns-clause-refused c = λ packing profile choice text w input output f read known stops.
     unpack_refused profile (file_laws profile c) (frame_laws c) (record_laws c) (plain_choice choice) (video_in w) (accepted_as profile w) refl read.deep (given packing profile (file_laws profile c) (frame_laws c) choice text w read)
     (packed_file choice (text_video w) (accepted_as profile w))
     (avi_reads packing profile (file_laws profile c) (frame_laws c) (record_laws c) choice text w
+    read) (avi_opens packing profile (file_laws profile c) (frame_laws c) (record_laws c) choice text w
     read) input output known f stops
 
 pub returns-clause-checked : goal.returns-clause-checked
@@ -141,6 +149,7 @@ returns-clause-checked c = λ packing profile choice text w place input output f
     check_refused profile (file_laws profile c) (frame_laws c) (record_laws c) (plain_choice choice) (video_in w) (accepted_as profile w) refl read.deep (given packing profile (file_laws profile c) (frame_laws c) choice text w read)
     (packed_file choice (text_video w) (accepted_as profile w))
     (avi_reads packing profile (file_laws profile c) (frame_laws c) (record_laws c) choice text w
+    read) (avi_opens packing profile (file_laws profile c) (frame_laws c) (record_laws c) choice text w
     read) input output known place f stops
 
 pub returns-clause-shown : goal.returns-clause-shown
@@ -148,6 +157,7 @@ returns-clause-shown c = λ packing profile choice text w cost input output f re
     show_refused profile (file_laws profile c) (frame_laws c) (record_laws c) (plain_choice choice) (video_in w) (accepted_as profile w) refl read.deep (given packing profile (file_laws profile c) (frame_laws c) choice text w read)
     (packed_file choice (text_video w) (accepted_as profile w))
     (avi_reads packing profile (file_laws profile c) (frame_laws c) (record_laws c) choice text w
+    read) (avi_opens packing profile (file_laws profile c) (frame_laws c) (record_laws c) choice text w
     read) input output known cost f stops
 
 pub returns-clause-same : goal.returns-clause-same
@@ -204,7 +214,8 @@ returns-clause-matroska_refused c = λ packing choice text w input output f know
     unpack_refused Wide (file_laws Wide c) (frame_laws c) (record_laws c)
     (choice_for packing choice w.packs.video.head) w.packs.video (accepted_wide w) refl
     (read_wide packing choice text w).deep (of_matroska packing (file_laws Wide c) (frame_laws c) choice text w) (matroska_file w)
-    (file_reads packing (frame_laws c) (record_laws c) (matroska_laws c) choice text w) input output
+    (file_reads packing (frame_laws c) (record_laws c) (matroska_laws c) choice text w)
+    (file_opens packing (frame_laws c) (record_laws c) (matroska_laws c) choice text w) input output
     known f stops
 
 pub returns-clause-matroska_checked : goal.returns-clause-matroska_checked
@@ -212,7 +223,8 @@ returns-clause-matroska_checked c = λ packing choice text w place input output 
     check_refused Wide (file_laws Wide c) (frame_laws c) (record_laws c)
     (choice_for packing choice w.packs.video.head) w.packs.video (accepted_wide w) refl
     (read_wide packing choice text w).deep (of_matroska packing (file_laws Wide c) (frame_laws c) choice text w) (matroska_file w)
-    (file_reads packing (frame_laws c) (record_laws c) (matroska_laws c) choice text w) input output
+    (file_reads packing (frame_laws c) (record_laws c) (matroska_laws c) choice text w)
+    (file_opens packing (frame_laws c) (record_laws c) (matroska_laws c) choice text w) input output
     known place f stops
 
 pub returns-clause-matroska_shown : goal.returns-clause-matroska_shown
@@ -220,7 +232,8 @@ returns-clause-matroska_shown c = λ packing choice text w cost input output f k
     show_refused Wide (file_laws Wide c) (frame_laws c) (record_laws c)
     (choice_for packing choice w.packs.video.head) w.packs.video (accepted_wide w) refl
     (read_wide packing choice text w).deep (of_matroska packing (file_laws Wide c) (frame_laws c) choice text w) (matroska_file w)
-    (file_reads packing (frame_laws c) (record_laws c) (matroska_laws c) choice text w) input output
+    (file_reads packing (frame_laws c) (record_laws c) (matroska_laws c) choice text w)
+    (file_opens packing (frame_laws c) (record_laws c) (matroska_laws c) choice text w) input output
     known cost f stops
 
 pub returns-clause-matroska_same : goal.returns-clause-matroska_same

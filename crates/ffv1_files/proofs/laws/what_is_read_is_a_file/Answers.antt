@@ -10,4 +10,4 @@ returns-clause-first c = read_first c.what_is_read_is_a_file.ensures
 
 pub returns-clause-whole : goal.returns-clause-whole
 returns-clause-whole c = read_whole c.every_riff_is_read_whole.ensures
-    c.what_is_read_is_a_file-2.ensures
+    c.what_is_read_again_is_a_file.ensures

@@ -12,6 +12,7 @@ use Rattle.ffv1_unpack.specs.Opens.{HasSoundRecord}
 use Rattle.ffv1_unpack.specs.Stream.{IsStream}
 use Rattle.ffv1_unpack.proofs.OwnFaults.{file_opens, line_shows, opened_shows, record_opens}
 use Rattle.ffv1_unpack.proofs.OwnFaults.{told_shows, within_of}
+use Rattle.ffv1_unpack.proofs.ReadAgain.{file_again, line_again, record_again, told_again}
 use Rattle.ffv1_info.specs.StreamFacts.{head_facts, record_facts}
 use Rattle.ffv1_info.proofs.FileTold.{frames_lack, head_stops, head_told, lacks_head, lacks_record}
 use Rattle.ffv1_info.proofs.FileTold.{record_stops, stream_done, stream_stops}
@@ -25,7 +26,8 @@ returns-in_err-reader-clause-err g c =
     (g.R.ByteIn.remaining c.args.input.now) (g.R.ByteIn.remaining c.open_located.new.input)
     (g.W.ByteOut.contents c.args.output.now) (g.R.ByteIn.failures c.args.input.now)
     (g.R.ByteIn.failures c.open_located.new.input) (g.W.ByteOut.failures c.args.output.now)
-    c.in_err-reader.field-0.0 (rw c.scope.ensures at c.in_err-reader.ensures.answer))
+    (g.R.AgainIn.begins c.args.input.now) c.in_err-reader.field-0.0
+    (rw c.scope.ensures at c.in_err-reader.ensures.answer))
 
 pub returns-in_err-reader-clause-own : goal.returns-in_err-reader-clause-own
 returns-in_err-reader-clause-own g c =
@@ -33,6 +35,15 @@ returns-in_err-reader-clause-own g c =
     let f = c.in_err-reader.field-0.0 in
     rw (p.1, p.2) (opened_shows c.args.profile true (of_avi f) (file_opens c.args.profile f
     (rw c.scope.ensures at c.in_err-reader.ensures.own)))
+
+pub returns-in_err-reader-clause-again : goal.returns-in_err-reader-clause-again
+returns-in_err-reader-clause-again g c =
+    let p = err_from_is_err_and c.from_residual.result c.from_residual.ensures.1 in
+    rw (p.1, p.2) (file_again c.args.profile (g.R.AgainIn.begins c.args.input.now)
+    (between (g.R.ByteIn.remaining c.args.input.now)
+    (g.R.ByteIn.remaining c.open_located.new.input) (g.R.ByteIn.failures c.args.input.now)
+    (g.R.ByteIn.failures c.open_located.new.input)) c.in_err-reader.field-0.0
+    (rw c.scope.ensures at c.in_err-reader.ensures.answer))
 
 pub returns-in_err-write_head-clause-err : goal.returns-in_err-write_head-clause-err
 returns-in_err-write_head-clause-err g c =
@@ -57,6 +68,16 @@ returns-in_err-write_head-clause-own g c =
     c.from_residual-in_err-write_head.ensures.1 in
     rw (p.1, p.2) (inl (line_shows true _ _ c.in_err-write_head.field-0.0
     c.in_err-write_head.ensures))
+
+pub returns-in_err-write_head-clause-again : goal.returns-in_err-write_head-clause-again
+returns-in_err-write_head-clause-again g c =
+    let p = err_from_is_err_and c.from_residual-in_err-write_head.result
+    c.from_residual-in_err-write_head.ensures.1 in
+    rw (p.1, p.2) (line_again c.args.profile (g.R.AgainIn.begins c.args.input.now)
+    (between (g.R.ByteIn.remaining c.args.input.now)
+    (g.R.ByteIn.remaining c.open_located.new.input) (g.R.ByteIn.failures c.args.input.now)
+    (g.R.ByteIn.failures c.open_located.new.input)) _ _ c.in_err-write_head.field-0.0
+    c.in_err-write_head.ensures)
 
 pub returns-in_err-checked-clause-err : goal.returns-in_err-checked-clause-err
 returns-in_err-checked-clause-err g c =
@@ -93,6 +114,15 @@ returns-in_err-checked-clause-own g c =
     let f = c.in_err-checked.field-0.0 in
     rw (p.1, p.2) (opened_shows c.args.profile true (of_record f) (inl (record_opens f)))
 
+pub returns-in_err-checked-clause-again : goal.returns-in_err-checked-clause-again
+returns-in_err-checked-clause-again g c =
+    let p = err_from_is_err_and c.from_residual-in_err-checked.result
+    c.from_residual-in_err-checked.ensures.1 in
+    rw (p.1, p.2) (record_again c.args.profile (g.R.AgainIn.begins c.args.input.now)
+    (between (g.R.ByteIn.remaining c.args.input.now)
+    (g.R.ByteIn.remaining c.open_located.new.input) (g.R.ByteIn.failures c.args.input.now)
+    (g.R.ByteIn.failures c.open_located.new.input)) c.in_err-checked.field-0.0)
+
 pub returns-in_err-write_record-clause-err : goal.returns-in_err-write_record-clause-err
 returns-in_err-write_record-clause-err g c =
     let p = err_from_is_err_and c.from_residual-in_err-write_record.result
@@ -124,6 +154,16 @@ returns-in_err-write_record-clause-own g c =
     c.from_residual-in_err-write_record.ensures.1 in
     rw (p.1, p.2) (inl (line_shows true _ _ c.in_err-write_record.field-0.0
     c.in_err-write_record.ensures))
+
+pub returns-in_err-write_record-clause-again : goal.returns-in_err-write_record-clause-again
+returns-in_err-write_record-clause-again g c =
+    let p = err_from_is_err_and c.from_residual-in_err-write_record.result
+    c.from_residual-in_err-write_record.ensures.1 in
+    rw (p.1, p.2) (line_again c.args.profile (g.R.AgainIn.begins c.args.input.now)
+    (between (g.R.ByteIn.remaining c.args.input.now)
+    (g.R.ByteIn.remaining c.open_located.new.input) (g.R.ByteIn.failures c.args.input.now)
+    (g.R.ByteIn.failures c.open_located.new.input)) _ _ c.in_err-write_record.field-0.0
+    c.in_err-write_record.ensures)
 
 pub returns-in_err-tell_frames-clause-err : goal.returns-in_err-tell_frames-clause-err
 returns-in_err-tell_frames-clause-err g c =
@@ -170,6 +210,17 @@ returns-in_err-tell_frames-clause-own g c =
     rw (p.1, p.2) (told_shows c.args.profile r (g.R.ByteIn.remaining c.args.input.now)
     (g.R.ByteIn.remaining c.open_located.new.input) f stands (within_of c.args.profile r.place
     (rw c.scope.ensures at c.in_ok-reader.ensures.avi)) c.in_err-tell_frames.ensures.own)
+
+pub returns-in_err-tell_frames-clause-again : goal.returns-in_err-tell_frames-clause-again
+returns-in_err-tell_frames-clause-again g c =
+    let p = err_from_is_err_and c.from_residual-in_err-tell_frames.result
+    c.from_residual-in_err-tell_frames.ensures.1 in
+    rw (p.1, p.2) (told_again c.args.profile (g.R.AgainIn.begins c.args.input.now)
+    (between (g.R.ByteIn.remaining c.args.input.now)
+    (g.R.ByteIn.remaining c.tell_frames.new.input) (g.R.ByteIn.failures c.args.input.now)
+    (g.R.ByteIn.failures c.tell_frames.new.input)) c.in_ok-reader.reader
+    (g.R.ByteIn.remaining c.open_located.new.input) c.in_err-tell_frames.field-0.0
+    c.in_err-tell_frames.ensures.own)
 
 pub returns-clause-ok : goal.returns-clause-ok
 returns-clause-ok g c =

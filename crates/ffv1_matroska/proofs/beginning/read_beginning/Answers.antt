@@ -10,7 +10,7 @@ use Rattle.ffv1_reads.proofs.EndReadings.{none_read}
 use Rattle.ffv1_reads.proofs.Reading.{faults_here, goes_fault, goes_given, goes_none, goes_read}
 use Rattle.ffv1_reads.proofs.Reading.{goes_same}
 use Rattle.ffv1_matroska.specs.Internal.{found_kept, track_kept}
-use Rattle.ffv1_matroska.specs.Opened.{begin_read, begin_up_to, element_or_begun, in_cluster}
+use Rattle.ffv1_matroska.specs.Opened.{begin_from, begin_up_to, element_or_begun, in_cluster}
 use Rattle.ffv1_matroska.specs.Opened.{tracks_or_passed}
 use Rattle.ffv1_matroska.specs.Places.{amount, ended, segment_at}
 use Rattle.ffv1_matroska.specs.Segments.{cluster, header_read}
@@ -33,11 +33,12 @@ pub loop-element-init : goal.loop-element-init
 loop-element-init g c = (
   amount c.args.place,
   omega arith,
-  goes_none (begin_read c.args.place)
+  goes_none (begin_from (found_kept c.args.known c.args.config.now.items) c.args.place)
       (g.R.ByteIn.remaining c.args.input.now) (g.R.ByteIn.failures c.args.input.now),
   room_none _ _,
   0,
-  reads_none spot_taken (InSegment None c.args.place) _,
+  reads_none spot_taken
+      (InSegment (found_kept c.args.known c.args.config.now.items) c.args.place) _,
   λ flat. (flat, omega arith),
   room_none _ _,
 )

@@ -1,7 +1,7 @@
 -- Reads a file, whose first byte may have been read, up to where its frames begin: the size of its
 -- Segment, what its track says, with the record in place of what the vector `config` has, and the
 -- place.
-use Rattle.std.proofs.Common.{ℕ, Option}
+use Rattle.std.proofs.Common.{ℕ, Option, None}
 use Rattle.std.proofs.lemmas.Result.{err_from_is_err_and}
 use Rattle.ffv1_reads.specs.Reads.{Reading, ◌>>=◌}
 use Rattle.ffv1_reads.specs.declared.fault.FileFault.TheVariants as fault
@@ -63,7 +63,7 @@ pub passed-requires : goal.passed-requires
 passed-requires g c =
     let size = c.in_ok-size.size in
     let from = rw c.begin_segment-begin.ensures at c.read_beginning-read.ensures.from in
-    rw c.begin_segment-begin.ensures (begins_within (segment_begun size) _ _
+    rw c.begin_segment-begin.ensures (begins_within None (segment_begun size) _ _
     c.read_beginning-read.result _ (begun_flat size) from)
 
 pub returns-clause-answer : goal.returns-clause-answer

@@ -3,7 +3,8 @@ use Rattle.std.proofs.Common.{◌≡◌, ◌==◌, ℕ, List, Option, false, tru
 use Rattle.std.proofs.lemmas.Bool.{eq-eqb, ne_eqb}
 use Rattle.ffv1_reads.proofs.EndReadings.{none_last}
 use Rattle.ffv1_reads.proofs.Reading.{goes_none, goes_same}
-use Rattle.ffv1_matroska.specs.Turns.{open_turn, turn_or_end}
+use Rattle.ffv1_matroska.specs.Turns.{open_turn, segment_turn, some_turn, turn_or_end}
+use Rattle.ffv1_matroska.proofs.TurnReadings.{some_last}
 use Rattle.ffv1_matroska.specs.declared.course.Turn.{Turn}
 use Rattle.ffv1_matroska.specs.CuedItems.{cued_open, cued_outer}
 use Rattle.ffv1_matroska.proofs.CuedTurns.{cued_here, cued_same, cued_turn_of}
@@ -21,6 +22,20 @@ returns-then-place-clause-answer g c =
     none_last (turn_or_end track place) (λ (t : Option Turn). t) _ _ _
     (goes_same (open_turn track place) (turn_or_end track place) same
     (goes_none (open_turn track place) _ _)) c.read_or_end.ensures.answer
+
+pub returns-clause-answer : goal.returns-clause-answer
+unfolding open_turn
+returns-clause-answer g c =
+    let track = c.args.track in
+    let place = c.args.place in
+    let some : (place.segment == 0) ≡ false = ne_eqb _ _
+    (λ z. omega (arith, z, c.if-place-eq0.false)) in
+    let same : (text : List ℕ) → open_turn track place text ≡ some_turn (segment_turn track place)
+    text =
+    λ text. rw (some, c.if-place.false) refl in
+    rw c.turn_of.ensures (some_last (segment_turn track place) _ _ c.read_element.result
+    (goes_same (open_turn track place) (some_turn (segment_turn track place)) same
+    (goes_none (open_turn track place) _ _)) c.read_element.ensures.answer)
 
 pub returns-then-place-eq0-clause-cued : goal.returns-then-place-eq0-clause-cued
 unfolding cued_open

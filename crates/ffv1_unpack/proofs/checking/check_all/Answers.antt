@@ -20,6 +20,7 @@ use Rattle.ffv1_unpack.specs.Judged.{IsJudged, judged_lines, payload_of}
 use Rattle.ffv1_unpack.proofs.ItemsJudged.{line_own}
 use Rattle.std.proofs.Common.{length, refl}
 use Rattle.ffv1_video.specs.Profiles.{scope_in}
+use Rattle.ffv1_unpack.proofs.ReadAgain.{line_again, telling_again, told_again}
 use Rattle.ffv1_unpack.proofs.checking.check_all.Goals as goal
 use Rattle.ffv1_unpack.proofs.checking.check_all.Goals.{else-counts-eq0-2-via-else-counts-eq0-2}
 use Rattle.ffv1_unpack.proofs.checking.check_all.Goals.{else-counts-eq0-2-via-then-counts-eq0-2+else-counts-eq0-3}
@@ -439,3 +440,48 @@ returns-clause-ok g c =
           (g.W.ByteOut.failures c.write_counts-in-Matroska.new.output)
           some c.in_ok-write_counts-in-Matroska.ensures.0 c.in_ok-write_counts-in-Matroska.ensures.1,
     )
+
+pub returns-in_err-counts-in-Avi-clause-again : goal.returns-in_err-counts-in-Avi-clause-again
+returns-in_err-counts-in-Avi-clause-again g c =
+    let p = err_from_is_err_and c.from_residual.result c.from_residual.ensures.1 in
+    rw (p.1, p.2) (told_again c.args.profile
+    (g.R.AgainIn.begins c.args.input.now)
+    (passage g.R.ByteIn.remaining g.R.ByteIn.failures c.args.input.now c.judge_frames.new.input)
+    c.in-Ok.player.reader (g.R.ByteIn.remaining c.open_player_located.new.input)
+    c.in_err-counts-in-Avi.field-0.0 c.in_err-counts-in-Avi.ensures.own)
+
+pub returns-in_err-write_counts-in-Avi-clause-again : goal.returns-in_err-write_counts-in-Avi-clause-again
+returns-in_err-write_counts-in-Avi-clause-again g c =
+    let p = err_from_is_err_and c.from_residual-in_err-write_counts-in-Avi.result
+    c.from_residual-in_err-write_counts-in-Avi.ensures.1 in
+    rw (p.1, p.2) (line_again c.args.profile
+    (g.R.AgainIn.begins c.args.input.now)
+    (passage g.R.ByteIn.remaining g.R.ByteIn.failures c.args.input.now c.judge_frames.new.input)
+    _ _ c.in_err-write_counts-in-Avi.field-0.0 c.in_err-write_counts-in-Avi.ensures)
+
+pub returns-in_err-counts-in-Matroska-clause-again : goal.returns-in_err-counts-in-Matroska-clause-again
+returns-in_err-counts-in-Matroska-clause-again g c =
+    let p = err_from_is_err_and c.from_residual-in_err-counts-in-Matroska.result
+    c.from_residual-in_err-counts-in-Matroska.ensures.1 in
+    rw (p.1, p.2) (telling_again c.args.profile
+    (g.R.AgainIn.begins c.args.input.now)
+    (passage g.R.ByteIn.remaining g.R.ByteIn.failures c.args.input.now c.judge_items.new.input)
+    c.in_err-counts-in-Matroska.field-0.0 c.in_err-counts-in-Matroska.ensures.own)
+
+pub returns-in_err-notes-in-Matroska-clause-again : goal.returns-in_err-notes-in-Matroska-clause-again
+returns-in_err-notes-in-Matroska-clause-again g c =
+    let p = err_from_is_err_and c.from_residual-in_err-notes-in-Matroska.result
+    c.from_residual-in_err-notes-in-Matroska.ensures.1 in
+    rw (p.1, p.2) (telling_again c.args.profile
+    (g.R.AgainIn.begins c.args.input.now)
+    (passage g.R.ByteIn.remaining g.R.ByteIn.failures c.args.input.now c.tell_behind.new.input)
+    c.in_err-notes-in-Matroska.field-0.0 c.in_err-notes-in-Matroska.ensures.own)
+
+pub returns-in_err-write_counts-in-Matroska-clause-again : goal.returns-in_err-write_counts-in-Matroska-clause-again
+returns-in_err-write_counts-in-Matroska-clause-again g c =
+    let p = err_from_is_err_and c.from_residual-in_err-write_counts-in-Matroska.result
+    c.from_residual-in_err-write_counts-in-Matroska.ensures.1 in
+    rw (p.1, p.2) (line_again c.args.profile
+    (g.R.AgainIn.begins c.args.input.now)
+    (passage g.R.ByteIn.remaining g.R.ByteIn.failures c.args.input.now c.tell_behind.new.input)
+    _ _ c.in_err-write_counts-in-Matroska.field-0.0 c.in_err-write_counts-in-Matroska.ensures)

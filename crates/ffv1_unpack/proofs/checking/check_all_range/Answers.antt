@@ -5,6 +5,8 @@ use Rattle.ffv1_unpack.proofs.FileJudged.{all_done, count_stops, judging_stops, 
 use Rattle.ffv1_unpack.proofs.OwnFaults.{told_checks}
 use Rattle.ffv1_unpack.proofs.FramesNoted.{noted_file}
 use Rattle.ffv1_unpack.specs.Plays.{has_more}
+use Rattle.ffv1_wire.specs.Passage.{passage}
+use Rattle.ffv1_unpack.proofs.ReadAgain.{line_again, told_again}
 use Rattle.ffv1_unpack.proofs.checking.check_all_range.Goals as goal
 
 pub returns-in_err-player-clause-err : goal.returns-in_err-player-clause-err
@@ -96,3 +98,22 @@ returns-clause-ok g c =
     (has_more c.args.range.count (length told.0)) c.in_ok-player.ensures.located
     (c.in_ok-counts.ensures.noted (length told.0) told.1.frames)
     (λ room. c.notes_after-notes.ensures.read (length told.0) told.1.frames room))
+
+pub returns-in_err-counts-clause-again : goal.returns-in_err-counts-clause-again
+returns-in_err-counts-clause-again g c =
+    let p = err_from_is_err_and c.from_residual-in_err-counts.result
+    c.from_residual-in_err-counts.ensures.1 in
+    rw (p.1, p.2) (told_again c.args.profile
+    (g.R.AgainIn.begins c.args.input.now)
+    (passage g.R.ByteIn.remaining g.R.ByteIn.failures c.args.input.now c.judge_frames.new.input)
+    c.in_ok-player.player.reader (g.R.ByteIn.remaining c.open_range.new.input)
+    c.in_err-counts.field-0.0 c.in_err-counts.ensures.own)
+
+pub returns-in_err-write_counts-clause-again : goal.returns-in_err-write_counts-clause-again
+returns-in_err-write_counts-clause-again g c =
+    let p = err_from_is_err_and c.from_residual-in_err-write_counts.result
+    c.from_residual-in_err-write_counts.ensures.1 in
+    rw (p.1, p.2) (line_again c.args.profile
+    (g.R.AgainIn.begins c.args.input.now)
+    (passage g.R.ByteIn.remaining g.R.ByteIn.failures c.args.input.now c.judge_frames.new.input)
+    _ _ c.in_err-write_counts.field-0.0 c.in_err-write_counts.ensures)

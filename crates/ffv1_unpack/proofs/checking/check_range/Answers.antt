@@ -5,6 +5,8 @@ use Rattle.ffv1_unpack.proofs.FileChecked.{count_stops, done, none_told, telling
 use Rattle.ffv1_unpack.proofs.OwnFaults.{told_checks}
 use Rattle.ffv1_unpack.proofs.FramesNoted.{noted_file}
 use Rattle.ffv1_unpack.specs.Plays.{has_more}
+use Rattle.ffv1_wire.specs.Passage.{passage}
+use Rattle.ffv1_unpack.proofs.ReadAgain.{line_again, told_again}
 use Rattle.ffv1_unpack.proofs.checking.check_range.Goals as goal
 
 pub returns-in_err-player-clause-err : goal.returns-in_err-player-clause-err
@@ -95,3 +97,22 @@ returns-clause-ok g c =
     (has_more c.args.range.count (length told.0)) c.in_ok-player.ensures.located
     (c.in_ok-count.ensures.noted (length told.0) told.1)
     (λ room. c.notes_after.ensures.read (length told.0) told.1 room))
+
+pub returns-in_err-count-clause-again : goal.returns-in_err-count-clause-again
+returns-in_err-count-clause-again g c =
+    let p = err_from_is_err_and c.from_residual-in_err-count.result
+    c.from_residual-in_err-count.ensures.1 in
+    rw (p.1, p.2) (told_again c.args.profile
+    (g.R.AgainIn.begins c.args.input.now)
+    (passage g.R.ByteIn.remaining g.R.ByteIn.failures c.args.input.now c.tell_frames.new.input)
+    c.in_ok-player.player.reader (g.R.ByteIn.remaining c.open_range.new.input)
+    c.in_err-count.field-0.0 c.in_err-count.ensures.own)
+
+pub returns-in_err-write_count-clause-again : goal.returns-in_err-write_count-clause-again
+returns-in_err-write_count-clause-again g c =
+    let p = err_from_is_err_and c.from_residual-in_err-write_count.result
+    c.from_residual-in_err-write_count.ensures.1 in
+    rw (p.1, p.2) (line_again c.args.profile
+    (g.R.AgainIn.begins c.args.input.now)
+    (passage g.R.ByteIn.remaining g.R.ByteIn.failures c.args.input.now c.tell_frames.new.input)
+    _ _ c.in_err-write_count.field-0.0 c.in_err-write_count.ensures)

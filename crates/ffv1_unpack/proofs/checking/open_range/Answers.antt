@@ -5,6 +5,8 @@ use Rattle.ffv1_video.specs.Profiles.{scope_in}
 use Rattle.ffv1_unpack.proofs.FilePlayed.{moves_whole}
 use Rattle.ffv1_unpack.proofs.FramesPassed.{opens_range, pass_file}
 use Rattle.ffv1_unpack.proofs.OwnFaults.{opening_checks, passing_checks}
+use Rattle.ffv1_wire.specs.Passage.{passage}
+use Rattle.ffv1_unpack.proofs.ReadAgain.{passing_again}
 use Rattle.ffv1_unpack.proofs.checking.open_range.Goals as goal
 
 pub returns-in-Err-clause-err : goal.returns-in-Err-clause-err
@@ -83,3 +85,11 @@ returns-in-Ok-pass_frames-clause-located g c =
       ends = c.in-Ok.ensures.ends;
       noted = c.in-Ok.ensures.noted;
     })
+
+pub returns-in-Err-pass_frames-clause-again : goal.returns-in-Err-pass_frames-clause-again
+returns-in-Err-pass_frames-clause-again g c =
+    passing_again c.args.profile
+    (g.R.AgainIn.begins c.args.input.now)
+    (passage g.R.ByteIn.remaining g.R.ByteIn.failures c.args.input.now c.pass_frames.new.input)
+    c.in-Ok.player.reader (g.R.ByteIn.remaining c.open_player_located.new.input)
+    c.in-Err-pass_frames.fault c.in-Err-pass_frames.ensures.own

@@ -8,6 +8,8 @@ use Rattle.ffv1_unpack.proofs.FramesCompared.{comparing_done, comparing_none, co
 use Rattle.ffv1_unpack.proofs.FramesCompared.{comparing_stops, not_opened, unlike_checks}
 use Rattle.ffv1_unpack.proofs.OwnFaults.{opening_checks}
 use Rattle.ffv1_video.specs.Profiles.{scope_in}
+use Rattle.ffv1_wire.specs.Passage.{passage}
+use Rattle.ffv1_unpack.proofs.ReadAgain.{unlike_again}
 use Rattle.ffv1_unpack.proofs.comparing.check_against.Goals as goal
 
 pub returns-in_err-player-clause-err : goal.returns-in_err-player-clause-err
@@ -93,3 +95,18 @@ returns-clause-ok g c =
     c.compare_frames.new.player.notes all.0 c.in_ok-compared.compared all.1 all.2
     all.4 c.if-compared-eq0.false whole reads
     (c.in_ok-compared.ensures.noted (scope_in c.args.profile) i0 c.in_ok-player.ensures.located)
+
+pub returns-in_err-player-clause-again : goal.returns-in_err-player-clause-again
+returns-in_err-player-clause-again g c =
+    let p = err_from_is_err_and c.from_residual.result c.from_residual.ensures.1 in
+    rw (p.1, p.2) c.in_err-player.ensures.again
+
+pub returns-in_err-compared-clause-again : goal.returns-in_err-compared-clause-again
+returns-in_err-compared-clause-again g c =
+    let p = err_from_is_err_and c.from_residual-in_err-compared.result
+    c.from_residual-in_err-compared.ensures.1 in
+    rw (p.1, p.2) (unlike_again c.args.profile
+    (g.R.AgainIn.begins c.args.input.now)
+    (passage g.R.ByteIn.remaining g.R.ByteIn.failures c.args.input.now c.compare_frames.new.input)
+    c.in_ok-player.player.reader (g.R.ByteIn.remaining c.open_player.new.input)
+    c.in_err-compared.field-0.0 c.in_err-compared.ensures.own)

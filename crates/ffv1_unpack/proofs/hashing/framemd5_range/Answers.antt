@@ -7,6 +7,8 @@ use Rattle.ffv1_unpack.proofs.RangePlayed.{lacks_range, range_done, range_none, 
 use Rattle.ffv1_unpack.proofs.OwnFaults.{told_checks}
 use Rattle.ffv1_unpack.proofs.FramesNoted.{noted_file}
 use Rattle.ffv1_unpack.specs.Plays.{has_more}
+use Rattle.ffv1_wire.specs.Passage.{passage}
+use Rattle.ffv1_unpack.proofs.ReadAgain.{told_again}
 use Rattle.ffv1_unpack.proofs.hashing.framemd5_range.Goals as goal
 
 pub returns-in_err-player-clause-err : goal.returns-in_err-player-clause-err
@@ -82,3 +84,13 @@ returns-clause-ok g c =
     (has_more c.args.range.count (length all.0)) c.in_ok-player.ensures.located
     (c.in_ok-count.ensures.noted (length all.0) all.1)
     (λ room. c.notes_after.ensures.read (length all.0) all.1 room))
+
+pub returns-in_err-count-clause-again : goal.returns-in_err-count-clause-again
+returns-in_err-count-clause-again g c =
+    let p = err_from_is_err_and c.from_residual-in_err-count.result
+    c.from_residual-in_err-count.ensures.1 in
+    rw (p.1, p.2) (told_again c.args.profile
+    (g.R.AgainIn.begins c.args.input.now)
+    (passage g.R.ByteIn.remaining g.R.ByteIn.failures c.args.input.now c.write_frames.new.input)
+    c.in_ok-player.player.reader (g.R.ByteIn.remaining c.open_range.new.input)
+    c.in_err-count.field-0.0 c.in_err-count.ensures.own)

@@ -5,6 +5,8 @@ use Rattle.ffv1_video.specs.Faults.{cause_of}
 use Rattle.ffv1_unpack.proofs.FramesPassed.{opens_range, pass_file}
 use Rattle.ffv1_unpack.proofs.OwnFaults.{opening_checks, passing_checks}
 use Rattle.ffv1_video.specs.Profiles.{scope_in}
+use Rattle.ffv1_wire.specs.Passage.{passage}
+use Rattle.ffv1_unpack.proofs.ReadAgain.{passing_again}
 use Rattle.ffv1_unpack.proofs.hashing.open_range.Goals as goal
 
 pub returns-in_err-player-clause-err : goal.returns-in_err-player-clause-err
@@ -62,3 +64,13 @@ pub returns-clause-located : goal.returns-clause-located
 returns-clause-located g c =
     c.in_ok-pass_frames.ensures.reached (scope_in c.args.profile) (g.R.ByteIn.remaining c.args.input.now)
     c.in_ok-player.ensures.located
+
+pub returns-in_err-pass_frames-clause-again : goal.returns-in_err-pass_frames-clause-again
+returns-in_err-pass_frames-clause-again g c =
+    let p = err_from_is_err_and c.from_residual-in_err-pass_frames.result
+    c.from_residual-in_err-pass_frames.ensures.1 in
+    rw (p.1, p.2) (passing_again c.args.profile
+    (g.R.AgainIn.begins c.args.input.now)
+    (passage g.R.ByteIn.remaining g.R.ByteIn.failures c.args.input.now c.pass_frames.new.input)
+    c.in_ok-player.player.reader (g.R.ByteIn.remaining c.open_player.new.input)
+    c.in_err-pass_frames.field-0.0 c.in_err-pass_frames.ensures.own)

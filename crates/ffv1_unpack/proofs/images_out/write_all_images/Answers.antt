@@ -6,7 +6,8 @@ use Rattle.ffv1_wire.specs.Passage.{passage}
 use Rattle.ffv1_video.specs.Faults.{cause_of}
 use Rattle.ffv1_unpack.specs.Internal.ImagesOut.{WritesImage}
 use Rattle.ffv1_unpack.specs.Internal.Opens.{stream_of}
-use Rattle.ffv1_unpack.specs.Stream.{AreFrames}
+use Rattle.ffv1_unpack.specs.Stream.{AreFrames, carried_after, payloads}
+use Rattle.ffv1_unpack.proofs.FramesCarried.{after_more}
 use Rattle.ffv1_unpack.proofs.FramesInTurn.{counted_more}
 use Rattle.ffv1_unpack.proofs.FramesPlayed.{none_at_most, one_at_most}
 use Rattle.ffv1_unpack.proofs.FramesUnpacked.{unpacks_full}
@@ -27,10 +28,11 @@ frames-init g c =
           is = none;
           un =
               images_none (stream_of c.args.player.now.reader c.args.player.now.decoder.accepted)
-              c.requires.colour c.args.player.now.reader.place
+              c.requires.colour c.args.carried.now.items c.args.player.now.reader.place
               (g.R.ByteIn.remaining c.args.input.now)
               (g.W.ByteOut.contents c.args.sink.now.out) (g.R.ByteIn.failures c.args.input.now)
               (g.W.ByteOut.failures c.args.sink.now.out);
+          left_is = refl;
         },
         none_at_most c.args.most,
         c.new-last.ensures.items,
@@ -47,7 +49,7 @@ returns-in_err-write_next-clause-err g c =
     let f = c.in_err-write_next.field-0.0 in
     rw (p.1, p.2)
     (images_stop (stream_of c.args.player.now.reader c.args.player.now.decoder.accepted)
-    c.requires.colour c.args.player.now.reader.place c.frames.player.reader.place
+    c.requires.colour c.args.carried.now.items c.args.player.now.reader.place c.frames.player.reader.place
     c.write_next.new.player.reader.place
     (g.R.ByteIn.remaining c.args.input.now) (g.R.ByteIn.remaining c.frames.input)
     (g.R.ByteIn.remaining c.write_next.new.input)
@@ -57,9 +59,9 @@ returns-in_err-write_next-clause-err g c =
     (g.R.ByteIn.failures c.write_next.new.input)
     (g.W.ByteOut.failures c.args.sink.now.out) (g.W.ByteOut.failures c.frames.sink.out)
     (g.W.ByteOut.failures c.write_next.new.sink.out)
-    so.frames so.un f (cause_of f) (rw same at
+    so.frames so.un f (cause_of f) (rw so.left_is at (rw same at
     (c.in_err-write_next.ensures.answer so.frames
-    (subst (λ z. AreFrames z so.frames) (sym same) so.un.so.are) c.frames.invariant.3.2)))
+    (subst (λ z. AreFrames z so.frames) (sym same) so.un.are) c.frames.invariant.3.2))))
 
 pub returns-in_err-write_next-clause-own : goal.returns-in_err-write_next-clause-own
 returns-in_err-write_next-clause-own g c =
@@ -79,12 +81,16 @@ frames-preserved g c =
     c.write_next.new.input in
     let writing = passage g.W.ByteOut.contents g.W.ByteOut.failures c.frames.sink.out
     c.write_next.new.sink.out in
-    let answer = subst (λ b. WritesImage a so.frames c.frames.player.reader.place
+    let left = c.frames.carried.items in
+    let first = c.args.carried.now.items in
+    let answer = subst (λ b. WritesImage a (carried_after first (payloads so.frames)) so.frames c.frames.player.reader.place
     c.write_next.new.player.reader.place reading writing c.write_next.new.player.notes c.write_next.new.last.items (Ok b)) c.if-not-branch.false
-    (subst (λ z. WritesImage z so.frames c.frames.player.reader.place c.write_next.new.player.reader.place
+    (subst (λ z. WritesImage a z so.frames c.frames.player.reader.place c.write_next.new.player.reader.place
+    reading writing c.write_next.new.player.notes c.write_next.new.last.items (Ok c.in_ok-write_next.field-0)) so.left_is
+    (subst (λ z. WritesImage z left so.frames c.frames.player.reader.place c.write_next.new.player.reader.place
     reading writing c.write_next.new.player.notes c.write_next.new.last.items (Ok c.in_ok-write_next.field-0)) same
     (c.in_ok-write_next.ensures.answer so.frames
-    (subst (λ z. AreFrames z so.frames) (sym same) so.un.so.are) c.frames.invariant.3.2)) in
+    (subst (λ z. AreFrames z so.frames) (sym same) so.un.are) c.frames.invariant.3.2))) in
     let f = answer.0 in
     let next : c.saturating_add-count.result ≡ saturated (length (so.frames ++ (f ∷ []))) =
     omega (arith, c.saturating_add-count.ensures, so.is, counted_more so.frames f) in (
@@ -92,13 +98,13 @@ frames-preserved g c =
       c.in_ok-write_next.ensures.same ∙ same,
       rw same at
           (c.in_ok-write_next.ensures.sink so.frames
-          (subst (λ z. AreFrames z so.frames) (sym same) so.un.so.are) c.frames.invariant.3.2),
+          (subst (λ z. AreFrames z so.frames) (sym same) so.un.are) c.frames.invariant.3.2),
       (
         record {
           frames = so.frames ++ (f ∷ []);
           is = next;
           un =
-              images_more (stream_of c.args.player.now.reader a) c.requires.colour
+              images_more (stream_of c.args.player.now.reader a) c.requires.colour first
               c.args.player.now.reader.place c.frames.player.reader.place
               c.write_next.new.player.reader.place
               (g.R.ByteIn.remaining c.args.input.now) (g.R.ByteIn.remaining c.frames.input)
@@ -110,6 +116,7 @@ frames-preserved g c =
               (g.W.ByteOut.failures c.args.sink.now.out) (g.W.ByteOut.failures c.frames.sink.out)
               (g.W.ByteOut.failures c.write_next.new.sink.out)
               so.frames so.un f answer.1 answer.2 answer.3;
+          left_is = c.in_ok-write_next.ensures.none c.if-not-branch.false ∙ sym (after_more first so.frames f);
         },
         one_at_most c.args.most so.frames f room,
         answer.4,
@@ -129,16 +136,17 @@ returns-then-not-branch-clause-ok g c =
     c.write_next.new.input in
     let writing = passage g.W.ByteOut.contents g.W.ByteOut.failures c.frames.sink.out
     c.write_next.new.sink.out in
-    let answer = subst (λ b. WritesImage a so.frames c.frames.player.reader.place
+    let left = c.frames.carried.items in
+    let answer = subst (λ b. WritesImage a left so.frames c.frames.player.reader.place
     c.write_next.new.player.reader.place reading writing c.write_next.new.player.notes c.write_next.new.last.items (Ok b)) c.if-not-branch.true
-    (subst (λ z. WritesImage z so.frames c.frames.player.reader.place c.write_next.new.player.reader.place
+    (subst (λ z. WritesImage z left so.frames c.frames.player.reader.place c.write_next.new.player.reader.place
     reading writing c.write_next.new.player.notes c.write_next.new.last.items (Ok c.in_ok-write_next.field-0)) same
     (c.in_ok-write_next.ensures.answer so.frames
-    (subst (λ z. AreFrames z so.frames) (sym same) so.un.so.are) c.frames.invariant.3.2)) in (
+    (subst (λ z. AreFrames z so.frames) (sym same) so.un.are) c.frames.invariant.3.2)) in (
       so.frames,
       so.is,
       images_over (stream_of c.args.player.now.reader a) c.requires.colour
-          c.args.player.now.reader.place c.frames.player.reader.place
+          c.args.carried.now.items c.args.player.now.reader.place c.frames.player.reader.place
           c.write_next.new.player.reader.place
           (g.R.ByteIn.remaining c.args.input.now) (g.R.ByteIn.remaining c.frames.input)
           (g.R.ByteIn.remaining c.write_next.new.input)
@@ -168,7 +176,7 @@ returns-clause-ok g c =
       so.frames,
       so.is,
       unpacks_full (stream_of c.args.player.now.reader c.args.player.now.decoder.accepted)
-          c.args.player.now.reader.place c.frames.player.reader.place
+          c.args.carried.now.items c.args.player.now.reader.place c.frames.player.reader.place
           (g.R.ByteIn.remaining c.args.input.now) (g.R.ByteIn.remaining c.frames.input)
           (g.W.ByteOut.contents c.args.sink.now.out) (g.W.ByteOut.contents c.frames.sink.out)
           (g.R.ByteIn.failures c.args.input.now) (g.R.ByteIn.failures c.frames.input)

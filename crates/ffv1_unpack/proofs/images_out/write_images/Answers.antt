@@ -9,7 +9,11 @@ pub returns-in-Err-clause-err : goal.returns-in-Err-clause-err
 returns-in-Err-clause-err g c =
     rw c.in-Err.ensures.err.0
     (images_lack (stream_of c.args.player.now.reader c.args.player.now.decoder.accepted)
-    c.requires.colour c.args.player.now.reader.place (g.R.ByteIn.remaining c.args.input.now)
+    c.requires.colour c.args.carried.now.items c.args.player.now.reader.place (g.R.ByteIn.remaining c.args.input.now)
     (g.W.ByteOut.contents c.args.output) (g.R.ByteIn.failures c.args.input.now)
     (g.W.ByteOut.failures c.args.output) c.from.result
     (c.from.ensures ∙ ap of_y4m c.in-Err.ensures.err.1))
+
+pub returns-in-Ok-clause-err : goal.returns-in-Ok-clause-err
+returns-in-Ok-clause-err g c =
+    rw c.into_inner.ensures (rw c.in-Ok.ensures.ok at c.write_all_images-count.ensures.err)

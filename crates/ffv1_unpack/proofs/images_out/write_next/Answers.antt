@@ -32,11 +32,11 @@ pub returns-in-Ok-Coded-clause-answer : goal.returns-in-Ok-Coded-clause-answer
 returns-in-Ok-Coded-clause-answer g c =
     let a = c.args.player.now.decoder.accepted in
     let k = a.configuration in
-    let payload = c.play.new.player.payload.items in
-    let tally = c.play.new.player.decoder.tally in
+    let payload = c.play_carried.new.player.payload.items in
+    let tally = c.play_carried.new.player.decoder.tally in
     let info = c.in-Ok-Coded._info in
     let old = c.args.sink.now in
-    let new = c.play.new.sink in
+    let new = c.play_carried.new.sink in
     let is = c.requires.accepted in
     let rct = c.requires.colour in
     let answer = rw c.in-Ok-Coded.field-0-is at c.in-Ok-Coded.ensures.answer in
@@ -70,11 +70,11 @@ pub returns-in-Ok-Coded-clause-sink : goal.returns-in-Ok-Coded-clause-sink
 returns-in-Ok-Coded-clause-sink g c =
     let a = c.args.player.now.decoder.accepted in
     let k = a.configuration in
-    let payload = c.play.new.player.payload.items in
-    let tally = c.play.new.player.decoder.tally in
+    let payload = c.play_carried.new.player.payload.items in
+    let tally = c.play_carried.new.player.decoder.tally in
     let info = c.in-Ok-Coded._info in
     let old = c.args.sink.now in
-    let new = c.play.new.sink in
+    let new = c.play_carried.new.sink in
     let is = c.requires.accepted in
     let rct = c.requires.colour in
     let answer = rw c.in-Ok-Coded.field-0-is at c.in-Ok-Coded.ensures.answer in
@@ -93,21 +93,21 @@ returns-in-Ok-Coded-clause-sink g c =
 
 pub repeat_image-requires-clause-accepted : goal.repeat_image-requires-clause-accepted
 repeat_image-requires-clause-accepted g c =
-    subst (λ (z : Accepted). IsAccepted z.configuration z.table) (sym c.play.ensures.same)
+    subst (λ (z : Accepted). IsAccepted z.configuration z.table) (sym c.play_carried.ensures.same)
     c.requires.accepted
 
 pub repeat_image-requires-clause-colour : goal.repeat_image-requires-clause-colour
 repeat_image-requires-clause-colour g c =
-    ap (λ (z : Accepted). is_rct z.configuration.colour) c.play.ensures.same ∙ c.requires.colour
+    ap (λ (z : Accepted). is_rct z.configuration.colour) c.play_carried.ensures.same ∙ c.requires.colour
 
 pub repeat_image-requires-clause-opaque : goal.repeat_image-requires-clause-opaque
 repeat_image-requires-clause-opaque g c =
-    ap (λ (z : Accepted). z.configuration.extra_plane) c.play.ensures.same ∙ c.requires.opaque
+    ap (λ (z : Accepted). z.configuration.extra_plane) c.play_carried.ensures.same ∙ c.requires.opaque
 
 pub repeat_image-requires-clause-sink : goal.repeat_image-requires-clause-sink
 repeat_image-requires-clause-sink g c =
     let answer = rw c.in-Ok-Again.field-0-is at c.in-Ok-Again.ensures.answer in
-    subst (λ (z : Accepted). IsSinkFor z.configuration c.play.new.sink) (sym c.play.ensures.same)
+    subst (λ (z : Accepted). IsSinkFor z.configuration c.play_carried.new.sink) (sym c.play_carried.ensures.same)
     (subst (IsSinkFor c.args.player.now.decoder.accepted.configuration) (sym answer.1)
     c.requires.sink)
 
@@ -116,35 +116,35 @@ pub returns-in_err-repeat_image-in-Ok-Again-clause-answer :
 returns-in_err-repeat_image-in-Ok-Again-clause-answer g c = λ frames are kept.
     let p = err_from_is_err_and c.from_residual.result c.from_residual.ensures.1 in
     let a = c.args.player.now.decoder.accepted in
-    let b = c.play.new.player.decoder.accepted in
+    let b = c.play_carried.new.player.decoder.accepted in
     let last = c.deref.result.now in
     let held = subst (IsLastPayload frames) (sym c.deref.ensures.value) kept in
     let old = c.args.sink.now in
     let new = c.repeat_image.new.sink in
     let f = c.in_err-repeat_image-in-Ok-Again.field-0.0 in
     let input = passage g.R.ByteIn.remaining g.R.ByteIn.failures c.args.input.now
-    c.play.new.input in
+    c.play_carried.new.input in
     let output = passage g.W.ByteOut.contents g.W.ByteOut.failures old.out new.out in
     let answer = rw c.in-Ok-Again.field-0-is at c.in-Ok-Again.ensures.answer in
     let writes = repeats_from g.W.ByteOut.contents g.W.ByteOut.failures a b frames last old
-    c.play.new.sink new (Err f) answer.1 c.play.ensures.same
+    c.play_carried.new.sink new (Err f) answer.1 c.play_carried.ensures.same
     (c.in_err-repeat_image-in-Ok-Again.ensures.answer (stream_of c.args.player.now.reader b) frames
-    refl (subst (λ (z : Accepted). AreFrames z frames) (sym c.play.ensures.same) are) held) in
-    rw (p.1, p.2) (repeat_stops a frames c.args.player.now.reader.place
-    c.play.new.player.reader.place input output last f answer.0 writes)
+    refl (subst (λ (z : Accepted). AreFrames z frames) (sym c.play_carried.ensures.same) are) held) in
+    rw (p.1, p.2) (repeat_stops a c.args.carried.now.items frames c.args.player.now.reader.place
+    c.play_carried.new.player.reader.place input output last f answer.0 writes)
 
 pub returns-in_ok-repeat_image-in-Ok-Again-clause-answer :
     goal.returns-in_ok-repeat_image-in-Ok-Again-clause-answer
 returns-in_ok-repeat_image-in-Ok-Again-clause-answer g c = λ frames are kept.
     let a = c.args.player.now.decoder.accepted in
-    let b = c.play.new.player.decoder.accepted in
+    let b = c.play_carried.new.player.decoder.accepted in
     let last = c.deref.result.now in
     let held = subst (IsLastPayload frames) (sym c.deref.ensures.value) kept in
     let answer = rw c.in-Ok-Again.field-0-is at c.in-Ok-Again.ensures.answer in
     let writes = repeats_from g.W.ByteOut.contents g.W.ByteOut.failures a b frames last
-    c.args.sink.now c.play.new.sink c.repeat_image.new.sink (Ok tt) answer.1 c.play.ensures.same
+    c.args.sink.now c.play_carried.new.sink c.repeat_image.new.sink (Ok tt) answer.1 c.play_carried.ensures.same
     (c.in_ok-repeat_image-in-Ok-Again.ensures.answer (stream_of c.args.player.now.reader b) frames
-    refl (subst (λ (z : Accepted). AreFrames z frames) (sym c.play.ensures.same) are) held) in (
+    refl (subst (λ (z : Accepted). AreFrames z frames) (sym c.play_carried.ensures.same) are) held) in (
       Again,
       record { is = tt; reads = answer.0 },
       writes.0,
@@ -156,28 +156,28 @@ pub returns-in_ok-repeat_image-in-Ok-Again-clause-sink :
     goal.returns-in_ok-repeat_image-in-Ok-Again-clause-sink
 returns-in_ok-repeat_image-in-Ok-Again-clause-sink g c = λ frames are kept.
     let held = subst (IsLastPayload frames) (sym c.deref.ensures.value) kept in
-    let b = c.play.new.player.decoder.accepted in
+    let b = c.play_carried.new.player.decoder.accepted in
     subst (λ (z : Accepted). IsSinkFor z.configuration c.repeat_image.new.sink)
-    c.play.ensures.same
+    c.play_carried.ensures.same
     (c.in_ok-repeat_image-in-Ok-Again.ensures.sink (stream_of c.args.player.now.reader b) frames
-    refl (subst (λ (z : Accepted). AreFrames z frames) (sym c.play.ensures.same) are) held)
+    refl (subst (λ (z : Accepted). AreFrames z frames) (sym c.play_carried.ensures.same) are) held)
 
 pub returns-in-Err-File-clause-answer : goal.returns-in-Err-File-clause-answer
 returns-in-Err-File-clause-answer g c =
     let a = c.args.player.now.decoder.accepted in
     let old = c.args.sink.now in
-    let new = c.play.new.sink in
+    let new = c.play_carried.new.sink in
     let from = c.args.player.now.reader.place in
-    let to = c.play.new.player.reader.place in
+    let to = c.play_carried.new.player.reader.place in
     let f = of_avi c.in-Err-File.fault in
     let input = passage g.R.ByteIn.remaining g.R.ByteIn.failures c.args.input.now
-    c.play.new.input in
+    c.play_carried.new.input in
     let output = passage g.W.ByteOut.contents g.W.ByteOut.failures old.out new.out in
     let answer = rw c.in-Err-File.field-0-is at c.in-Err-File.ensures.answer in
     let none = sink_stays g.W.ByteOut.contents g.W.ByteOut.failures old new answer.1 in
     λ frames are kept.
-    subst (λ z. ImageStopsBy a frames from to input output z (cause_of z)) (sym c.from.ensures)
-    (file_stops a frames from to input output f (cause_of f) none answer.0)
+    subst (λ z. ImageStopsBy a c.args.carried.now.items frames from to input output z (cause_of z)) (sym c.from.ensures)
+    (file_stops a c.args.carried.now.items frames from to input output f (cause_of f) none answer.0)
 
 pub returns-in-Sink-clause-answer : goal.returns-in-Sink-clause-answer
 returns-in-Sink-clause-answer g c =
@@ -185,11 +185,11 @@ returns-in-Sink-clause-answer g c =
     let k = a.configuration in
     let contents = g.W.ByteOut.contents in
     let failed = g.W.ByteOut.failures in
-    let payload = c.play.new.player.payload.items in
-    let tally = c.play.new.player.decoder.tally in
+    let payload = c.play_carried.new.player.payload.items in
+    let tally = c.play_carried.new.player.decoder.tally in
     let f = c.in-Err-Payload.fault in
     let old = c.args.sink.now in
-    let new = c.play.new.sink in
+    let new = c.play_carried.new.sink in
     let is = c.requires.accepted in
     let rct = c.requires.colour in
     let at = c.requires.sink.at in
@@ -224,8 +224,8 @@ returns-in-Sink-clause-answer g c =
           (c.rct_planes_have_the_picture_size.ensures.wide a sink.plane is rct) line in
           let cut = c.sink_takes_the_next_line.ensures.refused old sink.between new sink.state.lines
           sink.plane y samples placed.0 at sink.grows (placed.1 ∙ order) long sink.last in
-          row_cut contents failed a frames c.args.player.now.reader.place c.play.new.player.reader.place
-          (passage g.R.ByteIn.remaining g.R.ByteIn.failures c.args.input.now c.play.new.input)
+          row_cut contents failed a c.args.carried.now.items frames c.args.player.now.reader.place c.play_carried.new.player.reader.place
+          (passage g.R.ByteIn.remaining g.R.ByteIn.failures c.args.input.now c.play_carried.new.input)
           payload answer.1 answer.0 old new tally f
           c.requires.sink r (c.sink_writes_the_lines_it_took.ensures.taken old sink.between
           sink.state.lines sink.grows) (c.sink_takes_the_next_line.ensures.taken old
@@ -237,27 +237,27 @@ returns-in_default g c =
     let a = c.args.player.now.decoder.accepted in
     let contents = g.W.ByteOut.contents in
     let failed = g.W.ByteOut.failures in
-    let payload = c.play.new.player.payload.items in
-    let tally = c.play.new.player.decoder.tally in
+    let payload = c.play_carried.new.player.payload.items in
+    let tally = c.play_carried.new.player.decoder.tally in
     let f = c.in-Err-Payload.fault in
     let old = c.args.sink.now in
-    let new = c.play.new.sink in
+    let new = c.play_carried.new.sink in
     let from = c.args.player.now.reader.place in
-    let to = c.play.new.player.reader.place in
+    let to = c.play_carried.new.player.reader.place in
     let input = passage g.R.ByteIn.remaining g.R.ByteIn.failures c.args.input.now
-    c.play.new.input in
+    c.play_carried.new.input in
     let output = passage contents failed old.out new.out in
     let answer = rw c.in-Err-Payload.field-0-is at c.in-Err-Payload.ensures.answer in
     let is = c.answered_fault_is_of_decoding.ensures a payload old new tally f answer.2 in
     let content = decode_cause f.fault is c.in_default.not-Sink in
     record {
-      answer = λ frames are kept. subst (λ z. ImageStopsBy a frames from to input output z (cause_of z))
+      answer = λ frames are kept. subst (λ z. ImageStopsBy a c.args.carried.now.items frames from to input output z (cause_of z))
           (sym c.from-in_default.ensures)
           (elim (either (Takes contents failed) (Refuses contents failed) a payload old new tally f
           answer.2) [
             | inl faulty ↦
-                payload_stops a frames from to input output (of_codec f.fault)
-                (image_faults contents failed a frames from to input payload answer.1 answer.0 old new tally f
+                payload_stops a c.args.carried.now.items frames from to input output (of_codec f.fault)
+                (image_faults contents failed a c.args.carried.now.items frames from to input payload answer.1 answer.0 old new tally f
                 c.requires.sink faulty content (c.sink_writes_the_lines_it_took.ensures.taken old new
                 (lines_before faulty.faulty) faulty.grows)
                 (c.sink_takes_the_next_line.ensures.taken old new (lines_before faulty.faulty)
@@ -266,12 +266,13 @@ returns-in_default g c =
                 (Refuses contents failed) a payload old new tally f r))
           ]);
       sink = λ frames are kept. tt;
+      none = tt;
       sound = tt;
       less = tt;
       reached = tt;
       noted = tt;
-      same = c.play.ensures.same;
-      container = c.play.ensures.container;
+      same = c.play_carried.ensures.same;
+      container = c.play_carried.ensures.container;
       own = inl (inr (inl (ap is_telling_fault c.from-in_default.ensures ∙ payload_tells f.fault is
           c.in_default.not-Sink)));
     }

@@ -8,6 +8,8 @@ use Rattle.ffv1_y4m.specs.Images.{image_text}
 use Rattle.ffv1_unpack.specs.FrameLines.{line_of, lines_from}
 use Rattle.ffv1_unpack.specs.Judged.{judged_from, judged_line}
 use Rattle.ffv1_unpack.specs.Stream.{CodedFrame}
+use Rattle.ffv1_y4m.specs.Pictures.{picture_text}
+use Rattle.ffv1_unpack.proofs.FramesShown.{shown_behind}
 use Rattle.ffv1_unpack.proofs.FramesInParts.{flat_in_parts, text_in_parts}
 use Rattle.ffv1_unpack.proofs.Md5sSoFar.{rows_in_parts}
 use Rattle.ffv1_unpack.proofs.laws.parts_make_up_the_whole.Goals as goal
@@ -34,3 +36,12 @@ pub returns-clause-images : goal.returns-clause-images
 returns-clause-images c = λ s xs ys.
     flat_in_parts (image_text s.accepted.configuration.depth s.accepted.configuration.width
     s.accepted.configuration.height) (λ (f : CodedFrame). f.planes) xs ys
+
+pub returns-clause-header : goal.returns-clause-header
+returns-clause-header c = λ s f fs. refl
+
+pub returns-clause-pictures : goal.returns-clause-pictures
+returns-clause-pictures c = λ xs ys. flat_in_parts picture_text (λ (f : CodedFrame). f.planes) xs ys
+
+pub returns-clause-shown : goal.returns-clause-shown
+returns-clause-shown c = shown_behind

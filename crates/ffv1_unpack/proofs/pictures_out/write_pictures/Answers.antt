@@ -8,9 +8,10 @@ use Rattle.ffv1_video.specs.Faults.{cause_of}
 use Rattle.ffv1_unpack.specs.Internal.Opens.{stream_of}
 use Rattle.ffv1_video.specs.KeptLines.{IsKeptFor}
 use Rattle.ffv1_unpack.specs.Internal.PicturesOut.{KeepsLast, WritesNext, begun_behind, head_saying}
-use Rattle.ffv1_unpack.specs.Stream.{shown_frames}
+use Rattle.ffv1_unpack.specs.Stream.{carried_after, payloads, shown_frames}
 use Rattle.ffv1_unpack.specs.Unpacked.{AlikeBy, video_of}
 use Rattle.ffv1_unpack.specs.Plays.{AtMost}
+use Rattle.ffv1_unpack.proofs.FramesCarried.{after_more}
 use Rattle.ffv1_unpack.proofs.FramesInTurn.{counted_more}
 use Rattle.ffv1_unpack.proofs.FramesPlayed.{none_at_most, one_at_most}
 use Rattle.ffv1_unpack.proofs.FramesUnpacked.{unpacks_full}
@@ -27,7 +28,7 @@ returns-in_err-kept-clause-err g c =
     let p = err_from_is_err_and c.from_residual.result c.from_residual.ensures.1 in
     rw (p.1, p.2)
     (wants_memory (stream_of c.args.player.now.reader c.args.player.now.decoder.accepted)
-    c.args.player.now.reader.place (g.R.ByteIn.remaining c.args.input.now)
+    c.args.carried.now.items c.args.player.now.reader.place (g.R.ByteIn.remaining c.args.input.now)
     (g.W.ByteOut.contents c.args.output.now)
     (g.R.ByteIn.failures c.args.input.now) (g.W.ByteOut.failures c.args.output.now)
     c.in_err-kept.field-0.0 c.requires.colour c.in_err-kept.ensures.err)
@@ -47,11 +48,13 @@ frames-init g c =
           frames = [];
           is = none;
           un = unpacked_none (stream_of c.args.player.now.reader c.args.player.now.decoder.accepted)
-              c.text_head.result heads c.requires.colour c.args.player.now.reader.place
+              c.text_head.result heads c.requires.colour c.args.carried.now.items
+              c.args.player.now.reader.place
               (g.R.ByteIn.remaining c.args.input.now) (g.W.ByteOut.contents c.args.output.now)
               (g.R.ByteIn.failures c.args.input.now) (g.W.ByteOut.failures c.args.output.now);
           begun_is = refl;
           keeps = keeps_none c.in_ok-kept.kept.planes;
+          left_is = refl;
         },
         none_at_most c.args.most,
       ),
@@ -74,14 +77,17 @@ returns-in_err-write_next-clause-err g c =
     c.write_next.new.input in
     let output = passage g.W.ByteOut.contents g.W.ByteOut.failures c.frames.output
     c.write_next.new.output in
+    let left = c.frames.carried.items in
     let answer =
-    subst (λ z. WritesNext a h z c.frames.kept.planes to last input output c.write_next.new.player.notes c.write_next.new.text.begun c.write_next.new.kept.planes (Err f))
+    subst (λ z. WritesNext a z h (begun_behind a.configuration.depth h (shown_frames so.frames)) c.frames.kept.planes to last input output c.write_next.new.player.notes c.write_next.new.text.begun c.write_next.new.kept.planes (Err f))
+    so.left_is
+    (subst (λ z. WritesNext a left h z c.frames.kept.planes to last input output c.write_next.new.player.notes c.write_next.new.text.begun c.write_next.new.kept.planes (Err f))
     so.begun_is
-    (subst (λ z. WritesNext z h c.frames.text.begun c.frames.kept.planes to last input output c.write_next.new.player.notes
-    c.write_next.new.text.begun c.write_next.new.kept.planes (Err f)) i.1 c.in_err-write_next.ensures.answer) in
+    (subst (λ z. WritesNext z left h c.frames.text.begun c.frames.kept.planes to last input output c.write_next.new.player.notes
+    c.write_next.new.text.begun c.write_next.new.kept.planes (Err f)) i.1 c.in_err-write_next.ensures.answer)) in
     rw (p.1, p.2)
     (unpacking_stops (stream_of c.args.player.now.reader a) h i.3 c.requires.colour
-    c.args.player.now.reader.place to last
+    c.args.carried.now.items c.args.player.now.reader.place to last
     (g.R.ByteIn.remaining c.args.input.now) (g.R.ByteIn.remaining c.frames.input)
     (g.R.ByteIn.remaining c.write_next.new.input)
     (g.W.ByteOut.contents c.args.output.now) (g.W.ByteOut.contents c.frames.output)
@@ -115,14 +121,18 @@ frames-preserved g c =
     c.write_next.new.input in
     let output = passage g.W.ByteOut.contents g.W.ByteOut.failures c.frames.output
     c.write_next.new.output in
+    let left = c.frames.carried.items in
+    let first = c.args.carried.now.items in
     let answer =
-    subst (λ b. WritesNext a h (begun_behind a.configuration.depth h (shown_frames so.frames)) c.frames.kept.planes to last
+    subst (λ b. WritesNext a (carried_after first (payloads so.frames)) h (begun_behind a.configuration.depth h (shown_frames so.frames)) c.frames.kept.planes to last
     input output c.write_next.new.player.notes c.write_next.new.text.begun c.write_next.new.kept.planes (Ok b)) c.if-not-branch.false
-    (subst (λ z. WritesNext a h z c.frames.kept.planes to last input output c.write_next.new.player.notes c.write_next.new.text.begun
+    (subst (λ z. WritesNext a z h (begun_behind a.configuration.depth h (shown_frames so.frames)) c.frames.kept.planes to last input output c.write_next.new.player.notes c.write_next.new.text.begun
+    c.write_next.new.kept.planes (Ok c.in_ok-write_next.field-0)) so.left_is
+    (subst (λ z. WritesNext a left h z c.frames.kept.planes to last input output c.write_next.new.player.notes c.write_next.new.text.begun
     c.write_next.new.kept.planes (Ok c.in_ok-write_next.field-0)) so.begun_is
-    (subst (λ z. WritesNext z h c.frames.text.begun c.frames.kept.planes to last input output c.write_next.new.player.notes
+    (subst (λ z. WritesNext z left h c.frames.text.begun c.frames.kept.planes to last input output c.write_next.new.player.notes
     c.write_next.new.text.begun c.write_next.new.kept.planes (Ok c.in_ok-write_next.field-0)) i.1
-    c.in_ok-write_next.ensures.answer)) in
+    c.in_ok-write_next.ensures.answer))) in
     let f = answer.0 in
     let next : c.saturating_add-count.result ≡ saturated (length (so.frames ++ (f ∷ []))) =
     omega (arith, c.saturating_add-count.ensures, so.is, counted_more so.frames f) in
@@ -130,13 +140,13 @@ frames-preserved g c =
     c.write_next.new.input in
     let all_output = passage g.W.ByteOut.contents g.W.ByteOut.failures c.args.output.now
     c.write_next.new.output in
-    let unpacked : UnpackedSo s h c.args.player.now.reader.place all_input all_output
-    c.write_next.new.text.begun c.write_next.new.kept.planes c.saturating_add-count.result last =
+    let unpacked : UnpackedSo s h first c.args.player.now.reader.place all_input all_output
+    c.write_next.new.text.begun c.write_next.new.kept.planes c.write_next.new.carried.items c.saturating_add-count.result last =
     record {
       frames = so.frames ++ (f ∷ []);
       is = next;
       un =
-          unpacked_more s h i.3 c.requires.colour c.args.player.now.reader.place to last
+          unpacked_more s h i.3 c.requires.colour first c.args.player.now.reader.place to last
           (g.R.ByteIn.remaining c.args.input.now) (g.R.ByteIn.remaining c.frames.input)
           (g.R.ByteIn.remaining c.write_next.new.input)
           (g.W.ByteOut.contents c.args.output.now) (g.W.ByteOut.contents c.frames.output)
@@ -150,14 +160,15 @@ frames-preserved g c =
           (subst (λ b. AlikeBy b (shown_frames so.frames)) c.requires.colour so.un.alike) answer.2;
       keeps = subst (λ z. KeepsLast z (so.frames ++ (f ∷ []))) (sym answer.6)
           (keeps_next c.frames.kept.planes so.frames f so.keeps);
+      left_is = c.in_ok-write_next.ensures.none c.if-not-branch.false ∙ sym (after_more first so.frames f);
     } in
     let head = sym c.in_ok-write_next.ensures.head in (
       c.in_ok-write_next.ensures.sound,
       c.in_ok-write_next.ensures.same ∙ i.1,
       subst (λ z. IsKeptFor z c.write_next.new.kept) i.1 c.in_ok-write_next.ensures.kept,
       subst (λ z. (said : Said) → head_saying z said ≡ video_of s said) head i.3,
-      subst (λ z. (so : UnpackedSo s z c.args.player.now.reader.place all_input all_output
-          c.write_next.new.text.begun c.write_next.new.kept.planes c.saturating_add-count.result last)
+      subst (λ z. (so : UnpackedSo s z first c.args.player.now.reader.place all_input all_output
+          c.write_next.new.text.begun c.write_next.new.kept.planes c.write_next.new.carried.items c.saturating_add-count.result last)
           × AtMost c.args.most
           (length so.frames)) head (unpacked, one_at_most c.args.most so.frames f room),
       c.in_ok-write_next.ensures.container ∙ i.5,
@@ -178,16 +189,17 @@ returns-then-not-branch-clause-ok g c =
     c.write_next.new.input in
     let output = passage g.W.ByteOut.contents g.W.ByteOut.failures c.frames.output
     c.write_next.new.output in
+    let left = c.frames.carried.items in
     let answer =
-    subst (λ b. WritesNext a h c.frames.text.begun c.frames.kept.planes to last input output c.write_next.new.player.notes
+    subst (λ b. WritesNext a left h c.frames.text.begun c.frames.kept.planes to last input output c.write_next.new.player.notes
     c.write_next.new.text.begun c.write_next.new.kept.planes (Ok b)) c.if-not-branch.true
-    (subst (λ z. WritesNext z h c.frames.text.begun c.frames.kept.planes to last input output c.write_next.new.player.notes
+    (subst (λ z. WritesNext z left h c.frames.text.begun c.frames.kept.planes to last input output c.write_next.new.player.notes
     c.write_next.new.text.begun c.write_next.new.kept.planes (Ok c.in_ok-write_next.field-0)) i.1
     c.in_ok-write_next.ensures.answer) in (
       so.frames,
       so.is,
       unpacked_over (stream_of c.args.player.now.reader a) h i.3 c.requires.colour
-          c.args.player.now.reader.place to last
+          c.args.carried.now.items c.args.player.now.reader.place to last
           (g.R.ByteIn.remaining c.args.input.now) (g.R.ByteIn.remaining c.frames.input)
           (g.R.ByteIn.remaining c.write_next.new.input)
           (g.W.ByteOut.contents c.args.output.now) (g.W.ByteOut.contents c.frames.output)
@@ -217,7 +229,7 @@ returns-clause-ok g c =
       so.frames,
       so.is,
       unpacks_full (stream_of c.args.player.now.reader c.args.player.now.decoder.accepted)
-          c.args.player.now.reader.place c.frames.player.reader.place
+          c.args.carried.now.items c.args.player.now.reader.place c.frames.player.reader.place
           (g.R.ByteIn.remaining c.args.input.now) (g.R.ByteIn.remaining c.frames.input)
           (g.W.ByteOut.contents c.args.output.now) (g.W.ByteOut.contents c.frames.output)
           (g.R.ByteIn.failures c.args.input.now) (g.R.ByteIn.failures c.frames.input)

@@ -18,10 +18,10 @@ invariant-frames g l =
     × ((said : Said) → head_saying l.text.head said ≡ video_of
     (stream_of l.fn.player.reader l.fn.player.decoder.accepted) said)
     × ((so : UnpackedSo (stream_of l.fn.player.reader l.fn.player.decoder.accepted) l.text.head
-    l.fn.player.reader.place
+    l.fn.carried.items l.fn.player.reader.place
     (passage g.R.ByteIn.remaining g.R.ByteIn.failures l.initial.input l.input)
     (passage g.W.ByteOut.contents g.W.ByteOut.failures l.initial.output l.output) l.text.begun
-    l.kept.planes l.count l.player.reader.place) × AtMost l.most (length so.frames))
+    l.kept.planes l.carried.items l.count l.player.reader.place) × AtMost l.most (length so.frames))
     × (container_of l.player.reader.place ≡ container_of l.fn.player.reader.place)
     × StaysReached l.fn.player.reader l.player.reader
     (passage g.R.ByteIn.remaining g.R.ByteIn.failures l.initial.input l.input)

@@ -11,6 +11,7 @@ use Rattle.ffv1_unpack.specs.Stream.{IsStream}
 use Rattle.ffv1_unpack.proofs.FaultsLocated.{record_located}
 use Rattle.ffv1_unpack.proofs.Openings.{lacks_file, lacks_record}
 use Rattle.ffv1_unpack.proofs.OwnFaults.{file_opens, record_opens, within_of}
+use Rattle.ffv1_unpack.proofs.ReadAgain.{file_again, record_again}
 use Rattle.ffv1_unpack.proofs.player.open_stream_located.Goals as goal
 
 pub returns-in_err-checked-clause-err : goal.returns-in_err-checked-clause-err
@@ -35,7 +36,7 @@ returns-in_err-reader-clause-err g c =
     let p = err_from_is_err_and c.from_residual.result c.from_residual.ensures.1 in
     rw (p.1, p.2)
     (lacks_file c.args.profile (passage g.R.ByteIn.remaining g.R.ByteIn.failures c.args.input.now
-    c.open_located.new.input) c.in_err-reader.field-0.0
+    c.open_located.new.input) (g.R.AgainIn.begins c.args.input.now) c.in_err-reader.field-0.0
     (rw c.scope.ensures at c.in_err-reader.ensures.answer))
 
 pub returns-in_err-checked-clause-own : goal.returns-in_err-checked-clause-own
@@ -77,3 +78,19 @@ returns-in_err-reader-clause-stopped g c =
       inl (rw c.scope.ensures at
           c.in_err-reader.ensures.stopped),
     ))
+
+pub returns-in_err-reader-clause-again : goal.returns-in_err-reader-clause-again
+returns-in_err-reader-clause-again g c =
+    let p = err_from_is_err_and c.from_residual.result c.from_residual.ensures.1 in
+    rw (p.1, p.2) (file_again c.args.profile
+    (g.R.AgainIn.begins c.args.input.now)
+    (passage g.R.ByteIn.remaining g.R.ByteIn.failures c.args.input.now c.open_located.new.input)
+    c.in_err-reader.field-0.0 (rw c.scope.ensures at c.in_err-reader.ensures.answer))
+
+pub returns-in_err-checked-clause-again : goal.returns-in_err-checked-clause-again
+returns-in_err-checked-clause-again g c =
+    let p = err_from_is_err_and c.from_residual-in_err-checked.result
+    c.from_residual-in_err-checked.ensures.1 in
+    rw (p.1, p.2) (record_again c.args.profile
+    (g.R.AgainIn.begins c.args.input.now)
+    (passage g.R.ByteIn.remaining g.R.ByteIn.failures c.args.input.now c.open_located.new.input) c.in_err-checked.field-0.0)

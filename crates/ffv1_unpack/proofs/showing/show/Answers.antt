@@ -19,6 +19,7 @@ use Rattle.ffv1_unpack.proofs.FileShown.{before_costs, costs_stop, lacks_stream,
 use Rattle.ffv1_unpack.proofs.FileShown.{shows_costs, text_stops, told_some}
 use Rattle.ffv1_unpack.proofs.OwnFaults.{line_shows, opened_shows, told_shows}
 use Rattle.ffv1_video.specs.Profiles.{scope_in}
+use Rattle.ffv1_unpack.proofs.ReadAgain.{line_again, told_again}
 use Rattle.ffv1_unpack.proofs.showing.show.Goals as goal
 
 -- the lines that were written are those of the reader's head and container
@@ -151,3 +152,22 @@ returns-in_err-reader-clause-own g c =
     let p = err_from_is_err_and c.from_residual.result c.from_residual.ensures.1 in
     rw (p.1, p.2) (opened_shows c.args.profile c.args.cost c.in_err-reader.field-0.0
     c.in_err-reader.ensures.own)
+
+pub returns-in_err-write_stream-clause-again : goal.returns-in_err-write_stream-clause-again
+returns-in_err-write_stream-clause-again g c =
+    let p = err_from_is_err_and c.from_residual-in_err-write_stream.result
+    c.from_residual-in_err-write_stream.ensures.1 in
+    rw (p.1, p.2) (line_again c.args.profile
+    (g.R.AgainIn.begins c.args.input.now)
+    (passage g.R.ByteIn.remaining g.R.ByteIn.failures c.args.input.now c.open_stream.new.input)
+    _ _ c.in_err-write_stream.field-0.0 c.in_err-write_stream.ensures)
+
+pub returns-in_err-notes-clause-again : goal.returns-in_err-notes-clause-again
+returns-in_err-notes-clause-again g c =
+    let p = err_from_is_err_and c.from_residual-in_err-notes.result
+    c.from_residual-in_err-notes.ensures.1 in
+    rw (p.1, p.2) (told_again c.args.profile
+    (g.R.AgainIn.begins c.args.input.now)
+    (passage g.R.ByteIn.remaining g.R.ByteIn.failures c.args.input.now c.tell_costs.new.input)
+    c.in_ok-reader.reader (g.R.ByteIn.remaining c.open_stream.new.input)
+    c.in_err-notes.field-0.0 c.in_err-notes.ensures.own)

@@ -4,6 +4,8 @@ use Rattle.std.proofs.lemmas.Result.{err_from_is_err_and}
 use Rattle.ffv1_record.specs.Configuration.{is_rct}
 use Rattle.ffv1_unpack.proofs.FileUnpacked.{lacks_text, text_own}
 use Rattle.ffv1_unpack.proofs.OwnFaults.{opening_unpacks}
+use Rattle.ffv1_wire.specs.Passage.{passage}
+use Rattle.ffv1_unpack.proofs.ReadAgain.{unpack_again}
 use Rattle.ffv1_unpack.proofs.unpacking_all.open_whole.Goals as goal
 
 pub returns-in_err-player-clause-err : goal.returns-in_err-player-clause-err
@@ -43,3 +45,15 @@ returns-clause-stands g c = record {
   ends = c.in_ok-player.ensures.ends;
   noted = c.in_ok-player.ensures.noted;
 }
+
+pub returns-in_err-check_text-clause-again : goal.returns-in_err-check_text-clause-again
+returns-in_err-check_text-clause-again g c =
+    let p = err_from_is_err_and c.from_residual-in_err-check_text.result
+    c.from_residual-in_err-check_text.ensures.1 in
+    let configuration = c.in_ok-player.player.decoder.accepted.configuration in
+    let f = c.in_err-check_text.field-0.0 in
+    rw (p.1, p.2) (unpack_again c.args.profile
+    (g.R.AgainIn.begins c.args.input.now)
+    (passage g.R.ByteIn.remaining g.R.ByteIn.failures c.args.input.now c.open_player_located.new.input) f
+    (text_own (is_rct configuration.colour) configuration f
+    (rw c.config.ensures at c.in_err-check_text.ensures.err)))

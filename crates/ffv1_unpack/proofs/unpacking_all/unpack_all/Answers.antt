@@ -7,6 +7,7 @@ use Rattle.ffv1_unpack.proofs.FileSalvaged.{all_fails}
 use Rattle.ffv1_unpack.proofs.OpenedAs.{read_as}
 use Rattle.ffv1_unpack.proofs.SalvagedEnd.{avi_noted, end_done, end_fails, end_none, salvage_told}
 use Rattle.ffv1_unpack.proofs.OwnFaults.{written_unpacks}
+use Rattle.ffv1_unpack.proofs.ReadAgain.{unpack_again, written_again}
 use Rattle.ffv1_unpack.proofs.unpacking_all.unpack_all.Goals as goal
 
 pub returns-in-Err-clause-err : goal.returns-in-Err-clause-err
@@ -168,3 +169,18 @@ returns-clause-err g c =
 
 pub returns-clause-own : goal.returns-clause-own
 returns-clause-own g c = inl c.in-Err-end_all.ensures.own
+
+pub returns-in-Err-answer-clause-again : goal.returns-in-Err-answer-clause-again
+returns-in-Err-answer-clause-again g c =
+    written_again c.args.profile
+    (g.R.AgainIn.begins c.args.input.now)
+    (passage g.R.ByteIn.remaining g.R.ByteIn.failures c.args.input.now c.salvage_file-output.new.input)
+    c.in-Ok.player.reader (g.R.ByteIn.remaining c.open_whole.new.input)
+    c.in-Err-answer.fault (rw c.in-Err-answer.is at c.salvage_file-output.ensures.own)
+
+pub returns-clause-again : goal.returns-clause-again
+returns-clause-again g c =
+    unpack_again c.args.profile
+    (g.R.AgainIn.begins c.args.input.now)
+    (passage g.R.ByteIn.remaining g.R.ByteIn.failures c.args.input.now c.end_all.new.input)
+    c.in-Err-end_all.fault c.in-Err-end_all.ensures.own

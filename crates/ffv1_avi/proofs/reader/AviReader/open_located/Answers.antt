@@ -33,3 +33,6 @@ pub returns-clause-least : goal.returns-clause-least
 returns-clause-least g c =
     let read = c.in_ok-sizes.ensures.answer.1 in
     opened_least c.args.extent (read.bytes ++ []) (_, []) (read.is [])
+
+pub returns-clause-others : goal.returns-clause-others
+returns-clause-others g c = (_, c.in_ok-sizes.ensures.others, c.others_in.ensures)

@@ -110,6 +110,7 @@ returns-clause-noted g c = elim c.match-self.branch [
         least = w.next_frame.ensures.least;
         sized = w.next_frame.ensures.sized;
         counted = w.next_frame.ensures.repeats;
+        streams = w.next_frame.ensures.others;
       })
       w.next_frame.ensures.same (w.next_frame.ensures.behind none)))
   | in-Matroska w ↦

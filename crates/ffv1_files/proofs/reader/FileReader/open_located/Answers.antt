@@ -1,11 +1,13 @@
 -- `open_located`: the same, which says where in the file a fault is: `offset` is then the number of
 -- bytes of the file before the element or chunk at fault, those before it read whole; no greater
 -- than 2^64 - 1.
-use Rattle.std.proofs.Common.{refl, arith}
+use Rattle.std.proofs.Common.{inl, refl, arith}
 use Rattle.ffv1_wire.specs.Passage.{passage}
 use Rattle.ffv1_files.proofs.Locations.{movi_reached, movi_stopped}
 use Rattle.ffv1_files.proofs.Noted.{opens_noted}
-use Rattle.ffv1_files.proofs.Openings.{movi_opens, movi_stops}
+use Rattle.ffv1_files.proofs.NotedStreams.{movi_streams}
+use Rattle.ffv1_files.specs.Places.{InAvi}
+use Rattle.ffv1_files.proofs.Openings.{avi_apart, movi_opens, movi_stops}
 use Rattle.ffv1_files.proofs.reader.FileReader.open_located.Goals as goal
 
 pub returns-in-Ok-clause-answer : goal.returns-in-Ok-clause-answer
@@ -17,8 +19,12 @@ returns-in-Ok-clause-answer g c =
 
 pub returns-in-Err-clause-answer : goal.returns-in-Err-clause-answer
 returns-in-Err-clause-answer g c =
-    rw c.in-FirstMovi.is (movi_stops (passage g.R.ByteIn.remaining g.R.ByteIn.failures
-    c.args.input.now c.open_located.new.input) c.in-Err.fault c.in-Err.ensures.answer)
+    rw c.in-FirstMovi.is (inl (
+      movi_stops (passage g.R.ByteIn.remaining g.R.ByteIn.failures c.args.input.now
+          c.open_located.new.input) c.in-Err.fault c.in-Err.ensures.answer,
+      λ is.
+          avi_apart c.in-Err.fault c.in-Err.ensures.own is,
+    ))
 
 pub returns-in-Err-open_whole-clause-answer : goal.returns-in-Err-open_whole-clause-answer
 returns-in-Err-open_whole-clause-answer g c = rw c.in-Whole.is c.in-Err-open_whole.ensures.answer
@@ -47,10 +53,12 @@ returns-in-Ok-clause-noted g c =
     rw c.in-FirstMovi.is (opens_noted _ p.old p.new _
     (movi_opens p (reader.head, reader.place) c.in-Ok.ensures.answer).1
     (movi_reached p reader c.open_located.new.offset c.in-Ok.ensures.offset) tt refl
-    c.in-Ok.ensures.none (omega (arith, c.in-Ok.ensures.least)) c.in-Ok.ensures.uncounted)
+    c.in-Ok.ensures.none (omega (arith, c.in-Ok.ensures.least)) c.in-Ok.ensures.uncounted
+    (movi_streams p.old p.new reader.others (InAvi reader.place) c.in-Ok.ensures.others))
 
 pub returns-in-Ok-open_whole-clause-noted : goal.returns-in-Ok-open_whole-clause-noted
 returns-in-Ok-open_whole-clause-noted g c =
     let done = c.in-Ok-open_whole.ensures in
     rw c.in-Whole.is (opens_noted _ _ _ c.in-Ok-open_whole.reader done.answer.1 done.located
-    done.ends done.uncued done.untold done.least done.uncounted)
+    done.ends done.uncued done.untold done.least done.uncounted
+    done.streams)

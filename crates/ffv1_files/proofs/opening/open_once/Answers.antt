@@ -1,5 +1,5 @@
--- Looks at the first byte of a file, and opens it as what it is.
-use Rattle.std.proofs.Common.{◌≡◌, subst, ◌∙◌}
+-- Looks at the first byte of a file, and opens it as what it is. It is read once.
+use Rattle.std.proofs.Common.{◌≡◌, refl, subst, ◌∙◌}
 use Rattle.ffv1_wire.specs.Passage.{between}
 use Rattle.ffv1_wire.specs.Reads.{GivesByte}
 use Rattle.ffv1_reads.specs.Ends.{ReadOrOver, RefusedOrFaults}
@@ -11,19 +11,20 @@ use Rattle.ffv1_matroska.specs.Readers.{HasEnded}
 use Rattle.ffv1_files.specs.declared.container.Scope.TheVariants.{Whole}
 use Rattle.ffv1_files.specs.Answers.{StopsReading}
 use Rattle.ffv1_files.specs.Endings.{opening_endings}
-use Rattle.ffv1_files.specs.Files.{open_read}
+use Rattle.ffv1_files.specs.Files.{once_read}
 use Rattle.ffv1_files.proofs.FirstByte.{nothing_read, other_first, same_first}
 use Rattle.ffv1_files.proofs.Locations.{avi_reached, avi_stopped, first_stopped, matroska_reached}
 use Rattle.ffv1_files.proofs.Locations.{matroska_stopped}
-use Rattle.ffv1_files.proofs.Openings.{avi_opens, avi_stops, matroska_opens, matroska_stops}
-use Rattle.ffv1_files.proofs.Openings.{none_short}
+use Rattle.ffv1_files.proofs.Openings.{avi_apart, avi_opens, avi_stops, matroska_late}
+use Rattle.ffv1_files.proofs.Openings.{matroska_opens, matroska_stops, none_short}
+use Rattle.ffv1_files.proofs.NotedStreams.{avi_streams, segment_streams}
 use Rattle.ffv1_files.proofs.OpenedRooms.{room_with}
-use Rattle.ffv1_files.proofs.reader.open_whole.Goals as goal
+use Rattle.ffv1_files.proofs.opening.open_once.Goals as goal
 
 pub returns-in_default-clause-answer : goal.returns-in_default-clause-answer
 returns-in_default-clause-answer g c = (
   c.in_default.ensures.counted,
-  nothing_read (opening_endings Whole) (open_read Whole)
+  nothing_read (opening_endings Whole) (once_read Whole)
       Looked _ _ none_short c.in_default.ensures.err,
 )
 
@@ -59,7 +60,7 @@ returns-in-Err-clause-answer g c =
     let f = c.in-Err.fault in
     let answer = subst (λ b. RefusedOrFaults fault.NoTracks HasEnded beginning.open_read
     (bytes_with b mid) new before after f) first c.in-Err.ensures.answer in
-    subst (λ n. StopsReading (opening_endings Whole) (open_read Whole) (between old new n after) f)
+    subst (λ n. StopsReading (opening_endings Whole) (once_read Whole) (between old new n after) f)
     c.in-Ok.ensures.counted
     (matroska_stops old mid new before after (subst (GivesByte old mid) first c.in-Ok.ensures.ok) f
     answer)
@@ -82,7 +83,7 @@ returns-in-Err-open_located-clause-answer g c =
     let new = g.R.ByteIn.remaining c.open_located-2.new.input in
     let after = g.R.ByteIn.failures c.open_located-2.new.input in
     let f = c.in-Err-open_located.fault in
-    subst (λ n. StopsReading (opening_endings Whole) (open_read Whole) (between old new n after) f)
+    subst (λ n. StopsReading (opening_endings Whole) (once_read Whole) (between old new n after) f)
     c.in-Ok.ensures.counted
     (avi_stops c.in-Ok.first old (g.R.ByteIn.remaining c.read_byte.new.input) new
     (g.R.ByteIn.failures c.read_byte.new.input) after c.in-Ok.ensures.ok
@@ -120,3 +121,34 @@ pub returns-in-Err-open_located-clause-stopped : goal.returns-in-Err-open_locate
 returns-in-Err-open_located-clause-stopped g c = avi_stopped c.in-Ok.first _ _ _ _ _ _
     c.in-Ok.ensures.counted c.in-Ok.ensures.ok c.in-Err-open_located.fault
     c.open_located-2.new.offset c.in-Err-open_located.ensures.offset
+
+pub returns-in_default-clause-late : goal.returns-in_default-clause-late
+returns-in_default-clause-late g c = λ is. avi_apart fault.Read refl is
+
+pub returns-in-Err-clause-late : goal.returns-in-Err-clause-late
+returns-in-Err-clause-late g c = λ is.
+    (let old = g.R.ByteIn.remaining c.args.input.now in
+    let mid = g.R.ByteIn.remaining c.read_byte.new.input in
+    let new = g.R.ByteIn.remaining c.open_located.new.input in
+    let before = g.R.ByteIn.failures c.read_byte.new.input in
+    let after = g.R.ByteIn.failures c.open_located.new.input in
+    let first = same_first c.in-Ok.first 26 c.eq.result c.eq.ensures c.if-eq.true in
+    let f = c.in-Err.fault in
+    let answer = subst (λ b. RefusedOrFaults fault.NoTracks HasEnded beginning.open_read
+    (bytes_with b mid) new before after f) first c.in-Err.ensures.answer in
+    matroska_late old mid new before after (subst (GivesByte old mid) first c.in-Ok.ensures.ok) f is
+    answer)
+
+pub returns-in-Err-open_located-clause-late : goal.returns-in-Err-open_located-clause-late
+returns-in-Err-open_located-clause-late g c = λ is.
+    avi_apart c.in-Err-open_located.fault c.in-Err-open_located.ensures.own is
+
+pub returns-in-Ok-open_located-clause-streams : goal.returns-in-Ok-open_located-clause-streams
+returns-in-Ok-open_located-clause-streams g c = segment_streams _ _ _ 0
+    c.in-Ok-open_located.reader.segment c.in-Ok-open_located.reader.track.numbers
+    c.in-Ok-open_located.reader.place (returns-in-Ok-open_located-clause-answer g c).1
+
+pub returns-in-Ok-open_located-2-clause-streams : goal.returns-in-Ok-open_located-2-clause-streams
+returns-in-Ok-open_located-2-clause-streams g c = avi_streams c.in-Ok.first _ _ _
+    c.in-Ok-open_located-2.reader.others c.in-Ok-open_located-2.reader.place c.in-Ok.ensures.ok
+    c.in-Ok-open_located-2.ensures.others
