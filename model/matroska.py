@@ -20,6 +20,7 @@ SIMPLE_BLOCK, BLOCK_GROUP, BLOCK = 0xA3, 0xA0, 0xA1
 TRACK_ENTRY, TRACK_NUMBER, TRACK_UID, TRACK_TYPE = 0xAE, 0xD7, 0x73C5, 0x83
 FLAG_LACING, LANGUAGE, CODEC_ID, CODEC_PRIVATE = 0x9C, 0x22B59C, 0x86, 0x63A2
 DEFAULT_DURATION, CONTENT_ENCODINGS, VIDEO = 0x23E383, 0x6D80, 0xE0
+TIMESTAMP_SCALE = 0x2AD7B1
 PIXEL_WIDTH, PIXEL_HEIGHT, FLAG_INTERLACED, FIELD_ORDER = 0xB0, 0xBA, 0x9A, 0x9D
 DISPLAY_WIDTH, DISPLAY_HEIGHT, DISPLAY_UNIT = 0x54B0, 0x54BA, 0x54B2
 
@@ -38,12 +39,14 @@ NO_COLOUR = {MATRIX: 2, SITING_HORZ: 0, SITING_VERT: 0, RANGE: 0, TRANSFER: 2, P
 class Head:
     """What Tracks say of the frames: their track, the size of the pictures, rate and scale, of
     which rate / scale is the pictures a second, and the configuration record; and the numbers of
-    all tracks; what Video says of colours; and how many other tracks are FFV1 video."""
+    all tracks; what Video says of colours; how many other tracks are FFV1 video; and how many
+    nanoseconds a frame lasts."""
 
-    def __init__(self, number, width, height, rate, scale, record, known=(), colour=None, others=0):
+    def __init__(self, number, width, height, rate, scale, record, known=(), colour=None, others=0,
+                 duration=0):
         self.number, self.width, self.height = number, width, height
         self.rate, self.scale, self.record, self.known = rate, scale, record, known
-        self.colour, self.others = colour or dict(NO_COLOUR), others
+        self.colour, self.others, self.duration = colour or dict(NO_COLOUR), others, duration
 
 
 # -------------------------------------------------------------------------------------------- rates
@@ -155,13 +158,66 @@ def head_in(content):
         if ebml.find(entry, CONTENT_ENCODINGS) is not None:
             raise Fault(83)
         number = ebml.find_number(entry, TRACK_NUMBER, 0)
-        rate, scale = rate_of(ebml.find_number(entry, DEFAULT_DURATION, 0))
+        duration = ebml.find_number(entry, DEFAULT_DURATION, 0)
+        rate, scale = rate_of(duration)
         video = ebml.find(entry, VIDEO) or b""
         width, height = (min(ebml.find_number(video, field, 0), MOST)
                          for field in [PIXEL_WIDTH, PIXEL_HEIGHT])
         return Head(number, width, height, rate, scale, record, numbers_in(content),
-                    colour_in(video), others_in(content))
+                    colour_in(video), others_in(content), duration)
     raise Fault(51)
+
+
+# -------------------------------------------------------------------------------- times (9559, 11)
+
+def scale_of(content):
+    """What a TimestampScale says (9559, 5.1.2.9): how many nanoseconds a tick has. Own: 0, which is
+    not judged, where it has more than 8 bytes."""
+    return (int.from_bytes(content, "big") or 1000000 * (not content)) if len(content) <= 8 else 0
+
+
+def scale_in(source, size):
+    """The TimestampScale of Info, which has so many bytes and is passed, with its CRC-32 judged.
+    Own: it is the first element of Info, or is looked for in the 4096 bytes after that; where it is
+    not found there and there are more, or another element can't be read before it, it is 0."""
+    if size == 0:
+        return 1000000
+    ident, first, left = known(get_header(source, size))
+    left -= first
+    if ident == TIMESTAMP_SCALE:
+        scale = scale_of(source.exactly(first, 52))
+        source.skip(left, 52)
+        return scale
+    if ident == CRC_32 and first == 4:
+        source.await_sum()
+    else:
+        source.skip(first, 52)
+    window = source.exactly(min(left, 4096), 52)
+    source.skip(left - len(window), 52)
+    source.judge()
+    try:
+        content = ebml.find(window, TIMESTAMP_SCALE)
+    except Fault:
+        return 0
+    return scale_of(b"" if content is None else content) if content is not None or left <= 4096 else 0
+
+
+class Times:
+    """When frames come: frame i is noted where it comes more than a tick and i nanoseconds away from
+    where i durations lead to from the first one. Own: it is not judged where the tick or the duration
+    is 0, and a time past 2^64 - 1 - 32768 ticks counts as that."""
+
+    def __init__(self):
+        self.tick, self.duration, self.cluster, self.first, self.count, self.off = 0, 0, 0, 0, 0, None
+
+    def frame(self, bits):
+        """A frame whose block has these two bytes of time (9559, 10.1), which are signed."""
+        ticks = min(self.cluster + int.from_bytes(bits, "big", signed=True), 2 ** 64 - 1 - 32768)
+        self.first = ticks if self.count == 0 else self.first
+        late = (ticks - self.first) * self.tick - self.count * self.duration
+        if self.tick and self.duration and self.off is None and abs(late) > self.tick + self.count:
+            self.off = self.count
+        self.count += 1
 
 
 # ----------------------------------------------------------------------- a Segment and its Clusters
@@ -183,7 +239,7 @@ class Segment:
         self.left = OPEN if size is None else size
         self.end = None if size is None else source.position + size
         self.cluster, self.group, self.begins, self.loose = 0, 0, False, False
-        self.known, self.others = (), 0
+        self.known, self.others, self.times = (), 0, Times()
 
     def header(self):
         """The ID and the size of the next element of the Segment, or none at its end; an open one
@@ -239,6 +295,8 @@ class Segment:
             raise Fault(81)
         elif ident in (TIMESTAMP, POSITION, PREV_SIZE) and size > 8:
             raise Fault(81)
+        elif ident == TIMESTAMP:
+            self.times.cluster = int.from_bytes(self.source.exactly(size, 52), "big")
         else:
             self.source.skip(size, 52)
         return None
@@ -275,13 +333,14 @@ class Segment:
             return None
         if left < 3:
             raise Fault(52)
-        flags, left = self.source.exactly(3, 52)[2], left - 3
-        if flags & 6:
+        fields, left = self.source.exactly(3, 52), left - 3
+        if fields[2] & 6:
             raise Fault(84)
         if left > FRAME_LIMIT:
             raise Fault(53)
         if left == 0:
             raise Fault(54)
+        self.times.frame(fields[:2])
         return self.source.exactly(left, 52)
 
     def walk(self, number):
@@ -325,6 +384,8 @@ class Segment:
             else:
                 header = self.header()
                 if header is None:
+                    if self.times.off is not None:
+                        self.source.notes[92] = f"Times frame {self.times.off}"
                     return self.look_behind()
                 frame = self.step(header, number)
             if frame is not None:
@@ -353,11 +414,13 @@ def open_matroska(source, read=Segment.frames, head=None):
     while (header := segment.header()) and header[0] != CLUSTER:
         if header[0] == TRACKS and head is None:
             head = head_in(source.exactly(ebml.limited(header[1]), 52))
+        elif header[0] == INFO:
+            segment.times.tick = scale_in(source, known(header)[1])
         else:
             segment.other(header)
     if head is None:
         raise Fault(82)
-    segment.known, segment.others = head.known, head.others
+    segment.known, segment.others, segment.times.duration = head.known, head.others, head.duration
     if header:
         segment.enter(header[1])
     return head, size, read(segment, head.number)

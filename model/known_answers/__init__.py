@@ -4,13 +4,13 @@ the formats. `check.py` asks them of the model, and `tests/commands` of the buil
 """
 from known_answers import containers, damaged, depths, golomb_commands, infos, lines, lists, matroska_commands
 from known_answers import noted, objects, offsets, others, payloads, ranges, repeated, riffs, salvaging
-from known_answers import shared_chroma, shown, sums, texts, unpacking
+from known_answers import shared_chroma, shown, sums, texts, times, unpacking
 
 
 def cases():
     """All of them."""
     for subject in [texts, payloads, unpacking, salvaging, containers, riffs, shown, lines, lists,
-                    matroska_commands, noted, others, repeated, depths, sums, offsets, damaged, shared_chroma, ranges,
+                    matroska_commands, noted, others, repeated, times, depths, sums, offsets, damaged, shared_chroma, ranges,
                     objects, infos, golomb_commands]:
         for group in subject.CASES:
             yield from group()

@@ -8,6 +8,7 @@ mod Locations
 mod ItemNexts
 pub mod Behinds
 mod NotedStreams
+mod NotedTimes
 mod Noted
 mod NotedLaws
 mod NotedOnce

@@ -21,6 +21,7 @@ use Rattle.ffv1_matroska.specs.Places.{ended}
 use Rattle.ffv1_matroska.specs.Readers as matroska_reader
 use Rattle.ffv1_matroska.specs.Tracks.{Track}
 use Rattle.ffv1_matroska.specs.declared.place.Place.{Place as MatroskaPlace}
+use Rattle.ffv1_matroska.specs.Times.{times_begun}
 use Rattle.ffv1_files.specs.declared.container.Scope.{Scope}
 use Rattle.ffv1_files.specs.declared.container.Scope.TheVariants as scope
 use Rattle.ffv1_files.specs.Offsets.{AviReached, AviStops, Layout, LocatedNext, MatroskaReached, MatroskaStops, Reached, ReadsKnown, ReadsThrough, StopsAt, StopsThrough}
@@ -44,10 +45,10 @@ opening_with {to = to} first old mid new before now after f same gives h =
 
 -- readers of their containers
 abbrev pub in_avi : avi_reader.Standing → Standing
-in_avi r = record { head = r.head; place = InAvi r.place; offset = r.offset; fault = r.fault; room = r.room; end = 0; cued = false; after = r.after; repeated = r.repeated; others = r.others }
+in_avi r = record { head = r.head; place = InAvi r.place; offset = r.offset; fault = r.fault; room = r.room; end = 0; cued = false; after = r.after; repeated = r.repeated; others = r.others; times = times_begun 0 }
 
 abbrev pub in_matroska : matroska_reader.Standing → Standing
-in_matroska r = record { head = r.track.head; place = InMatroska r.segment r.track.numbers r.place; offset = r.offset; fault = r.fault; room = r.room; end = r.end; cued = r.cued; after = None; repeated = 0; others = 0 }
+in_matroska r = record { head = r.track.head; place = InMatroska r.segment r.track.numbers r.place; offset = r.offset; fault = r.fault; room = r.room; end = r.end; cued = r.cued; after = None; repeated = 0; others = 0; times = r.times }
 
 -- that were opened
 avi_begins : (extent : Extent) (text left : Option (List ℕ)) (r : avi_reader.Standing) (count : ℕ) → ReadsWhole (avi.spot_taken extent) avi.Start text left (avi.BeforeFrames r.head r.place) count → r.offset ≡ offset_after 0 count → AviReached extent text left r.head r.place r.offset

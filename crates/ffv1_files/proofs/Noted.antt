@@ -42,9 +42,9 @@ use Rattle.ffv1_matroska.specs.declared.track.TrackNumbers.{TrackNumbers}
 use Rattle.ffv1_matroska.proofs.LastSteps.{IsLast, again_sized, last_nothing, read_to_end, step_last}
 use Rattle.ffv1_matroska.proofs.ReadSegments.{headed_sound}
 use Rattle.ffv1_files.specs.Answers.{FileAnswers}
-use Rattle.ffv1_files.specs.Behind.{EndsThere, any_value, ends_there, notes_of, notes_read}
+use Rattle.ffv1_files.specs.Behind.{EndsThere, any_value, ends_there, notes_of, notes_told}
 use Rattle.ffv1_files.specs.Files.{avi_opened, file_read, frames_read, is_matroska, matroska_begun, matroska_opened, open_read}
-use Rattle.ffv1_files.specs.Noted.{FramesBefore, IsNotedOf, NotedOf, NotesEnd, NotesNext, NotesReached, RiffsEnd, SegmentRead, SegmentReached, StreamsReached, bytes_before, frames_reached, notes_reached, repeated_in, repeats, stands_after, streams_reached}
+use Rattle.ffv1_files.specs.Noted.{FramesBefore, IsNotedOf, NotedOf, NotesEnd, NotesNext, NotesReached, RiffsEnd, SegmentRead, SegmentReached, StreamsReached, TimesBegin, bytes_before, frames_reached, notes_reached, repeated_in, repeats, stands_after, streams_reached}
 use Rattle.ffv1_files.specs.Offsets.{AviReached, EndsEarly, EndsKnown, Layout, MatroskaReached, PlaceReached, Reached, ReadsKnown, ReadsThrough}
 use Rattle.ffv1_files.specs.Places.{InAvi, InMatroska, Place, least_bytes, least_in}
 use Rattle.ffv1_files.specs.Readers.{Standing, opened_at}
@@ -54,6 +54,8 @@ use Rattle.ffv1_files.specs.declared.notes.Notes.{Notes}
 use Rattle.ffv1_files.proofs.Answering.{known_map, none_known}
 use Rattle.ffv1_files.proofs.Locations.{counts_on, in_avi, in_matroska, through_on}
 use Rattle.ffv1_files.proofs.Nexts.{by_reads}
+use Rattle.ffv1_files.proofs.NotedTimes.{opens_timed, times_end, times_go, times_lists}
+use Rattle.ffv1_matroska.specs.Times.{TimedAfter, timed_taken, times_begun}
 
 -- what is known from one position to the next, and from there on
 known_then : (text old new : Option (List ℕ)) (P Q R : List ℕ → List ℕ → Type 0) → ((file a b : List ℕ) → P file a → Q a b → R file b) → Known text old P → Known old new Q → Known text new R
@@ -225,11 +227,12 @@ opened_frames scope.Whole file left head (InAvi place) repeated is least none = 
   omega (arith, none),
 )
 
-pub opens_noted : (s : Scope) (text left : Option (List ℕ)) (r : Standing) → Known text left (λ file rest. open_read s file ≡ Ok (opened_at r, rest)) → Reached s text left r → EndsThere r → r.cued ≡ false → r.after ≡ None → least_in s ≤ least_bytes r.place → r.repeated ≡ 0 → StreamsReached s text left r → NotesReached s text left r
-opens_noted s None left r h reached there uncued untold least none streams = record { known = tt; frames = tt; streams = tt }
-opens_noted s (Some file) None r h reached there uncued untold least none streams = absurd h
-opens_noted s (Some file) (Some left) r h reached there uncued untold least none streams = record {
+pub opens_noted : (s : Scope) (text left : Option (List ℕ)) (r : Standing) → Known text left (λ file rest. open_read s file ≡ Ok (opened_at r, rest)) → Reached s text left r → EndsThere r → r.cued ≡ false → r.after ≡ None → least_in s ≤ least_bytes r.place → r.repeated ≡ 0 → StreamsReached s text left r → TimesBegin text left r → NotesReached s text left r
+opens_noted s None left r h reached there uncued untold least none streams times = record { known = tt; frames = tt; streams = tt; times = tt }
+opens_noted s (Some file) None r h reached there uncued untold least none streams times = absurd h
+opens_noted s (Some file) (Some left) r h reached there uncued untold least none streams times = record {
   streams = streams;
+  times = opens_timed s file left r.head r.place r.times h times;
   known = opened_at_once file left r.end r.offset r.cued r.after uncued untold s r.head r.place h reached.whole there;
   frames = opened_frames s file left r.head r.place r.repeated h least none;
 }
@@ -307,10 +310,10 @@ avi_goes s text old new from to goes same kept h = known_then text old new (note
 
 -- what an AVI tells
 abbrev avi_notes : ℕ → ℕ → Option ℕ → Notes
-avi_notes others repeated after = record { is_open = false; others = others; repeated = repeated; after = after }
+avi_notes others repeated after = record { is_open = false; others = others; times = None; repeated = repeated; after = after }
 
-avi_told : (place : AviPlace) (after : Option ℕ) (repeated others : ℕ) (behind rest : List ℕ) (notes : Notes) → notes_read (InAvi place) 0 false after repeated others behind ≡ Ok (notes, rest) → (notes ≡ avi_notes others repeated after) × (rest ≡ behind)
-unfolding notes_read
+avi_told : (place : AviPlace) (after : Option ℕ) (repeated others : ℕ) (behind rest : List ℕ) (notes : Notes) → notes_told None (InAvi place) 0 false after repeated others behind ≡ Ok (notes, rest) → (notes ≡ avi_notes others repeated after) × (rest ≡ behind)
+unfolding notes_told
 avi_told place after repeated others behind rest notes h =
     let told : Notes = avi_notes others repeated after in
     let both = ok_is (told, behind) (notes, rest) h in
@@ -404,6 +407,7 @@ avi_noted s text from to bytes p (Ok true) called same behind reached h =
       known = avi_goes s text p.old p.new from to (known_map p.old p.new (λ a b. avi.frame_read from.place a ≡ Ok (Some (bytes, to.place), b)) (λ a b. Unit {0}) (λ a b is. tt) reads.1) (same refl) behind h;
       frames = avi_frames s text p.old p.new from to bytes reads.1 called.stands.2 called.least (called.sized refl).0 called.counted h.frames;
       streams = streams_kept s text p.old p.new (λ a b. avi.frame_read from.place a ≡ Ok (Some (bytes, to.place), b)) from.place to.place from.others to.others called.streams reads.1 h.streams;
+      times = times_lists s text p.old p.new (λ a b. avi.frame_read from.place a ≡ Ok (Some (bytes, to.place), b)) from.place to.place (times_begun 0) reads.1 h.times;
     }
 avi_noted s text from to bytes p (Ok false) called same behind reached h =
     let reads = by_reads (avi.frame_read from.place) (λ (more : Bool). avi_reader.next_of more bytes to.place) p (extent_of from.place) false called.answer in
@@ -412,12 +416,12 @@ avi_noted s text from to bytes p (Err f) called same behind reached h = tt
 
 -- after a frame of a Segment
 segment_goes : (s : Scope) (text old new : Option (List ℕ)) (from to : matroska_reader.Standing) (count : ℕ) → to.track ≡ from.track → to.segment ≡ from.segment → to.end ≡ from.end → ReadsWhole (cued_taken from.track.numbers) (from.place, from.cued) old new (to.place, to.cued) count →
-    NotesReached s text old (in_matroska from) → NotesReached s text new (in_matroska to)
-segment_goes s None old new from to count track segment same whole h = record { known = tt; frames = tt; streams = tt }
-segment_goes s (Some file) None new from to count track segment same whole h = absurd h.known
-segment_goes s (Some file) (Some a) None from to count track segment same whole h = absurd whole.consumed
-segment_goes scope.FirstMovi (Some file) (Some a) (Some b) from to count track segment same whole h = absurd h.known
-segment_goes scope.Whole (Some file) (Some a) (Some b) from to count track segment same whole h =
+    (n : ℕ) × ReadsWhole (timed_taken from.track.numbers) (from.place, from.times) old new (to.place, to.times) n → NotesReached s text old (in_matroska from) → NotesReached s text new (in_matroska to)
+segment_goes s None old new from to count track segment same whole timed h = record { known = tt; frames = tt; streams = tt; times = tt }
+segment_goes s (Some file) None new from to count track segment same whole timed h = absurd h.known
+segment_goes s (Some file) (Some a) None from to count track segment same whole timed h = absurd whole.consumed
+segment_goes scope.FirstMovi (Some file) (Some a) (Some b) from to count track segment same whole timed h = absurd h.known
+segment_goes scope.Whole (Some file) (Some a) (Some b) from to count track segment same whole timed h =
     let opened : Opened = h.known.0 in
     let numbers : opened.track.numbers ≡ from.track.numbers = h.known.2 in
     let there : SegmentReached file a opened from.place from.cued from.end = h.known.3 in
@@ -433,13 +437,14 @@ segment_goes scope.Whole (Some file) (Some a) (Some b) from to count track segme
       );
       frames = tt;
       streams = tt;
+      times = times_go scope.Whole (Some file) (Some a) (Some b) from to timed.0 track timed.1 h.times;
     }
 
 -- notes are read of a Segment by its size, and if that is known by where it ends
-notes_same : (s : Option ℕ) (track numbers : TrackNumbers) (here there : MatroskaPlace) (end other : ℕ) (cued : Bool) (text : List ℕ) → track.others ≡ numbers.others → ((size : ℕ) → s ≡ Some size → end ≡ other) → notes_read (InMatroska s track here) end cued None 0 0 text ≡ notes_read (InMatroska s numbers there) other cued None 0 0 text
-unfolding notes_read segment_behind
-notes_same None track numbers here there end other cued text others same = rw others refl
-notes_same (Some size) track numbers here there end other cued text others same = rw (others, same size refl) refl
+notes_same : (times : Option ℕ) (s : Option ℕ) (track numbers : TrackNumbers) (here there : MatroskaPlace) (end other : ℕ) (cued : Bool) (text : List ℕ) → track.others ≡ numbers.others → ((size : ℕ) → s ≡ Some size → end ≡ other) → notes_told times (InMatroska s track here) end cued None 0 0 text ≡ notes_told times (InMatroska s numbers there) other cued None 0 0 text
+unfolding notes_told segment_behind
+notes_same times None track numbers here there end other cued text others same = rw others refl
+notes_same times (Some size) track numbers here there end other cued text others same = rw (others, same size refl) refl
 
 -- which is after as many bytes as it has
 ends_behind : (file begun left amount most : ℕ) → begun ≡ amount + left → begun ≤ file → min (min (0 + (file - begun)) most + amount) most ≡ min (0 + (file - left)) most
@@ -455,12 +460,13 @@ module _ (file mid b : List ℕ) (opened : Opened) (place : MatroskaPlace) (cued
 
 -- at the end of a Segment
 segment_over : (s : Scope) (text old new : Option (List ℕ)) (from to : matroska_reader.Standing) (place : MatroskaPlace) (between : Option (List ℕ)) (count : ℕ) → to.track ≡ from.track → to.segment ≡ from.segment → to.end ≡ from.end →
-    ReadsWhole (cued_taken from.track.numbers) (from.place, from.cued) old between (place, to.cued) count → ReadOrNone (step_read from.track.numbers place) between new None → NotesReached s text old (in_matroska from) → NotesEnd s text new (in_matroska to)
-segment_over s None old new from to place between count track segment same whole none h = record { known = tt }
-segment_over s (Some file) None new from to place between count track segment same whole none h = absurd h.known
-segment_over s (Some file) (Some a) new from to place None count track segment same whole none h = absurd whole.consumed
-segment_over scope.FirstMovi (Some file) (Some a) new from to place (Some mid) count track segment same whole none h = absurd h.known
-segment_over scope.Whole (Some file) (Some a) new from to place (Some mid) count track segment same whole none h = record { known = on_new new (none_known (step_read from.track.numbers place) (record { old = Some mid; new = new; before = 0; after = 0 }) None none) }
+    ReadsWhole (cued_taken from.track.numbers) (from.place, from.cued) old between (place, to.cued) count → ReadOrNone (step_read from.track.numbers place) between new None →
+    (last : MatroskaPlace) (near : Option (List ℕ)) (n : ℕ) → ReadsWhole (timed_taken from.track.numbers) (from.place, from.times) old near (last, to.times) n → ReadOrNone (step_read from.track.numbers last) near new None → NotesReached s text old (in_matroska from) → NotesEnd s text new (in_matroska to)
+segment_over s None old new from to place between count track segment same whole none last near n timed ended h = record { known = tt }
+segment_over s (Some file) None new from to place between count track segment same whole none last near n timed ended h = absurd h.known
+segment_over s (Some file) (Some a) new from to place None count track segment same whole none last near n timed ended h = absurd whole.consumed
+segment_over scope.FirstMovi (Some file) (Some a) new from to place (Some mid) count track segment same whole none last near n timed ended h = absurd h.known
+segment_over scope.Whole (Some file) (Some a) new from to place (Some mid) count track segment same whole none last near n timed ended h = record { known = on_new new (none_known (step_read from.track.numbers place) (record { old = Some mid; new = new; before = 0; after = 0 }) None none) ended }
   where
     opened : Opened
     opened = h.known.0
@@ -479,12 +485,12 @@ segment_over scope.Whole (Some file) (Some a) new from to place (Some mid) count
       elements = reads_then there.read.elements (subst (λ (t : TrackNumbers). ReadsWhole (cued_taken t) (from.place, from.cued) (Some a) (Some mid) (place, to.cued) count) (sym numbers) whole);
     }
 
-    on_new : (new : Option (List ℕ)) → Known (Some mid) new (λ text rest. step_read from.track.numbers place text ≡ Ok (None, rest)) → Known (Some file) new (λ file behind. (notes : Notes) (rest : List ℕ) → notes_of (in_matroska to) behind ≡ Ok (notes, rest) → IsNotedOf scope.Whole file rest notes)
-    on_new None over = absurd over
-    on_new (Some b) over =
-        let last = step_last from.track.numbers place mid b over in
-        let nothing = last_nothing place mid b last in
-        let at_end = sized_end file mid b opened place to.cued read there.fits last to.end in
+    on_new : (new : Option (List ℕ)) → Known (Some mid) new (λ text rest. step_read from.track.numbers place text ≡ Ok (None, rest)) → ReadOrNone (step_read from.track.numbers last) near new None → Known (Some file) new (λ file behind. (notes : Notes) (rest : List ℕ) → notes_of (in_matroska to) behind ≡ Ok (notes, rest) → IsNotedOf scope.Whole file rest notes)
+    on_new None over ended = absurd over
+    on_new (Some b) over ended =
+        let at = step_last from.track.numbers place mid b over in
+        let nothing = last_nothing place mid b at in
+        let at_end = sized_end file mid b opened place to.cued read there.fits at to.end in
         λ notes rest looked. inr (record {
           opened = opened;
           to = place;
@@ -492,13 +498,15 @@ segment_over scope.Whole (Some file) (Some a) new from to place (Some mid) count
           behind = mid;
           read = read;
           over = ap (λ (t : TrackNumbers). step_read t place mid) numbers ∙ over ∙ ap (λ z. Ok (None, z)) (sym nothing);
-          noted = sym (notes_same opened.segment to.track.numbers opened.track.numbers to.place place to.end (bytes_before file mid) to.cued mid (ap (λ (t : TrackNumbers). t.others) (ap (λ (t : Track). t.numbers) track ∙ sym numbers)) (λ size has. at_end size (same ∙ there.end_is) has))
-              ∙ ap (λ (z : Option ℕ). notes_read (InMatroska z to.track.numbers to.place) to.end to.cued None 0 0 mid) (h.known.1 ∙ sym segment)
+          times = to.times;
+          timed = times_end file a b from.track.numbers from.place last from.times to.times near n h.times timed ended;
+          noted = sym (notes_same to.times.off opened.segment to.track.numbers opened.track.numbers to.place place to.end (bytes_before file mid) to.cued mid (ap (λ (t : TrackNumbers). t.others) (ap (λ (t : Track). t.numbers) track ∙ sym numbers)) (λ size has. at_end size (same ∙ there.end_is) has))
+              ∙ ap (λ (z : Option ℕ). notes_told to.times.off (InMatroska z to.track.numbers to.place) to.end to.cued None 0 0 mid) (h.known.1 ∙ sym segment)
               ∙ ap (notes_of (in_matroska to)) nothing ∙ looked;
         })
 
 pub segment_noted : (s : Scope) (text : Option (List ℕ)) (from to : matroska_reader.Standing) (p : Passage) (r : Result Bool FileFault) → matroska_reader.StandsAfter from r to → to.end ≡ from.end → CuedNext from.track.numbers (from.place, from.cued) p r (to.place, to.cued) →
-    NotesReached s text p.old (in_matroska from) → NotesNext s text p r (in_matroska to)
-segment_noted s text from to p (Ok true) stands same (count, whole) h = segment_goes s text p.old p.new from to count stands.2 stands.3 same whole h
-segment_noted s text from to p (Ok false) stands same (place, (between, count, whole, none)) h = segment_over s text p.old p.new from to place between count stands.2 stands.3 same whole none h
-segment_noted s text from to p (Err f) stands same cued h = tt
+    TimedAfter from p r to → NotesReached s text p.old (in_matroska from) → NotesNext s text p r (in_matroska to)
+segment_noted s text from to p (Ok true) stands same (count, whole) timed h = segment_goes s text p.old p.new from to count stands.2 stands.3 same whole timed h
+segment_noted s text from to p (Ok false) stands same (place, (between, count, whole, none)) (last, (near, n, timed, ended)) h = segment_over s text p.old p.new from to place between count stands.2 stands.3 same whole none last near n timed ended h
+segment_noted s text from to p (Err f) stands same cued timed h = tt

@@ -132,9 +132,9 @@ riffs_once file rest left notes others h k = on_between h.chunks.between k.chunk
         let others : h.others ≡ k.others = ap (λ (z : ℕ × List ℕ). z.0) (ok_is (h.others, h.begun) (k.others, k.begun) (sym h.counts ∙ k.counts)) in
         let frames : h.frames ≡ k.frames = ap (λ (z : (Head × List (List ℕ)) × List ℕ). z.0.1) gives in (
           h.notes_are
-              ∙ ap (λ (n : ℕ). record { is_open = false; others = n; repeated = repeated_in h.frames; after = stands_after file h.behind }) others
-              ∙ ap (λ (z : List (List ℕ)). record { is_open = false; others = k.others; repeated = repeated_in z; after = stands_after file h.behind }) frames
-              ∙ ap (λ (z : List ℕ). record { is_open = false; others = k.others; repeated = repeated_in k.frames; after = stands_after file z }) end.1
+              ∙ ap (λ (n : ℕ). record { is_open = false; others = n; times = None; repeated = repeated_in h.frames; after = stands_after file h.behind }) others
+              ∙ ap (λ (z : List (List ℕ)). record { is_open = false; others = k.others; times = None; repeated = repeated_in z; after = stands_after file h.behind }) frames
+              ∙ ap (λ (z : List ℕ). record { is_open = false; others = k.others; times = None; repeated = repeated_in k.frames; after = stands_after file z }) end.1
               ∙ sym k.notes_are,
           ap (λ (z : Option AviPlace × List ℕ). z.1) (ok_is (None, rest) (None, left) (sym h.over ∙ over ∙ k.over)),
         )

@@ -8,12 +8,13 @@ use Rattle.ffv1_matroska.specs.Opened.{Opened}
 use Rattle.ffv1_matroska.specs.Segments.{header_read, segment_read, step_read}
 use Rattle.ffv1_matroska.specs.declared.place.Place.{Place}
 use Rattle.ffv1_matroska.specs.declared.track.TrackNumbers.{TrackNumbers}
-use Rattle.ffv1_files.specs.Behind.{notes_read}
+use Rattle.ffv1_files.specs.Behind.{notes_told}
 use Rattle.ffv1_files.specs.Noted.{SegmentEnds, bytes_before}
 use Rattle.ffv1_files.specs.Places.{InMatroska}
 use Rattle.ffv1_files.specs.declared.notes.Notes.{Notes}
 use Rattle.ffv1_matroska.proofs.LastSteps.{IsLast, step_last}
 use Rattle.ffv1_files.proofs.NotedOnce.{reads_once}
+use Rattle.ffv1_files.proofs.NotedTimes.{times_once}
 
 -- no element comes there
 abbrev Last : Place × Bool → List ℕ → Type 0
@@ -41,6 +42,7 @@ segments_once file rest left notes others h k =
     let end = reads_once (cued_taken track) Last Nowhere (last_stops track) (λ s next text more dead is. absurd dead) (λ s text dead is. absurd dead) h.read.begun h.behind k.behind h.read.elements there moved here in
     let to : h.to ≡ k.to = ap (λ (z : Place × Bool). z.0) end.0 in
     let cued : h.cued ≡ k.cued = ap (λ (z : Place × Bool). z.1) end.0 in
-    let same : notes_read (InMatroska h.opened.segment h.opened.track.numbers h.to) (bytes_before file h.behind) h.cued None 0 0 h.behind ≡ notes_read (InMatroska k.opened.segment k.opened.track.numbers k.to) (bytes_before file k.behind) k.cued None 0 0 k.behind = rw (opened, to, cued, end.1) refl in
+    let times : h.times ≡ k.times = times_once file h.times k.times h.timed k.timed in
+    let same : notes_told h.times.off (InMatroska h.opened.segment h.opened.track.numbers h.to) (bytes_before file h.behind) h.cued None 0 0 h.behind ≡ notes_told k.times.off (InMatroska k.opened.segment k.opened.track.numbers k.to) (bytes_before file k.behind) k.cued None 0 0 k.behind = rw (opened, to, cued, times, end.1) refl in
     let both = ok_is (notes, rest) (others, left) (sym h.noted ∙ same ∙ k.noted) in
     (ap (λ (z : Notes × List ℕ). z.0) both, ap (λ (z : Notes × List ℕ). z.1) both)

@@ -16,29 +16,44 @@ use Rattle.ffv1_files.specs.Places.{InAvi, InMatroska, Place}
 use Rattle.ffv1_files.specs.Readers.{Standing}
 use Rattle.ffv1_files.specs.declared.notes.Notes.{Notes}
 
--- a Segment with so many further tracks of FFV1 video, of this size, with Cues after its last
--- Cluster or without, ends after so many bytes of the file; others stand there or not
-abbrev pub noted : ℕ → Option ℕ → Bool → ℕ → Bool → Notes
-noted others segment cued end some =
+-- a Segment whose frame of this number comes too early or too late, or none does, with so many
+-- further tracks of FFV1 video, of this size, with Cues after its last Cluster or without, ends
+-- after so many bytes of the file; others stand there or not
+abbrev pub noted : Option ℕ → ℕ → Option ℕ → Bool → ℕ → Bool → Notes
+noted times others segment cued end some =
     record {
       is_open = is_open segment cued;
       others = others;
+      times = times;
       repeated = 0;
       after = if some then Some end else None;
     }
 
--- what stands after the end, as notes; after an AVI it was looked at before, and so many of its
--- frames had no bytes, and so many further streams begin as FFV1 video
+-- what stands after the end, as notes, with what is noted of times of a Segment; after an AVI it
+-- was looked at before, and so many of its frames had no bytes, and so many further streams begin
+-- as FFV1 video
+unfoldable pub notes_told : Option ℕ → Place → ℕ → Bool → Option ℕ → ℕ → ℕ → Reading Notes
+notes_told times (InAvi place) end cued after repeated others =
+    given (record {
+      is_open = false;
+      others = others;
+      times = None;
+      repeated = repeated;
+      after = after;
+    })
+notes_told times (InMatroska segment track place) end cued after repeated others =
+    segment_behind segment >>= λ some. given (noted times track.others segment cued end some)
+
+-- the same, if nothing is noted of times
 unfoldable pub notes_read : Place → ℕ → Bool → Option ℕ → ℕ → ℕ → Reading Notes
-notes_read (InAvi place) end cued after repeated others =
-    given (record { is_open = false; others = others; repeated = repeated; after = after })
-notes_read (InMatroska segment track place) end cued after repeated others =
-    segment_behind segment >>= λ some. given (noted track.others segment cued end some)
+notes_read place end cued after repeated others =
+    notes_told None place end cued after repeated others
 
 abbrev pub notes_of : Standing → Reading Notes
-notes_of r = notes_read r.place r.end r.cued r.after r.repeated r.others
+notes_of r = notes_told r.times.off r.place r.end r.cued r.after r.repeated r.others
 
--- the same where Cues came after the last Cluster, or did not, as the items of the file say
+-- the same where Cues came after the last Cluster, or did not, as the items of the file say; then
+-- times are not looked at
 abbrev pub items_noted : Standing → Bool → Reading Notes
 items_noted r cued = notes_read r.place r.end cued r.after r.repeated r.others
 

@@ -16,9 +16,13 @@ use Rattle.ffv1_matroska.specs.Cues.{cued_taken}
 use Rattle.ffv1_matroska.specs.Late.{again_read}
 use Rattle.ffv1_matroska.specs.Opened.{Opened}
 use Rattle.ffv1_matroska.specs.Places.{amount}
+use Rattle.ffv1_matroska.specs.Scales.{tick_in}
 use Rattle.ffv1_matroska.specs.Segments.{step_read}
+use Rattle.ffv1_matroska.specs.Times.{timed_taken, times_begun}
 use Rattle.ffv1_matroska.specs.declared.place.Place.{Place as MatroskaPlace}
-use Rattle.ffv1_files.specs.Behind.{notes_of, notes_read}
+use Rattle.ffv1_matroska.specs.declared.times.Times.{Times}
+use Rattle.ffv1_matroska.specs.declared.track.TrackNumbers.{TrackNumbers}
+use Rattle.ffv1_files.specs.Behind.{notes_of, notes_told}
 use Rattle.ffv1_files.specs.Files.{file_read}
 use Rattle.ffv1_files.specs.Offsets.{AviReached}
 use Rattle.ffv1_files.specs.Places.{InAvi, InMatroska, Place, least_bytes}
@@ -29,7 +33,7 @@ use Rattle.ffv1_files.specs.declared.notes.Notes.{Notes}
 
 -- nothing is noted
 abbrev pub no_notes : Notes
-no_notes = record { is_open = false; others = 0; repeated = 0; after = None }
+no_notes = record { is_open = false; others = 0; times = None; repeated = 0; after = None }
 
 -- how many bytes of a file come before those that are left of it; it is held in 8 bytes
 abbrev pub bytes_before : List ℕ → List ℕ → ℕ
@@ -71,6 +75,7 @@ pub record RiffsEnd (file rest : List ℕ) (notes : Notes) : Type 0 where
   pub notes_are : notes ≡ record {
     is_open = false;
     others = others;
+    times = None;
     repeated = repeated_in frames;
     after = stands_after file behind;
   }
@@ -85,8 +90,28 @@ pub record SegmentRead (file left : List ℕ) (opened : Opened) (place : Matrosk
   pub elements : ReadsWhole (cued_taken opened.track.numbers) (opened.place, false) (Some begun)
       (Some left) (place, cued) count
 
+-- the same, and what is known there of when frames come
+pub record TimesRead (file left : List ℕ) (track : TrackNumbers) (place : MatroskaPlace)
+    (times : Times) : Type 0 where
+  pub opened : Opened
+  pub begun : List ℕ
+  pub count : ℕ
+  pub opens : again_read file ≡ Ok (opened, begun)
+  pub numbers : opened.track.numbers ≡ track
+  pub elements : ReadsWhole (timed_taken track) (opened.place, times_begun (tick_in file))
+      (Some begun) (Some left) (place, times) count
+
+-- up to its end
+pub record TimesEnd (file : List ℕ) (times : Times) : Type 0 where
+  pub track : TrackNumbers
+  pub to : MatroskaPlace
+  pub behind : List ℕ
+  pub read : TimesRead file behind track to times
+  pub over : step_read track to behind ≡ Ok (None, behind)
+
 -- up to its end, where no further element comes. What stands after it is noted, if its size is
--- known; and if it is not, that no Cues came after its last Cluster
+-- known; and if it is not, that no Cues came after its last Cluster; and the first frame that comes
+-- too early or too late
 pub record SegmentEnds (file rest : List ℕ) (notes : Notes) : Type 0 where
   pub opened : Opened
   pub to : MatroskaPlace
@@ -94,7 +119,9 @@ pub record SegmentEnds (file rest : List ℕ) (notes : Notes) : Type 0 where
   pub behind : List ℕ
   pub read : SegmentRead file behind opened to cued
   pub over : step_read opened.track.numbers to behind ≡ Ok (None, behind)
-  pub noted : notes_read (InMatroska opened.segment opened.track.numbers to)
+  pub times : Times
+  pub timed : TimesEnd file times
+  pub noted : notes_told times.off (InMatroska opened.segment opened.track.numbers to)
       (bytes_before file behind) cued None 0 0 behind ≡ Ok (notes, rest)
 
 -- what is noted of a file, and what is left after the bytes that were looked at for that. Up to
@@ -148,11 +175,27 @@ abbrev pub StreamsReached : Scope → Option (List ℕ) → Option (List ℕ) �
 StreamsReached scope text left r =
     Known text left (λ file rest. streams_reached scope r.place r.others file)
 
+-- what is known of when frames come where a file was opened, and where a reader stands; of an AVI
+-- nothing
+abbrev pub begins_timed : Place → Times → List ℕ → Type 0
+begins_timed (InAvi place) times file = ⊤
+begins_timed (InMatroska segment track place) times file = times ≡ times_begun (tick_in file)
+
+abbrev pub TimesBegin : Option (List ℕ) → Option (List ℕ) → Standing → Type 0
+TimesBegin text left r = Known text left (λ file rest. begins_timed r.place r.times file)
+
+abbrev pub times_reached : Scope → Place → Times → List ℕ → List ℕ → Type 0
+times_reached scope.FirstMovi place times file left = ⊤
+times_reached scope.Whole (InAvi place) times file left = ⊤
+times_reached scope.Whole (InMatroska segment track place) times file left =
+    TimesRead file left track place times
+
 -- if the bytes of the file are known
 pub record NotesReached (scope : Scope) (text left : Option (List ℕ)) (r : Standing) : Type 0 where
   pub known : Known text left (notes_reached scope r.place r.end r.cued r.after)
   pub frames : Known text left (frames_reached scope r.head r.place r.repeated)
   pub streams : StreamsReached scope text left r
+  pub times : Known text left (times_reached scope r.place r.times)
 
 -- the notes that a reader reads, once the frames have ended, are those of its file
 pub record NotesEnd (scope : Scope) (text left : Option (List ℕ)) (r : Standing) : Type 0 where

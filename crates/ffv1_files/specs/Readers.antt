@@ -6,6 +6,8 @@ use Rattle.ffv1_reads.specs.declared.fault.FileFault.{FileFault}
 use Rattle.ffv1_avi.specs.Places.{extent_of}
 use Rattle.ffv1_avi.specs.Readers as avi
 use Rattle.ffv1_matroska.specs.Readers as matroska
+use Rattle.ffv1_matroska.specs.Times.{times_begun}
+use Rattle.ffv1_matroska.specs.declared.times.Times.{Times}
 use Rattle.ffv1_files.specs.declared.container.Scope.{Scope}
 use Rattle.ffv1_files.specs.declared.container.Scope.TheVariants as scope
 use Rattle.ffv1_files.specs.declared.reader.Inner.{Inner}
@@ -16,7 +18,7 @@ use Rattle.ffv1_files.specs.Places.{InAvi, InMatroska, Place}
 -- met, for how many bytes its record has room; of a Segment how many bytes come before its end, and
 -- whether Cues came after the last Cluster so far; of an AVI, after its end, how many bytes come
 -- before others that stand after its last RIFF, how many frames so far had no bytes, and how many
--- further streams begin as FFV1 video
+-- further streams begin as FFV1 video; and of a Segment what is known of when frames come
 pub record Standing : Type 0 where
   pub head : Head
   pub place : Place
@@ -28,6 +30,7 @@ pub record Standing : Type 0 where
   pub after : Option ℕ
   pub repeated : ℕ
   pub others : ℕ
+  pub times : Times
 
 abbrev pub opened_at : Standing → Head × Place
 opened_at r = (r.head, r.place)
@@ -71,6 +74,7 @@ standing_of (inner.Avi r) = record {
   after = r.after;
   repeated = r.repeated;
   others = r.others;
+  times = times_begun 0;
 }
 standing_of (inner.Matroska r) = record {
   head = r.track.head;
@@ -83,4 +87,5 @@ standing_of (inner.Matroska r) = record {
   after = None;
   repeated = 0;
   others = 0;
+  times = r.times;
 }

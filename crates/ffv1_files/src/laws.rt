@@ -86,9 +86,10 @@ pub fn no_bytes_noted_are_none()
 }
 
 /// What is noted of a whole file says no more than its end does, and how many of its frames repeat
-/// the one before them, and how many further tracks of a Segment are FFV1 video. Of an AVI after
-/// which no bytes stand it is the first number alone, and of a Segment of known size after which
-/// none stand the second. Of a Segment of unknown size it is also whether Cues came after its last
+/// the one before them, how many further tracks of a Segment or streams of an AVI are FFV1 video,
+/// and which frame of a Segment comes too early or too late. Of an AVI after which no bytes stand
+/// it is the first two numbers alone, and of a Segment of known size after which none stand the
+/// last two. Of a Segment of unknown size it is also whether Cues came after its last
 /// Cluster, and never bytes after it. If bytes stand after an AVI, it is noted how many come before
 /// them. No frame of a Segment repeats another.
 pub fn notes_say_what_the_end_leaves()
@@ -108,7 +109,14 @@ pub fn notes_say_what_the_end_leaves()
         × (notes.after ≡ Some (bytes_before file is.behind)) }
     ensures sized { (file rest : List ℕ) (notes : Notes) (is : SegmentEnds file rest notes)
         (size : ℕ) → is.opened.segment ≡ Some size → is.behind ≡ [] →
-        notes ≡ record no_notes { others = is.opened.track.numbers.others } }
+        notes ≡ record no_notes {
+          others = is.opened.track.numbers.others;
+          times = is.times.off;
+        } }
+    ensures times { (file rest : List ℕ) (notes : Notes) (is : SegmentEnds file rest notes) →
+        notes.times ≡ is.times.off }
+    ensures untimed { (file rest : List ℕ) (notes : Notes) → RiffsEnd file rest notes →
+        notes.times ≡ None }
     ensures behind { (file rest : List ℕ) (notes : Notes) (is : SegmentEnds file rest notes)
         (size : ℕ) → is.opened.segment ≡ Some size → 0 < length is.behind →
         (notes.is_open ≡ false)

@@ -9,6 +9,9 @@ pub struct Notes {
     /// How many further tracks of a Segment are FFV1 video, or further streams of an AVI begin as
     /// it; they are not read. A count of 64 bits stays at its greatest value.
     pub others: u64,
+    /// The number of the first frame of a Segment that comes too early or too late, as
+    /// `MatroskaReader::times` says; None if none does.
+    pub times: Option<u64>,
     /// How many frames of an AVI have no bytes: each repeats the one before it. A count of 64 bits
     /// stays at its greatest value.
     pub repeated: u64,
@@ -21,6 +24,7 @@ impl Notes {
     pub const NONE: Notes = Notes {
         is_open: false,
         others: 0,
+        times: None,
         repeated: 0,
         after: None,
     };

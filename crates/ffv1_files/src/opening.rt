@@ -10,7 +10,7 @@ ghost use Rattle.ffv1_files.specs.Answers.{FileAnswers};
 ghost use Rattle.ffv1_files.specs.Behind.{EndsThere};
 ghost use Rattle.ffv1_files.specs.Endings.{opening_endings};
 ghost use Rattle.ffv1_files.specs.Files.{once_read};
-ghost use Rattle.ffv1_files.specs.Noted.{StreamsReached};
+ghost use Rattle.ffv1_files.specs.Noted.{StreamsReached, TimesBegin};
 ghost use Rattle.ffv1_files.specs.Offsets.{Reached, StopsAt};
 ghost use Rattle.ffv1_files.specs.Places.{least_bytes, least_in, most_bytes, most_in};
 ghost use Rattle.ffv1_files.specs.Readers.{is_opening_fault, opened_at};
@@ -52,6 +52,7 @@ fn open_once<R: ByteIn, A: Allocator + Copy>(
     ensures uncounted { IfOk result (λ r. r.repeated ≡ 0) }
     ensures streams { IfOk result
         (StreamsReached Whole (R.remaining input.old) (R.remaining input.new)) }
+    ensures times { IfOk result (TimesBegin (R.remaining input.old) (R.remaining input.new)) }
 {
     *offset = 0;
     let Ok(first) = read_byte(input) else {
@@ -108,6 +109,7 @@ pub(crate) fn open_whole<R: AgainIn, A: Allocator + Copy>(
     ensures uncounted { IfOk result (λ r. r.repeated ≡ 0) }
     ensures streams { IfOk result
         (StreamsReached Whole (R.remaining input.old) (R.remaining input.new)) }
+    ensures times { IfOk result (TimesBegin (R.remaining input.old) (R.remaining input.new)) }
 {
     let start = input.start();
     let fault = match open_once(alloc, input, offset) {

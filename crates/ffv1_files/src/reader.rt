@@ -15,7 +15,7 @@ ghost use Rattle.ffv1_files.specs.Again.{OpensAs, RoomWithin};
 ghost use Rattle.ffv1_files.specs.Answers.{FileAnswers};
 ghost use Rattle.std.specs.Prelude.{if◌then◌else◌};
 ghost use Rattle.ffv1_files.specs.Behind.{BehindAfter, CuedAfter, EndStays, EndsThere, any_value};
-ghost use Rattle.ffv1_files.specs.Behind.{is_behind_fault, items_noted, notes_of, notes_read};
+ghost use Rattle.ffv1_files.specs.Behind.{is_behind_fault, items_noted, notes_of, notes_told};
 ghost use Rattle.ffv1_files.specs.Behind.{repeated_after};
 ghost use Rattle.ffv1_files.specs.Noted.{NotedOf, NotesEnd, NotesNext, NotesReached};
 ghost use Rattle.ffv1_files.specs.Noted.{StreamsReached};
@@ -251,10 +251,10 @@ impl<A: Allocator> FileReader<A> {
     }
 
     /// Looks at what stands after the file, once `next_frame` has answered false, and tells what
-    /// its end leaves in doubt, and how many frames of an AVI had no bytes. After a Segment of
-    /// known size four bytes are read, or as many as there are; after one of unknown size nothing
-    /// stands, and nothing is read. What stands after an AVI was found by that call, and nothing
-    /// is read.
+    /// its end leaves in doubt, how many frames of an AVI had no bytes, and which frame of a
+    /// Segment comes too early or too late. After a Segment of known size four bytes are read, or
+    /// as many as there are; after one of unknown size nothing stands, and nothing is read. What
+    /// stands after an AVI was found by that call, and nothing is read.
     ///
     /// `Another` if another file begins there: these four bytes are the ID of EBML, or RIFF. `Read`
     /// if a read failed. The input has to be the one that the reader was opened on.
@@ -268,7 +268,12 @@ impl<A: Allocator> FileReader<A> {
     {
         match &self.inner {
             Inner::Avi(reader) => Ok(avi_notes(reader)),
-            Inner::Matroska(reader) => look_behind_segment(reader, reader.cued(), input),
+            Inner::Matroska(reader) => look_behind_segment(
+                reader,
+                reader.cued(),
+                reader.times(),
+                input,
+            ),
         }
     }
 
@@ -319,7 +324,8 @@ impl<A: Allocator> FileReader<A> {
     /// Looks at what stands after a file that may be damaged, once `next_item` has answered that
     /// nothing more comes, or `next_frame` of an AVI false, and tells what its end leaves in doubt,
     /// as `look_behind` does. But whether Cues came after the last Cluster of a Segment is `cued`,
-    /// as the calls of `next_item` say; of an AVI it does not count.
+    /// as the calls of `next_item` say; of an AVI it does not count. When frames of a Segment come
+    /// is not looked at.
     ///
     /// If the size of the Segment is known, four bytes are read, or as many as there are, also if
     /// the input ended before that size, or a Cluster was sought up to it. If an element passed the
@@ -342,7 +348,7 @@ impl<A: Allocator> FileReader<A> {
     {
         match &self.inner {
             Inner::Avi(reader) => Ok(avi_notes(reader)),
-            Inner::Matroska(reader) => look_behind_segment(reader, cued, input),
+            Inner::Matroska(reader) => look_behind_segment(reader, cued, None, input),
         }
     }
 }
@@ -353,6 +359,7 @@ fn avi_notes<A: Allocator>(reader: &AviReader<A>) -> Notes
     ensures { result ≡ record {
       is_open = false;
       others = reader.now.others;
+      times = None;
       repeated = reader.now.repeated;
       after = reader.now.after;
     } }
@@ -360,57 +367,54 @@ fn avi_notes<A: Allocator>(reader: &AviReader<A>) -> Notes
     Notes {
         is_open: false,
         others: reader.others(),
+        times: None,
         repeated: reader.repeated(),
         after: reader.after(),
     }
 }
 
-/// What is noted of a Segment if other bytes stand after its end or not, if nothing says that it is
-/// whole, and if so many further tracks are FFV1 video.
-fn noted(some: bool, is_open: bool, end: u64, others: u64) -> Notes
+/// What is noted of a Segment by its reader if other bytes stand after its end or not, if nothing
+/// says that it is whole, and if this frame comes too early or too late.
+fn noted<A: Allocator>(
+    reader: &MatroskaReader<A>,
+    some: bool,
+    is_open: bool,
+    times: Option<u64>,
+) -> Notes
     ensures { result ≡ record {
       is_open = is_open;
-      others = others;
+      others = reader.now.track.numbers.others;
+      times = times;
       repeated = 0;
-      after = if some then Some end else None;
+      after = if some then Some reader.now.end else None;
     } }
 {
-    if some {
-        return Notes {
-            is_open,
-            others,
-            repeated: 0,
-            after: Some(end),
-        };
-    }
     Notes {
         is_open,
-        others,
+        others: reader.others(),
+        times,
         repeated: 0,
-        after: None,
+        after: if some { Some(reader.end()) } else { None },
     }
 }
 
-/// What stands after a Segment, as notes; if Cues came after its last Cluster, or not.
+/// What stands after a Segment, as notes; if Cues came after its last Cluster, or not, and if this
+/// frame comes too early or too late.
 fn look_behind_segment<R: ByteIn, A: Allocator>(
     reader: &MatroskaReader<A>,
     cued: bool,
+    times: Option<u64>,
     input: &mut R,
 ) -> Result<Notes, FileFault>
     ensures answer { FileAnswers any_value (λ (n : Notes). n)
-        (notes_read (InMatroska reader.now.segment reader.now.track.numbers reader.now.place)
+        (notes_told times (InMatroska reader.now.segment reader.now.track.numbers reader.now.place)
         reader.now.end cued None 0 0)
         (passage R.remaining R.failures input.old input.new) result }
     ensures own { IfErr result (λ f. is_behind_fault (InMatroska reader.now.segment
         reader.now.track.numbers reader.now.place) f ≡ true) }
 {
     match reader.look_behind(input) {
-        Ok(some) => Ok(noted(
-            some,
-            reader.is_left_open(cued),
-            reader.end(),
-            reader.others(),
-        )),
+        Ok(some) => Ok(noted(reader, some, reader.is_left_open(cued), times)),
         Err(fault) => Err(fault),
     }
 }

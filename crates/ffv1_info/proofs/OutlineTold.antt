@@ -1,5 +1,5 @@
 -- What the first bytes of a file say is written, and then the facts of its stream.
-use Rattle.std.proofs.Common.{◌≡◌, ℕ, Bool, true, refl, Option, Some, None, Err, Ok, List, inl, inr, subst, sym}
+use Rattle.std.proofs.Common.{◌≡◌, ℕ, Bool, true, Option, Some, None, Err, Ok, List, inl, inr, subst, sym}
 use Rattle.std.specs.Io.KnownBytes.{Keeps}
 use Rattle.ffv1_wire.specs.Passage.{Passage, between}
 use Rattle.ffv1_video.specs.declared.fault.Fault.{Fault}

@@ -1,18 +1,20 @@
 -- What an element holds that is not divided, a block or none: what is read is that, and that is read.
-use Rattle.std.proofs.Common.{◌≡◌, ◌≤◌, ◌+◌, ◌-◌, ◌==◌, ◌∙◌, ◌++◌, ◌∷◌, [], ℕ, List, Bool, true, false, if◌then◌else◌, nat_lt, Some, Ok, Err, length, slice_index, refl, ap, arith, append_assoc, length-append}
+use Rattle.std.proofs.Common.{Bool, Err, List, Ok, Some, [], ap, append_assoc, arith, drop, false, if◌then◌else◌, length, length-append, nat_lt, refl, slice_index, take, true, ℕ, ◌++◌, ◌+◌, ◌-◌, ◌==◌, ◌∙◌, ◌∷◌, ◌≡◌, ◌≤◌}
 use Rattle.std.proofs.lemmas.Bool.{eq-eqb, le-ltb, ne_eqb}
 use Rattle.ffv1_reads.specs.declared.fault.FileFault.TheVariants as fault
 use Rattle.ffv1_reads.specs.Reads.{Kept, Met, Reading, given, read_on, ◌>>=◌}
 use Rattle.ffv1_reads.proofs.WantedBytes.{taken_complete, wanted_complete}
 use Rattle.ffv1_ebml.specs.Elements.{data_read}
 use Rattle.ffv1_ebml.specs.Sums.{summed}
-use Rattle.ffv1_ebml.specs.Vints.{IsVint, data_of}
+use Rattle.ffv1_ebml.specs.Vints.{IsVint, data_of, number_of}
 use Rattle.ffv1_ebml.specs.declared.sum.Sum.{Sum}
 use Rattle.ffv1_ebml.proofs.ElementLaws.{summed_twice}
 use Rattle.ffv1_ebml.proofs.VintLaws.{vint_complete}
-use Rattle.ffv1_matroska.specs.Blocks.{block_read, block_rest, fields_read, is_unknown, lacing_of, passed_on}
+use Rattle.ffv1_matroska.specs.WrittenIdents.{timestamp}
+use Rattle.ffv1_matroska.specs.Segments.{beside_read, timestamp_read}
+use Rattle.ffv1_matroska.specs.Blocks.{block_read, block_rest, fields_read, is_unknown, lacing_of, passed_on, time_of}
 use Rattle.ffv1_matroska.specs.Elements.{Content, IsContent, IsOwn, Plain, Other, Own, content_frames, content_text}
-use Rattle.ffv1_matroska.specs.Places.{closed, frame_at, is_sound, step_to, summed_at}
+use Rattle.ffv1_matroska.specs.Places.{closed, frame_at, is_sound, step_to, summed_at, timed_to}
 use Rattle.ffv1_matroska.specs.declared.place.Place.{Place}
 use Rattle.ffv1_matroska.proofs.FrameTurns.{Turn, kept_by, step_kept}
 use Rattle.ffv1_matroska.specs.declared.track.TrackNumbers.{TrackNumbers}
@@ -32,6 +34,23 @@ unfolding passed_on
 passed_complete place bytes rest size long sound =
     ap (λ z. read_on (read_on z (λ xs. given (summed place.sum xs))) (λ sum. closed (Some (step_to (summed_at place sum))) (summed_at place sum))) (taken_complete size bytes rest long)
     ∙ rw sound refl
+
+-- a Timestamp is no frame, as what is passed is none
+pub beside_kept : (ident size : ℕ) (place : Place) (text : List ℕ) → (beside_read ident size place >>= step_kept) text ≡ (passed_on size place >>= step_kept) text
+unfolding timestamp_read passed_on
+beside_kept ident size place text = on_time (ident == timestamp) refl (nat_lt (length text) size) refl
+  where
+    now : Place
+    now = summed_at place (summed place.sum (take size text))
+
+    on_sound : (b : Bool) → is_sound now ≡ b → read_on (closed (Some (timed_to (number_of (take size text)) now)) now (drop size text)) step_kept ≡ read_on (closed (Some (step_to now)) now (drop size text)) step_kept
+    on_sound true sound = rw sound refl
+    on_sound false sound = rw sound refl
+
+    on_time : (a : Bool) → (ident == timestamp) ≡ a → (b : Bool) → nat_lt (length text) size ≡ b → (beside_read ident size place >>= step_kept) text ≡ (passed_on size place >>= step_kept) text
+    on_time false other b long = rw other refl
+    on_time true is true long = rw (is, long) refl
+    on_time true is false long = rw (is, long) (on_sound (is_sound now) refl)
 
 index_last : (time : List ℕ) (flags : ℕ) → length time ≡ 2 → slice_index (time ++ flags ∷ []) 2 ≡ flags
 index_last [] flags long = absurd (omega (arith, long))
@@ -71,7 +90,7 @@ unknown_refused track size place number rest is few fits differ unknown =
 
 own_complete : (track : TrackNumbers) (place : Place) (number time : List ℕ) (flags : ℕ) (frame rest : List ℕ) → IsOwn track number time flags frame →
     block_read track (length (number ++ ((time ++ flags ∷ []) ++ frame))) place ((number ++ ((time ++ flags ∷ []) ++ frame)) ++ rest)
-    ≡ Ok (Some (frame_at (length frame) (after_bytes place (number ++ (time ++ flags ∷ [])))), frame ++ rest)
+    ≡ Ok (Some (frame_at (Some (time_of (time ++ flags ∷ []))) (length frame) (after_bytes place (number ++ (time ++ flags ∷ [])))), frame ++ rest)
 unfolding block_read fields_read
 own_complete track place number time flags frame rest is =
     let fields = time ++ flags ∷ [] in

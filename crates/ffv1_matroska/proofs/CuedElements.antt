@@ -6,12 +6,9 @@ use Rattle.ffv1_reads.specs.Ends.{ReadOrNone}
 use Rattle.ffv1_reads.specs.Reads.{Answers, Read, read_on}
 use Rattle.ffv1_reads.specs.declared.fault.FileFault.{FileFault}
 use Rattle.ffv1_reads.proofs.Reading.{consumes_none}
-use Rattle.ffv1_ebml.specs.Sums.{kept_summed}
 use Rattle.ffv1_ebml.specs.declared.element.Element.{Element}
-use Rattle.ffv1_ebml.specs.declared.sum.Sum.{Sum}
-use Rattle.ffv1_matroska.specs.Cues.{CuedStep, cued_behind, cued_by, cued_by_read, cued_taken}
-use Rattle.ffv1_matroska.specs.Offsets.{element_taken}
-use Rattle.ffv1_matroska.specs.Places.{frame_at, is_sound, segment_at, summed_at}
+use Rattle.ffv1_matroska.specs.Cues.{CuedStep, cued_behind, cued_by, cued_by_read}
+use Rattle.ffv1_matroska.specs.Places.{segment_at}
 use Rattle.ffv1_matroska.specs.Segments.{cluster_read, group_read, header_read, segment_child, segment_read, segment_rest, step_read}
 use Rattle.ffv1_matroska.specs.declared.place.Place.{Place}
 use Rattle.ffv1_matroska.specs.declared.place.Step.{Step}
@@ -76,25 +73,6 @@ unfolding step_read cluster_read
 cued_cluster track place cued p (Ok (Some s)) none some h = cued_inside track place cued s p.old p.new (inr some) (record { bytes = h.1.bytes; consumed = h.1.consumed; is = λ rest. rw (none, lt-ltb 0 place.cluster some) (h.1.is rest) })
 cued_cluster track place cued p (Ok None) none some h = tt
 cued_cluster track place cued p (Err f) none some h = tt
-
--- without a frame
-on_frame : (track : TrackNumbers) (place now : Place) (cued then : Bool) (frame : Option ℕ) (a b : Option (List ℕ)) → frame ≡ None → CuedStep track (place, cued) a b (record { frame = frame; place = now }) then → Read (cued_taken track (place, cued)) a b (now, then)
-unfolding cued_taken element_taken
-on_frame track place now cued then None a b is read = record { bytes = read.bytes; consumed = read.consumed; is = λ rest. rw (read.is rest, read.cued_is rest) refl }
-on_frame track place now cued then (Some n) a b is read = absurd (cc)
-
-pub cued_read : (track : TrackNumbers) (place : Place) (cued then : Bool) (s : Step) (a b : Option (List ℕ)) → s.frame ≡ None → CuedStep track (place, cued) a b s then → Read (cued_taken track (place, cued)) a b (s.place, then)
-cued_read track place cued then s a b is read = on_frame track place s.place cued then s.frame a b is read
-
--- with its frame
-pub cued_whole : (track : TrackNumbers) (place after : Place) (cued then : Bool) (size : ℕ) (old now new : Option (List ℕ)) (p : List ℕ × Sum) → is_sound (summed_at after p.1) ≡ true → CuedStep track (place, cued) old now (frame_at size after) then → Read (kept_summed size after.sum) now new p →
-    Read (cued_taken track (place, cued)) old new (summed_at after p.1, then)
-unfolding cued_taken element_taken
-cued_whole track place after cued then size old now new p sound s k = record {
-  bytes = s.bytes ++ k.bytes;
-  consumed = consumes_then old now new s.bytes k.bytes s.consumed k.consumed;
-  is = λ rest. rw (append_assoc s.bytes k.bytes rest, s.is (k.bytes ++ rest), k.is rest, sound, s.cued_is (k.bytes ++ rest)) refl;
-}
 
 -- at the end no element comes
 pub ended_none : (track : TrackNumbers) (place : Place) (text : Option (List ℕ)) → place.segment ≡ 0 → place.cluster ≡ 0 → place.group ≡ 0 → ReadOrNone (step_read track place) text text None

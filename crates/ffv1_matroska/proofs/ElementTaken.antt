@@ -16,11 +16,12 @@ use Rattle.ffv1_ebml.specs.declared.element.Element.{Element}
 use Rattle.ffv1_ebml.specs.declared.sum.Sum.{Sum}
 use Rattle.ffv1_ebml.specs.declared.sum.Sum.TheVariants.{Absent, Begins, Awaits}
 use Rattle.ffv1_ebml.proofs.VintLaws.{vint_sound}
-use Rattle.ffv1_matroska.specs.Blocks.{block_read, block_rest, fields_read, frame_judged, is_unknown, lacing_of, passed_on}
+use Rattle.ffv1_matroska.specs.WrittenIdents.{timestamp}
+use Rattle.ffv1_matroska.specs.Blocks.{block_read, block_rest, fields_read, frame_judged, is_unknown, lacing_of, passed_on, time_of}
 use Rattle.ffv1_matroska.specs.Internal.{bytes_of}
 use Rattle.ffv1_matroska.specs.Offsets.{element_taken, frame_taken, step_taken}
-use Rattle.ffv1_matroska.specs.Places.{amount, closed, cluster_at, group_at, is_sound, segment_at, step_to, summed_at}
-use Rattle.ffv1_matroska.specs.Segments.{block, block_group, child_by, cluster, cluster_child, cluster_read, cluster_rest, crc_read, first_child, group_child, group_read, group_rest, header_read, is_filler, is_of_cluster, is_section, known_child, other_read, segment_child, segment_read, segment_rest, simple_block, step_read, is_outside}
+use Rattle.ffv1_matroska.specs.Places.{amount, closed, cluster_at, group_at, is_sound, segment_at, step_to, summed_at, timed_to}
+use Rattle.ffv1_matroska.specs.Segments.{block, block_group, child_by, cluster, cluster_child, cluster_read, cluster_rest, crc_read, first_child, group_child, group_read, group_rest, header_read, is_filler, is_of_cluster, is_outside, is_section, known_child, other_read, segment_child, segment_read, segment_rest, simple_block, step_read, timestamp_read}
 use Rattle.ffv1_matroska.specs.declared.place.Place.{Place}
 use Rattle.ffv1_matroska.specs.declared.place.Step.{Step}
 use Rattle.ffv1_reads.specs.Head.{frame_limit}
@@ -85,9 +86,17 @@ on_takes : (place : Place) (size : ℕ) (now : Place) → Takes Any (size + amou
 unfolding passed_on
 on_takes place size now = takes_then (passed_summed size now.sum) _ (passed_takes size (amount now) now.sum) (λ sum _. closed_takes place (summed_at now sum))
 
+timestamp_takes : (place : Place) (size : ℕ) (now : Place) → Takes Any (size + amount now) (left_after place) (timestamp_read size now)
+unfolding timestamp_read
+timestamp_takes place size now =
+    takes_then (taken_summed size now.sum) _ (takes_then {after = λ _. amount now} (taken size) _ (takes_wanted Looked size (amount now)) (λ bytes _. takes_given {P = Any} _ tt refl)) (λ p _. timed_takes (number_of p.0) (summed_at now p.1))
+  where
+    timed_takes : (time : ℕ) (next : Place) → Takes Any (amount next) (left_after place) (closed (Some (timed_to time next)) next)
+    timed_takes time next = takes_if (is_sound next) (given (Some (timed_to time next))) (refused fault.Checksum) (λ _. takes_given _ tt (omega arith)) (λ _. takes_refused fault.Checksum)
+
 -- a block
-frame_takes : (place : Place) (flags size : ℕ) (now : Place) → Takes Any (size + amount now) (left_after place) (frame_judged flags size now)
-frame_takes place flags size now =
+frame_takes : (place : Place) (time flags size : ℕ) (now : Place) → Takes Any (size + amount now) (left_after place) (frame_judged time flags size now)
+frame_takes place time flags size now =
     takes_if (lacing_of flags == 0) _ (refused fault.Laced)
     (λ _. takes_if (nat_lt frame_limit size) (refused fault.ChunkTooLong) _ (λ _. takes_refused fault.ChunkTooLong)
     (λ _. takes_if (size == 0) (refused fault.EmptyFrame) _ (λ _. takes_refused fault.EmptyFrame) (λ _. takes_given _ tt refl)))
@@ -98,7 +107,7 @@ unfolding fields_read
 fields_takes place left now =
     takes_if (nat_lt left 3) (refused fault.Truncated) _ (λ _. takes_refused fault.Truncated) (λ fits.
     (let three : 3 ≤ left = grind (arith, nat_tests, fits) in
-    takes_then (taken_summed 3 now.sum) _ (takes_then {after = λ _. left - 3 + amount now} (taken 3) _ (takes_same _ _ (taken 3) (omega (arith, three)) (takes_wanted Looked 3 (left - 3 + amount now))) (λ bytes _. takes_given {P = Any} _ tt refl)) (λ p _. frame_takes place (slice_index p.0 2) (left - 3) (summed_at now p.1))))
+    takes_then (taken_summed 3 now.sum) _ (takes_then {after = λ _. left - 3 + amount now} (taken 3) _ (takes_same _ _ (taken 3) (omega (arith, three)) (takes_wanted Looked 3 (left - 3 + amount now))) (λ bytes _. takes_given {P = Any} _ tt refl)) (λ p _. frame_takes place (time_of p.0) (slice_index p.0 2) (left - 3) (summed_at now p.1))))
 
 pub data_takes : (left more : ℕ) (sum : Sum) → Takes Any (left + more) (λ (p : Data × Sum). p.0.left + more) (data_read left sum)
 data_takes left more sum = takes_then (vint_read 8 left) _ (vint_more 8 left more) (λ bytes few. takes_given _ tt (omega (arith, few)))
@@ -145,7 +154,7 @@ child_takes place track ident size now none =
     takes_if (ident == simple_block) _ _ (λ _. block_takes place track size now)
     (λ _. takes_if (ident == block_group) _ _
     (λ _. takes_same _ _ (block_sought size track (group_at now size now.sum)) (omega (arith, none)) (sought_takes place size track (group_at now size now.sum)))
-    (λ _. takes_if (is_beside ident size) _ _ (λ _. on_takes place size now) (λ _. takes_refused fault.BadElement)))
+    (λ _. takes_if (is_beside ident size) _ _ (λ _. takes_if (ident == timestamp) _ _ (λ _. timestamp_takes place size now) (λ _. on_takes place size now)) (λ _. takes_refused fault.BadElement)))
 
 cluster_takes : (track : TrackNumbers) (place : Place) → place.group ≡ 0 → Takes Any (amount place) (left_after place) (cluster_read track place)
 unfolding cluster_read known_child first_child

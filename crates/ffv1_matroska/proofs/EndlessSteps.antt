@@ -9,10 +9,12 @@ use Rattle.ffv1_ebml.specs.declared.element.Data.{Data}
 use Rattle.ffv1_ebml.specs.declared.element.Element.{Element}
 use Rattle.ffv1_ebml.specs.declared.sum.Sum.{Sum}
 use Rattle.ffv1_ebml.specs.declared.sum.Sum.TheVariants.{Absent, Begins, Awaits}
-use Rattle.ffv1_matroska.specs.Blocks.{block_read, block_rest, fields_read, frame_judged, is_unknown, lacing_of, passed_on}
+use Rattle.ffv1_ebml.specs.Vints.{number_of}
+use Rattle.ffv1_matroska.specs.WrittenIdents.{timestamp}
+use Rattle.ffv1_matroska.specs.Blocks.{block_read, block_rest, fields_read, frame_judged, is_unknown, lacing_of, passed_on, time_of}
 use Rattle.ffv1_matroska.specs.Offsets.{element_taken, frame_taken, step_taken}
-use Rattle.ffv1_matroska.specs.Places.{amount, closed, cluster_at, cluster_entered, frame_at, group_at, is_sound, segment_at, step_to, summed_at}
-use Rattle.ffv1_matroska.specs.Segments.{block, block_group, child_by, cluster, cluster_child, cluster_read, cluster_rest, crc_read, first_child, group_child, group_read, group_rest, header_read, is_filler, is_of_cluster, is_section, known_child, other_read, segment_child, segment_read, segment_rest, simple_block, step_read, is_outside}
+use Rattle.ffv1_matroska.specs.Places.{amount, closed, cluster_at, cluster_entered, frame_at, group_at, is_sound, segment_at, step_to, summed_at, timed_to}
+use Rattle.ffv1_matroska.specs.Segments.{beside_read, block, block_group, child_by, cluster, cluster_child, cluster_read, cluster_rest, crc_read, first_child, group_child, group_read, group_rest, header_read, is_filler, is_of_cluster, is_outside, is_section, known_child, other_read, segment_child, segment_read, segment_rest, simple_block, step_read, timestamp_read}
 use Rattle.ffv1_matroska.specs.declared.place.Place.{Place}
 use Rattle.ffv1_matroska.specs.declared.place.Step.{Step}
 use Rattle.ffv1_matroska.proofs.StepBounds.{Gives, err_is_no_ok, Lessens, gives_any, gives_given, gives_if, gives_refused, gives_then, step_less}
@@ -34,6 +36,13 @@ passed_stays : (size : ℕ) (place : Place) → Gives (Stays place.endless) (pas
 unfolding passed_on
 passed_stays size place = gives_any (Stays place.endless) (passed_summed size place.sum) _ (λ sum. closed_stays place.endless (Some (step_to (summed_at place sum))) (summed_at place sum) refl)
 
+timestamp_stays : (size : ℕ) (place : Place) → Gives (Stays place.endless) (timestamp_read size place)
+unfolding timestamp_read
+timestamp_stays size place = gives_any {X = List ℕ × Sum} (Stays place.endless) (taken_summed size place.sum) _ (λ p. closed_stays place.endless (Some (timed_to (number_of p.0) (summed_at place p.1))) (summed_at place p.1) refl)
+
+beside_stays : (ident size : ℕ) (place : Place) → Gives (Stays place.endless) (beside_read ident size place)
+beside_stays ident size place = gives_if (Stays place.endless) (ident == timestamp) (timestamp_read size place) (passed_on size place) (timestamp_stays size place) (passed_stays size place)
+
 block_stays : (track : TrackNumbers) (size : ℕ) (place : Place) → Gives (Stays place.endless) (block_read track size place)
 unfolding block_read fields_read
 block_stays track size place = gives_any {X = Data × Sum} P (data_read size place.sum) (block_rest track place) (λ p. gives_if P (p.0.value == track.number) (fields_read p.0.left (summed_at place p.1)) _ (fields p.0.left p.1) (gives_if P (is_unknown track.known p.0.value) (refused fault.BadElement) (passed_on p.0.left (summed_at place p.1)) (gives_refused P fault.BadElement) (passed_stays p.0.left (summed_at place p.1))))
@@ -41,17 +50,17 @@ block_stays track size place = gives_any {X = Data × Sum} P (data_read size pla
     P : Option Step → Type 0
     P = Stays place.endless
 
-    judged : (flags size : ℕ) (s : Sum) → Gives P (frame_judged flags size (summed_at place s))
-    judged flags size s =
+    judged : (time flags size : ℕ) (s : Sum) → Gives P (frame_judged time flags size (summed_at place s))
+    judged time flags size s =
         gives_if P (lacing_of flags == 0) _ (refused fault.Laced)
         (gives_if P (nat_lt frame_limit size) (refused fault.ChunkTooLong) _ (gives_refused P fault.ChunkTooLong)
-        (gives_if P (size == 0) (refused fault.EmptyFrame) _ (gives_refused P fault.EmptyFrame) (gives_given P (Some (frame_at size (summed_at place s))) refl)))
+        (gives_if P (size == 0) (refused fault.EmptyFrame) _ (gives_refused P fault.EmptyFrame) (gives_given P (Some (frame_at (Some time) size (summed_at place s))) refl)))
         (gives_refused P fault.Laced)
 
     fields : (left : ℕ) (s : Sum) → Gives P (fields_read left (summed_at place s))
     fields left s =
         gives_if P (nat_lt left 3) (refused fault.Truncated) _ (gives_refused P fault.Truncated)
-        (gives_any P (taken_summed 3 s) (λ p. frame_judged (slice_index p.0 2) (left - 3) (summed_at (summed_at place s) p.1)) (λ p. judged (slice_index p.0 2) (left - 3) p.1))
+        (gives_any P (taken_summed 3 s) (λ p. frame_judged (time_of p.0) (slice_index p.0 2) (left - 3) (summed_at (summed_at place s) p.1)) (λ p. judged (time_of p.0) (slice_index p.0 2) (left - 3) p.1))
 
 group_stays : (track : TrackNumbers) (place : Place) → Gives (Stays place.endless) (group_read track place)
 unfolding group_read group_child
@@ -85,7 +94,7 @@ unfolding cluster_child
 child_stays track ident size place =
     gives_if (Stays place.endless) (ident == simple_block) (block_read track size place) _ (block_stays track size place)
     (gives_if (Stays place.endless) (ident == block_group) _ _ (sought_stays size track place.endless (group_at place size place.sum) refl)
-    (gives_if (Stays place.endless) (is_beside ident size) (passed_on size place) _ (passed_stays size place) (gives_refused (Stays place.endless) fault.BadElement)))
+    (gives_if (Stays place.endless) (is_beside ident size) (beside_read ident size place) _ (beside_stays ident size place) (gives_refused (Stays place.endless) fault.BadElement)))
 
 cluster_stays : (track : TrackNumbers) (place : Place) → Gives (Stays place.endless) (cluster_read track place)
 unfolding cluster_read known_child first_child

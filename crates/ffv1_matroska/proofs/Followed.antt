@@ -142,7 +142,7 @@ module _ (track : TrackNumbers) (a n : ℕ) (whole : List ℕ) where
   follow_mirror k o c is ends less counts (Ok (None, rest)) z turns h = absurd h
   follow_mirror k o c is ends less counts (Ok (Some s, rest)) z turns h = on_frame s.frame s.place turns h
     where
-      on_frame : (frame : Option ℕ) (place : Place) → (amount place + 2 ≤ k) × (amount place ≤ amount c.place) → Mirrors (Ok (Some (record { frame = frame; place = place }), rest)) z → GoesOn o frame place rest (item_after (item_up_to k track) c (some z))
+      on_frame : (frame : Option ℕ) (place : Place) → (amount place + 2 ≤ k) × (amount place ≤ amount c.place) → Mirrors (Ok (Some (record { frame = frame; time = None; place = place }), rest)) z → GoesOn o frame place rest (item_after (item_up_to k track) c (some z))
       on_frame None place turns (sound, same) = rw same (k, moved c pending.Nothing place, refl, refl, refl, sound, turns.0, counted_moved a n c pending.Nothing place counts turns.1 refl refl)
       on_frame (Some size) place turns same = rw same (c, refl, is, turns.1, counts)
   follow_mirror k o c is ends less counts (Err (Short w)) z turns h = rw h (over c, ap (λ x. Ok (x, [])) ends)

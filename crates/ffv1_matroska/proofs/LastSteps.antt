@@ -14,15 +14,17 @@ use Rattle.ffv1_ebml.specs.declared.element.Data.{Data}
 use Rattle.ffv1_ebml.specs.declared.element.Element.{Element}
 use Rattle.ffv1_ebml.specs.declared.sum.Sum.{Sum}
 use Rattle.ffv1_ebml.specs.declared.sum.Sum.TheVariants.{Absent, Begins, Awaits}
-use Rattle.ffv1_matroska.specs.Blocks.{block_read, block_rest, fields_read, frame_judged, is_unknown, lacing_of, passed_on}
+use Rattle.ffv1_ebml.specs.Vints.{number_of}
+use Rattle.ffv1_matroska.specs.WrittenIdents.{timestamp}
+use Rattle.ffv1_matroska.specs.Blocks.{block_read, block_rest, fields_read, frame_judged, is_unknown, lacing_of, passed_on, time_of}
 use Rattle.ffv1_matroska.specs.Cues.{cued_behind, cued_taken}
 use Rattle.ffv1_matroska.specs.Late.{again_read, opened_again, opened_with, reopened, segment_reopened, track_read}
 use Rattle.ffv1_matroska.specs.Offsets.{element_taken}
 use Rattle.ffv1_matroska.specs.Opened.{Opened, begin_from, begin_up_to, begun_at, ebml_read, element_or_begun, in_cluster, open_read, segment_opened, tracks_or_passed}
 use Rattle.ffv1_matroska.specs.Opening.{segment_begun, segment_entered}
 use Rattle.ffv1_matroska.specs.Tracks.{Track}
-use Rattle.ffv1_matroska.specs.Places.{amount, ended, closed, cluster_at, cluster_entered, frame_at, group_at, is_sound, segment_at, step_to, summed_at}
-use Rattle.ffv1_matroska.specs.Segments.{block, block_group, block_sought, child_by, cluster, cluster_child, cluster_read, cluster_rest, crc_read, first_child, group_child, group_read, group_rest, header_read, is_beside, is_filler, is_of_cluster, is_outside, is_section, known_child, other_read, segment_child, segment_read, segment_rest, simple_block, step_read}
+use Rattle.ffv1_matroska.specs.Places.{amount, closed, cluster_at, cluster_entered, ended, frame_at, group_at, is_sound, segment_at, step_to, summed_at, timed_to}
+use Rattle.ffv1_matroska.specs.Segments.{beside_read, block, block_group, block_sought, child_by, cluster, cluster_child, cluster_read, cluster_rest, crc_read, first_child, group_child, group_read, group_rest, header_read, is_beside, is_filler, is_of_cluster, is_outside, is_section, known_child, other_read, segment_child, segment_read, segment_rest, simple_block, step_read, timestamp_read}
 use Rattle.ffv1_matroska.specs.declared.place.Place.{Place}
 use Rattle.ffv1_matroska.specs.declared.place.Step.{Step}
 use Rattle.ffv1_matroska.specs.declared.track.TrackNumbers.{TrackNumbers}
@@ -46,21 +48,28 @@ passed_comes : (size : ℕ) (place : Place) → Gives Comes (passed_on size plac
 unfolding passed_on
 passed_comes size place = gives_any Comes (passed_summed size place.sum) _ (λ sum. closed_comes (step_to (summed_at place sum)) (summed_at place sum))
 
+timestamp_comes : (size : ℕ) (place : Place) → Gives Comes (timestamp_read size place)
+unfolding timestamp_read
+timestamp_comes size place = gives_any {X = List ℕ × Sum} Comes (taken_summed size place.sum) _ (λ p. closed_comes (timed_to (number_of p.0) (summed_at place p.1)) (summed_at place p.1))
+
+beside_comes : (ident size : ℕ) (place : Place) → Gives Comes (beside_read ident size place)
+beside_comes ident size place = gives_if Comes (ident == timestamp) (timestamp_read size place) (passed_on size place) (timestamp_comes size place) (passed_comes size place)
+
 block_comes : (track : TrackNumbers) (size : ℕ) (place : Place) → Gives Comes (block_read track size place)
 unfolding block_read fields_read
 block_comes track size place = gives_any {X = Data × Sum} Comes (data_read size place.sum) (block_rest track place) (λ p. gives_if Comes (p.0.value == track.number) (fields_read p.0.left (summed_at place p.1)) _ (fields p.0.left p.1) (gives_if Comes (is_unknown track.known p.0.value) (refused fault.BadElement) (passed_on p.0.left (summed_at place p.1)) (gives_refused Comes fault.BadElement) (passed_comes p.0.left (summed_at place p.1))))
   where
-    judged : (flags size : ℕ) (s : Sum) → Gives Comes (frame_judged flags size (summed_at place s))
-    judged flags size s =
+    judged : (time flags size : ℕ) (s : Sum) → Gives Comes (frame_judged time flags size (summed_at place s))
+    judged time flags size s =
         gives_if Comes (lacing_of flags == 0) _ (refused fault.Laced)
         (gives_if Comes (nat_lt frame_limit size) (refused fault.ChunkTooLong) _ (gives_refused Comes fault.ChunkTooLong)
-        (gives_if Comes (size == 0) (refused fault.EmptyFrame) _ (gives_refused Comes fault.EmptyFrame) (gives_given Comes (Some (frame_at size (summed_at place s))) tt)))
+        (gives_if Comes (size == 0) (refused fault.EmptyFrame) _ (gives_refused Comes fault.EmptyFrame) (gives_given Comes (Some (frame_at (Some time) size (summed_at place s))) tt)))
         (gives_refused Comes fault.Laced)
 
     fields : (left : ℕ) (s : Sum) → Gives Comes (fields_read left (summed_at place s))
     fields left s =
         gives_if Comes (nat_lt left 3) (refused fault.Truncated) _ (gives_refused Comes fault.Truncated)
-        (gives_any Comes (taken_summed 3 s) (λ p. frame_judged (slice_index p.0 2) (left - 3) (summed_at (summed_at place s) p.1)) (λ p. judged (slice_index p.0 2) (left - 3) p.1))
+        (gives_any Comes (taken_summed 3 s) (λ p. frame_judged (time_of p.0) (slice_index p.0 2) (left - 3) (summed_at (summed_at place s) p.1)) (λ p. judged (time_of p.0) (slice_index p.0 2) (left - 3) p.1))
 
 group_comes : (track : TrackNumbers) (place : Place) → Gives Comes (group_read track place)
 unfolding group_read group_child
@@ -85,7 +94,7 @@ unfolding cluster_child
 child_comes track ident size place =
     gives_if Comes (ident == simple_block) (block_read track size place) _ (block_comes track size place)
     (gives_if Comes (ident == block_group) _ _ (sought_comes size track (group_at place size place.sum))
-    (gives_if Comes (is_beside ident size) (passed_on size place) _ (passed_comes size place) (gives_refused Comes fault.BadElement)))
+    (gives_if Comes (is_beside ident size) (beside_read ident size place) _ (beside_comes ident size place) (gives_refused Comes fault.BadElement)))
 
 cluster_comes : (track : TrackNumbers) (place : Place) → Gives Comes (cluster_read track place)
 unfolding cluster_read known_child first_child

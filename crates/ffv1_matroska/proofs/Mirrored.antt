@@ -16,9 +16,10 @@ use Rattle.ffv1_ebml.specs.declared.sum.Sum.{Sum}
 use Rattle.ffv1_ebml.specs.declared.sum.Sum.TheVariants.{Absent, Begins, Awaits}
 use Rattle.ffv1_ebml.specs.declared.tried.Header.{Header}
 use Rattle.ffv1_ebml.specs.declared.tried.Header.TheVariants.{Broken, Outside, Whole}
-use Rattle.ffv1_matroska.specs.Blocks.{block_read, block_rest, fields_read, frame_judged, is_unknown, lacing_of, passed_on}
-use Rattle.ffv1_matroska.specs.Places.{closed, group_at, is_sound, step_to, summed_at}
-use Rattle.ffv1_matroska.specs.Segments.{block, block_group, child_by, cluster_child, crc_read, first_child, group_child, group_read, group_rest, is_beside, simple_block}
+use Rattle.ffv1_matroska.specs.WrittenIdents.{timestamp}
+use Rattle.ffv1_matroska.specs.Blocks.{block_read, block_rest, fields_read, frame_judged, is_unknown, lacing_of, passed_on, time_of}
+use Rattle.ffv1_matroska.specs.Places.{closed, group_at, is_sound, step_to, summed_at, timed_to}
+use Rattle.ffv1_matroska.specs.Segments.{beside_read, block, block_group, child_by, cluster_child, crc_read, first_child, group_child, group_read, group_rest, is_beside, simple_block, timestamp_read}
 use Rattle.ffv1_matroska.specs.Turns.{block_named, block_turn, child_turn, crc_turn, fields_turn, first_turn, frame_turn, group_headed, group_turn, numbered_turn, passed_turn, turn_by}
 use Rattle.ffv1_matroska.specs.declared.course.Pending.{Pending}
 use Rattle.ffv1_matroska.specs.declared.course.Pending.TheVariants as pending
@@ -70,10 +71,33 @@ passes size place text = on_test (nat_lt (length text) size) refl
     on_test true test = rw test refl
     on_test false test = rw test (on_sound (is_sound now) refl)
 
-judges : (flags size : ℕ) (place : Place) (text : List ℕ) → Mirrors (frame_judged flags size place text) (Ok (frame_turn flags size place, text))
-judges flags size place text = on_lacing (lacing_of flags == 0) refl (nat_lt frame_limit size) refl (size == 0) refl
+-- a Timestamp is passed, too
+times : (size : ℕ) (place : Place) (text : List ℕ) → Mirrors (timestamp_read size place text) (passed_turn size pending.Nothing place text)
+unfolding timestamp_read passed_turn
+times size place text = on_test (nat_lt (length text) size) refl
   where
-    on_lacing : (a : Bool) → (lacing_of flags == 0) ≡ a → (b : Bool) → nat_lt frame_limit size ≡ b → (c : Bool) → (size == 0) ≡ c → Mirrors (frame_judged flags size place text) (Ok (frame_turn flags size place, text))
+    now : Place
+    now = summed_at place (summed place.sum (take size text))
+
+    on_sound : (b : Bool) → is_sound now ≡ b → Mirrors (closed (Some (timed_to (number_of (take size text)) now)) now (drop size text)) (Ok (On pending.Nothing now, drop size text))
+    on_sound true sound = rw sound (sound, refl)
+    on_sound false sound = rw sound (inr (inl (refl, now, drop size text, sound, refl)))
+
+    on_test : (b : Bool) → nat_lt (length text) size ≡ b → Mirrors (timestamp_read size place text) (passed_turn size pending.Nothing place text)
+    on_test true test = rw test refl
+    on_test false test = rw test (on_sound (is_sound now) refl)
+
+besides : (ident size : ℕ) (place : Place) (text : List ℕ) → Mirrors (beside_read ident size place text) (passed_turn size pending.Nothing place text)
+besides ident size place text = on_time (ident == timestamp) refl
+  where
+    on_time : (b : Bool) → (ident == timestamp) ≡ b → Mirrors (beside_read ident size place text) (passed_turn size pending.Nothing place text)
+    on_time true is = rw is (times size place text)
+    on_time false is = rw is (passes size place text)
+
+judges : (time flags size : ℕ) (place : Place) (text : List ℕ) → Mirrors (frame_judged time flags size place text) (Ok (frame_turn flags size place, text))
+judges time flags size place text = on_lacing (lacing_of flags == 0) refl (nat_lt frame_limit size) refl (size == 0) refl
+  where
+    on_lacing : (a : Bool) → (lacing_of flags == 0) ≡ a → (b : Bool) → nat_lt frame_limit size ≡ b → (c : Bool) → (size == 0) ≡ c → Mirrors (frame_judged time flags size place text) (Ok (frame_turn flags size place, text))
     on_lacing false plain b long c none = rw plain (inl (_, _, _, refl))
     on_lacing true plain true long c none = rw (plain, long) (inl (_, _, _, refl))
     on_lacing true plain false long true none = rw (plain, long, none) (inl (_, _, _, refl))
@@ -86,7 +110,7 @@ fields left place text = on_few (nat_lt left 3) refl (nat_lt (length text) 3) re
     on_few : (a : Bool) → nat_lt left 3 ≡ a → (b : Bool) → nat_lt (length text) 3 ≡ b → Mirrors (fields_read left place text) (fields_turn left place text)
     on_few true few b short = rw few (inl (_, _, _, refl))
     on_few false few true short = rw (few, short) refl
-    on_few false few false short = rw (few, short) (judges (slice_index (take 3 text) 2) (left - 3) (summed_at place (summed place.sum (take 3 text))) (drop 3 text))
+    on_few false few false short = rw (few, short) (judges (time_of (take 3 text)) (slice_index (take 3 text) 2) (left - 3) (summed_at place (summed place.sum (take 3 text))) (drop 3 text))
 
 numbers : (track : TrackNumbers) (number left : ℕ) (place : Place) (sum : Sum) (text : List ℕ) →
     Mirrors (block_rest track place (record { value = number; left = left }, sum) text) (numbered_turn track number left (summed_at place sum) text)
@@ -126,7 +150,7 @@ children track ident size place text group = on_simple (ident == simple_block) r
   where
     on_simple : (a : Bool) → (ident == simple_block) ≡ a → (b : Bool) → is_beside ident size ≡ b → Mirrors (cluster_child track ident size place text) (child_turn track ident size place text)
     on_simple true simple b beside = rw simple (blocks track size place text)
-    on_simple false simple true beside = rw (simple, group, beside) (passes size place text)
+    on_simple false simple true beside = rw (simple, group, beside) (besides ident size place text)
     on_simple false simple false beside = rw (simple, group, beside) (inl (_, _, _, refl))
 
 sums : (place : Place) (text : List ℕ) → Mirrors (crc_read place text) (crc_turn place text)

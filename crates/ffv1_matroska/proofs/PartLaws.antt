@@ -13,6 +13,7 @@ use Rattle.ffv1_ebml.specs.declared.element.Element.{Element}
 use Rattle.ffv1_ebml.specs.declared.sum.Sum.{Sum}
 use Rattle.ffv1_ebml.specs.declared.sum.Sum.TheVariants.{Absent, Begins, Awaits}
 use Rattle.ffv1_ebml.proofs.ContentTold.{content_good}
+use Rattle.ffv1_matroska.specs.WrittenIdents.{timestamp}
 use Rattle.ffv1_matroska.specs.Blocks.{passed_on}
 use Rattle.ffv1_matroska.specs.Elements.{ArePieces, AreSummed, Content, IsContent, IsLeaf, IsPiece, IsTopLevel, Leaf, Piece, Single, Group, Plain, Other, Own, TopLevel, content_frames, content_text, leaf_frames, leaf_text, leaves_text, piece_frames, piece_ident, piece_text, pieces_frames, pieces_text, top_text}
 use Rattle.ffv1_matroska.specs.Files.{frames_read}
@@ -202,13 +203,14 @@ pub record IsFillerOnly (n : ℕ) : Type 0 where
   pub no_block : (n == simple_block) ≡ false
   pub no_group : (n == block_group) ≡ false
   pub no_other : (n == cluster) ≡ false
+  pub no_time : (n == timestamp) ≡ false
   pub beside : (size : ℕ) → is_beside n size ≡ true
 
 pub filler_only : (n : ℕ) → is_filler n ≡ true → IsFillerOnly n
 unfolding is_section is_of_cluster is_beside is_filler
 filler_only n h = elim (filler_is n h) [
-  | inl same ↦ record { no_section = ap is_section same; no_cluster = ap is_of_cluster same; no_block = ap (λ k. k == simple_block) same; no_group = ap (λ k. k == block_group) same; no_other = ap (λ k. k == cluster) same; beside = λ size. ap (λ k. is_beside k size) same }
-  | inr same ↦ record { no_section = ap is_section same; no_cluster = ap is_of_cluster same; no_block = ap (λ k. k == simple_block) same; no_group = ap (λ k. k == block_group) same; no_other = ap (λ k. k == cluster) same; beside = λ size. ap (λ k. is_beside k size) same }
+  | inl same ↦ record { no_section = ap is_section same; no_cluster = ap is_of_cluster same; no_block = ap (λ k. k == simple_block) same; no_group = ap (λ k. k == block_group) same; no_other = ap (λ k. k == cluster) same; no_time = ap (λ k. k == timestamp) same; beside = λ size. ap (λ k. is_beside k size) same }
+  | inr same ↦ record { no_section = ap is_section same; no_cluster = ap is_of_cluster same; no_block = ap (λ k. k == simple_block) same; no_group = ap (λ k. k == block_group) same; no_other = ap (λ k. k == cluster) same; no_time = ap (λ k. k == timestamp) same; beside = λ size. ap (λ k. is_beside k size) same }
 ]
 
 section_is_none : (n m : ℕ) → is_section n ≡ true → is_section m ≡ false → n ≡ m → ⊥

@@ -14,7 +14,7 @@ use Rattle.ffv1_matroska.specs.Elements.{AreLeaves, ArePieces, Content, Plain, O
 use Rattle.ffv1_matroska.specs.Places.{cluster_at, group_at, is_sound}
 use Rattle.ffv1_matroska.specs.Segments.{block, block_group, block_sought, child_by, cluster_child, cluster_read, cluster_rest, group_child, group_read, group_rest, is_beside, known_child, simple_block, step_read, is_outside}
 use Rattle.ffv1_matroska.specs.declared.place.Place.{Place}
-use Rattle.ffv1_matroska.proofs.BlockLaws.{after_bytes, content_complete, content_read}
+use Rattle.ffv1_matroska.proofs.BlockLaws.{after_bytes, beside_kept, content_complete, content_read}
 use Rattle.ffv1_matroska.proofs.FrameTurns.{added, added_none, added_twice, run, run_on, run_turn, step_kept, turn_added, turn_read}
 use Rattle.ffv1_matroska.proofs.HeaderLaws.{IsHeader, header_complete, header_inside, header_of}
 use Rattle.ffv1_matroska.proofs.GroupTurns.{group_turn}
@@ -249,7 +249,7 @@ single_complete track base s l rest is apart stands sound = on_test (number_of l
     on_test : (b : Bool) → (number_of l.ident == simple_block) ≡ b →
         (cluster_child track (number_of l.ident) size now >>= step_kept) (content_text l.content ++ rest) ≡ Ok (Some (leaf_frames l, group_at base 0 (summed s (content_text l.content))), rest)
     on_test true t = let holds : IsContent track true l.content = rw (← t) is.holds in rw t (content_complete track true l.content now rest holds sound)
-    on_test false t = let holds : IsContent track false l.content = rw (← t) is.holds in let beside : is_beside (number_of l.ident) size ≡ true = rw t at stands in rw (t, apart, beside) (content_complete track false l.content now rest holds sound)
+    on_test false t = let holds : IsContent track false l.content = rw (← t) is.holds in let beside : is_beside (number_of l.ident) size ≡ true = rw t at stands in rw (t, apart, beside) (beside_kept (number_of l.ident) size now (content_text l.content ++ rest) ∙ content_complete track false l.content now rest holds sound)
 
 -- or any
 pub child_complete : (track : TrackNumbers) (base : Place) (s : Sum) (p : Piece) (rest : List ℕ) → IsPiece track p → is_sound (group_at base 0 (summed s (piece_content p))) ≡ true →

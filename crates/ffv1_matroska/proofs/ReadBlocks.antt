@@ -12,7 +12,7 @@ use Rattle.ffv1_ebml.specs.declared.element.Data.{Data}
 use Rattle.ffv1_ebml.specs.declared.sum.Sum.{Sum}
 use Rattle.ffv1_ebml.proofs.ElementLaws.{summed_twice}
 use Rattle.ffv1_ebml.proofs.VintLaws.{vint_sound}
-use Rattle.ffv1_matroska.specs.Blocks.{block_read, block_rest, fields_read, frame_judged, is_unknown, lacing_of, passed_on}
+use Rattle.ffv1_matroska.specs.Blocks.{block_read, block_rest, fields_read, frame_judged, is_unknown, lacing_of, passed_on, time_of}
 use Rattle.ffv1_matroska.specs.Elements.{Content, IsContent, IsOwn, Plain, Other, Own, content_frames, content_text}
 use Rattle.ffv1_matroska.specs.Places.{closed, frame_at, is_sound, step_to, summed_at}
 use Rattle.ffv1_matroska.specs.declared.place.Place.{Place}
@@ -97,24 +97,25 @@ record HasFields (left : ℕ) (place : Place) (text : List ℕ) (o : Option Step
   some : 0 < size
   short : size ≤ frame_limit
   fits : 3 + size ≡ left
-  step : o ≡ Some (frame_at size (after_bytes place (time ++ flags ∷ [])))
+  bits : ℕ
+  step : o ≡ Some (frame_at (Some bits) size (after_bytes place (time ++ flags ∷ [])))
 
-record IsFrame (flags size : ℕ) (place : Place) (text : List ℕ) (o : Option Step) (rest : List ℕ) : Type 0 where
+record IsFrame (bits flags size : ℕ) (place : Place) (text : List ℕ) (o : Option Step) (rest : List ℕ) : Type 0 where
   unlaced : lacing_of flags ≡ 0
   some : 0 < size
   short : size ≤ frame_limit
-  step : o ≡ Some (frame_at size place)
+  step : o ≡ Some (frame_at (Some bits) size place)
   text_is : text ≡ rest
 
-frame_sound : (flags size : ℕ) (place : Place) (text : List ℕ) (o : Option Step) (rest : List ℕ) → frame_judged flags size place text ≡ Ok (o, rest) → IsFrame flags size place text o rest
-frame_sound flags size place text o rest h = on_tests (lacing_of flags == 0) (nat_lt frame_limit size) (size == 0) refl refl refl h
+frame_sound : (bits flags size : ℕ) (place : Place) (text : List ℕ) (o : Option Step) (rest : List ℕ) → frame_judged bits flags size place text ≡ Ok (o, rest) → IsFrame bits flags size place text o rest
+frame_sound bits flags size place text o rest h = on_tests (lacing_of flags == 0) (nat_lt frame_limit size) (size == 0) refl refl refl h
   where
-    on_tests : (a b c : Bool) → (lacing_of flags == 0) ≡ a → nat_lt frame_limit size ≡ b → (size == 0) ≡ c → frame_judged flags size place text ≡ Ok (o, rest) → IsFrame flags size place text o rest
+    on_tests : (a b c : Bool) → (lacing_of flags == 0) ≡ a → nat_lt frame_limit size ≡ b → (size == 0) ≡ c → frame_judged bits flags size place text ≡ Ok (o, rest) → IsFrame bits flags size place text o rest
     on_tests false b c r s t h = absurd (err_is_no_ok (Met fault.Laced text) (o, rest) (rw r at h))
     on_tests true true c r s t h = absurd (err_is_no_ok (Met fault.ChunkTooLong text) (o, rest) (rw (r, s) at h))
     on_tests true false true r s t h = absurd (err_is_no_ok (Met fault.EmptyFrame text) (o, rest) (rw (r, s, t) at h))
     on_tests true false false r s t h =
-        let made : Option Step = Some (frame_at size place) in
+        let made : Option Step = Some (frame_at (Some bits) size place) in
         let same = ok_is (made, text) (o, rest) (rw (r, s, t) at h) in
         record { unlaced = eqb-true _ _ r; some = omega (arith, eqb-false size 0 t); short = ltb-false _ _ s; step = ap (λ (z : Option Step × List ℕ). z.0) (sym same); text_is = ap (λ (z : Option Step × List ℕ). z.1) same }
 
@@ -133,16 +134,16 @@ fields_sound left place text o rest h = on_test (nat_lt left 3) refl h
     on_test true t h = absurd (err_is_no_ok (Met fault.Truncated text) (o, rest) (rw t at h))
     on_test false t h =
         let enough : 3 ≤ left = ltb-false _ _ t in
-        let whole : (taken_summed 3 place.sum >>= λ p. frame_judged (slice_index p.0 2) (left - 3) (summed_at place p.1)) text ≡ Ok (o, rest) = rw t at h in
-        let first = read_on_ok (taken_summed 3 place.sum text) (λ p. frame_judged (slice_index p.0 2) (left - 3) (summed_at place p.1)) (o, rest) whole in
+        let whole : (taken_summed 3 place.sum >>= λ p. frame_judged (time_of p.0) (slice_index p.0 2) (left - 3) (summed_at place p.1)) text ≡ Ok (o, rest) = rw t at h in
+        let first = read_on_ok (taken_summed 3 place.sum text) (λ p. frame_judged (time_of p.0) (slice_index p.0 2) (left - 3) (summed_at place p.1)) (o, rest) whole in
         let second = read_on_ok {Y = List ℕ × Sum} (taken 3 text) (λ bytes. given (bytes, summed place.sum bytes)) first.0 first.1 in
         let parts = taken_sound 3 text second.0 second.1 in
         let bytes = second.0.0 in
         let same = ok_is ((bytes, summed place.sum bytes), second.0.1) first.0 second.2 in
-        let P : (List ℕ × Sum) × List ℕ → Type 0 = λ z. frame_judged (slice_index z.0.0 2) (left - 3) (summed_at place z.0.1) z.1 ≡ Ok (o, rest) in
+        let P : (List ℕ × Sum) × List ℕ → Type 0 = λ z. frame_judged (time_of z.0.0) (slice_index z.0.0 2) (left - 3) (summed_at place z.0.1) z.1 ≡ Ok (o, rest) in
         let three = three_parts bytes parts.1 in
-        let frame = frame_sound (slice_index bytes 2) (left - 3) (after_bytes place bytes) second.0.1 o rest (subst P (sym same) first.2) in
-        let Q : List ℕ → Type 0 = λ z. o ≡ Some (frame_at (left - 3) (after_bytes place z)) in
+        let frame = frame_sound (time_of bytes) (slice_index bytes 2) (left - 3) (after_bytes place bytes) second.0.1 o rest (subst P (sym same) first.2) in
+        let Q : List ℕ → Type 0 = λ z. o ≡ Some (frame_at (Some (time_of bytes)) (left - 3) (after_bytes place z)) in
         record {
           time = three.0;
           flags = three.1;
@@ -153,6 +154,7 @@ fields_sound left place text o rest h = on_test (nat_lt left 3) refl h
           some = frame.some;
           short = frame.short;
           fits = omega (arith, enough);
+          bits = time_of bytes;
           step = subst Q three.2 frame.step;
         }
 

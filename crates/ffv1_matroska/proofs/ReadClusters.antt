@@ -21,7 +21,7 @@ use Rattle.ffv1_matroska.specs.Places.{closed, cluster_at, cluster_entered, grou
 use Rattle.ffv1_matroska.specs.Segments.{block, block_group, block_sought, child_by, cluster_child, cluster_read, cluster_rest, crc_read, first_child, is_beside, is_filler, known_child, simple_block, step_read, is_outside}
 use Rattle.ffv1_matroska.specs.declared.place.Place.{Place}
 use Rattle.ffv1_matroska.specs.declared.place.Step.{Step}
-use Rattle.ffv1_matroska.proofs.BlockLaws.{content_read}
+use Rattle.ffv1_matroska.proofs.BlockLaws.{beside_kept, content_read}
 use Rattle.ffv1_matroska.proofs.FrameTurns.{Turn, step_kept, turn_read, turns_on}
 use Rattle.ffv1_matroska.proofs.GroupTurns.{sought_frames}
 use Rattle.ffv1_matroska.proofs.HeaderLaws.{HasHeader, header_sound}
@@ -133,7 +133,7 @@ child_sound track base s ident size number n text w is h = on_tests (number == s
     on_tests false false p q h = on_beside (is_beside number n) refl
       where
         on_beside : (d : Bool) → is_beside number n ≡ d → HasChild track base s ident size n text w
-        on_beside true r = single_sound track base s ident size number n text w false is p q (rw (p, r) refl) (rw (p, q, r) at h)
+        on_beside true r = single_sound track base s ident size number n text w false is p q (rw (p, r) refl) (ap (λ z. read_on z (turns_on track)) (sym (beside_kept number n (group_at base 0 s) text)) ∙ rw (p, q, r) at h)
         on_beside false r = absurd (cc (rw (p, q, r) at h))
 
 -- an element of a Cluster with its header

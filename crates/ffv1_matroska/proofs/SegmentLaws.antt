@@ -27,7 +27,7 @@ loose_child track n size m base h = on_test (is_of_cluster n) refl h
     no = of_cluster_apart n h
 
     passed : is_filler n ≡ true → other_read n size place ≡ cluster_child track n size place
-    passed f = let only = filler_only n f in rw (only.no_section, f, only.no_block, only.no_group, only.beside size) refl
+    passed f = let only = filler_only n f in rw (only.no_section, f, only.no_block, only.no_group, only.beside size, only.no_time) refl
 
     on_test : (b : Bool) → is_of_cluster n ≡ b → (b || is_filler n) ≡ true → segment_child track n place (Some size) ≡ cluster_child track n size place
     on_test true t h = rw (no, t) refl

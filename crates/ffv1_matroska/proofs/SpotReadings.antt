@@ -94,7 +94,7 @@ pub tracks_takes : (size : Option ℕ) → Takes Any (bytes_of size) (λ _. 0) (
 unfolding tracks_read
 tracks_takes size = takes_then (content_kept size) _ (kept_takes size) (λ content _. told_takes (track_in content))
 
-section_takes : (found : Option Track) (ident : ℕ) (size : Option ℕ) → Takes Any (bytes_of size) (λ _. 0) (tracks_or_passed found ident size)
+pub section_takes : (found : Option Track) (ident : ℕ) (size : Option ℕ) → Takes Any (bytes_of size) (λ _. 0) (tracks_or_passed found ident size)
 section_takes None ident size =
     takes_if (ident == tracks) _ _ (λ _. takes_then (tracks_read size) _ (tracks_takes size) (λ track _. takes_given (Some track) tt refl))
     (λ _. takes_then (element_passed ident size) _ (passed_takes ident size) (λ _ _. takes_given None tt refl))

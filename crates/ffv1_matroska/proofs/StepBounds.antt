@@ -15,10 +15,11 @@ use Rattle.ffv1_ebml.specs.declared.element.Element.{Element}
 use Rattle.ffv1_ebml.specs.declared.sum.Sum.{Sum}
 use Rattle.ffv1_ebml.specs.declared.sum.Sum.TheVariants.{Absent, Begins, Awaits}
 use Rattle.ffv1_ebml.proofs.VintLaws.{vint_sound}
-use Rattle.ffv1_matroska.specs.Blocks.{block_read, block_rest, fields_read, frame_judged, is_unknown, lacing_of, passed_on}
+use Rattle.ffv1_matroska.specs.WrittenIdents.{timestamp}
+use Rattle.ffv1_matroska.specs.Blocks.{block_read, block_rest, fields_read, frame_judged, is_unknown, lacing_of, passed_on, time_of}
 use Rattle.ffv1_matroska.specs.Internal.{bytes_of}
-use Rattle.ffv1_matroska.specs.Places.{amount, closed, cluster_at, cluster_entered, frame_at, group_at, is_sound, segment_at, step_to, summed_at}
-use Rattle.ffv1_matroska.specs.Segments.{block, block_group, child_by, cluster, cluster_child, cluster_read, cluster_rest, crc_read, first_child, group_child, group_read, group_rest, header_read, is_filler, is_of_cluster, is_section, known_child, other_read, segment_child, segment_read, segment_rest, simple_block, step_read, is_outside}
+use Rattle.ffv1_matroska.specs.Places.{amount, closed, cluster_at, cluster_entered, frame_at, group_at, is_sound, segment_at, step_to, summed_at, timed_to}
+use Rattle.ffv1_matroska.specs.Segments.{beside_read, block, block_group, child_by, cluster, cluster_child, cluster_read, cluster_rest, crc_read, first_child, group_child, group_read, group_rest, header_read, is_filler, is_of_cluster, is_outside, is_section, known_child, other_read, segment_child, segment_read, segment_rest, simple_block, step_read, timestamp_read}
 use Rattle.ffv1_matroska.specs.declared.place.Place.{Place}
 use Rattle.ffv1_matroska.specs.declared.place.Step.{Step}
 use Rattle.ffv1_reads.specs.Head.{frame_limit}
@@ -97,6 +98,13 @@ passed_within : (size : ℕ) (place : Place) → Gives (Within (amount place)) (
 unfolding passed_on
 passed_within size place = gives_any (Within (amount place)) (passed_summed size place.sum) _ (λ sum. closed_within (amount place) (Some (step_to (summed_at place sum))) (summed_at place sum) (omega arith))
 
+timestamp_within : (size : ℕ) (place : Place) → Gives (Within (amount place)) (timestamp_read size place)
+unfolding timestamp_read
+timestamp_within size place = gives_any {X = List ℕ × Sum} (Within (amount place)) (taken_summed size place.sum) _ (λ p. closed_within (amount place) (Some (timed_to (number_of p.0) (summed_at place p.1))) (summed_at place p.1) (omega arith))
+
+beside_within : (ident size : ℕ) (place : Place) → Gives (Within (amount place)) (beside_read ident size place)
+beside_within ident size place = gives_if (Within (amount place)) (ident == timestamp) (timestamp_read size place) (passed_on size place) (timestamp_within size place) (passed_within size place)
+
 pub block_within : (track : TrackNumbers) (size : ℕ) (place : Place) → Gives (Within (amount place)) (block_read track size place)
 unfolding block_read fields_read
 block_within track size place = gives_any {X = Data × Sum} P (data_read size place.sum) (block_rest track place) (λ p. gives_if P (p.0.value == track.number) (fields_read p.0.left (summed_at place p.1)) _ (fields p.0.left p.1) (gives_if P (is_unknown track.known p.0.value) (refused fault.BadElement) (passed_on p.0.left (summed_at place p.1)) (gives_refused P fault.BadElement) (passed_within p.0.left (summed_at place p.1))))
@@ -104,17 +112,17 @@ block_within track size place = gives_any {X = Data × Sum} P (data_read size pl
     P : Option Step → Type 0
     P = Within (amount place)
 
-    judged : (flags size : ℕ) (s : Sum) → Gives P (frame_judged flags size (summed_at place s))
-    judged flags size s =
+    judged : (time flags size : ℕ) (s : Sum) → Gives P (frame_judged time flags size (summed_at place s))
+    judged time flags size s =
         gives_if P (lacing_of flags == 0) _ (refused fault.Laced)
         (gives_if P (nat_lt frame_limit size) (refused fault.ChunkTooLong) _ (gives_refused P fault.ChunkTooLong)
-        (gives_if P (size == 0) (refused fault.EmptyFrame) _ (gives_refused P fault.EmptyFrame) (gives_given P (Some (frame_at size (summed_at place s))) (omega arith))))
+        (gives_if P (size == 0) (refused fault.EmptyFrame) _ (gives_refused P fault.EmptyFrame) (gives_given P (Some (frame_at (Some time) size (summed_at place s))) (omega arith))))
         (gives_refused P fault.Laced)
 
     fields : (left : ℕ) (s : Sum) → Gives P (fields_read left (summed_at place s))
     fields left s =
         gives_if P (nat_lt left 3) (refused fault.Truncated) _ (gives_refused P fault.Truncated)
-        (gives_any P (taken_summed 3 s) (λ p. frame_judged (slice_index p.0 2) (left - 3) (summed_at (summed_at place s) p.1)) (λ p. judged (slice_index p.0 2) (left - 3) p.1))
+        (gives_any P (taken_summed 3 s) (λ p. frame_judged (time_of p.0) (slice_index p.0 2) (left - 3) (summed_at (summed_at place s) p.1)) (λ p. judged (time_of p.0) (slice_index p.0 2) (left - 3) p.1))
 
 within_less : (n m : ℕ) (r : Reading (Option Step)) → n < m → Gives (Within n) r → Gives (Lessens m) r
 within_less n m r less h = record { only = λ text rest x is. on_step x (h.only text rest x is) }
@@ -157,7 +165,7 @@ unfolding cluster_child
 child_within track ident size n place none fits =
     gives_if P (ident == simple_block) (block_read track size place) _ (wider (block_read track size place) (block_within track size place))
     (gives_if P (ident == block_group) _ _ (sought_within size track n (group_at place size place.sum) (omega (arith, none, fits)))
-    (gives_if P (is_beside ident size) (passed_on size place) _ (wider (passed_on size place) (passed_within size place)) (gives_refused P fault.BadElement)))
+    (gives_if P (is_beside ident size) (beside_read ident size place) _ (wider (beside_read ident size place) (beside_within ident size place)) (gives_refused P fault.BadElement)))
   where
     P : Option Step → Type 0
     P = Within n

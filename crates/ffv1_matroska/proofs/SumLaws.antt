@@ -22,7 +22,7 @@ use Rattle.ffv1_matroska.specs.Files.{frame_read}
 use Rattle.ffv1_matroska.specs.Places.{cluster_at, cluster_entered, segment_at, group_at, is_sound}
 use Rattle.ffv1_matroska.specs.Segments.{block_group, child_by, cluster_child, first_child, simple_block}
 use Rattle.ffv1_matroska.specs.declared.place.Place.{Place}
-use Rattle.ffv1_matroska.proofs.BlockLaws.{content_read}
+use Rattle.ffv1_matroska.proofs.BlockLaws.{beside_kept, content_read}
 use Rattle.ffv1_matroska.proofs.Fronts.{none_left, split_front}
 use Rattle.ffv1_matroska.proofs.FrameTurns.{Turn, frame_turn, next_on, step_kept, turn_read}
 use Rattle.ffv1_matroska.proofs.PieceLaws.{IsPast, by_past, known_header, past_summed}
@@ -137,7 +137,7 @@ child_takes track number n base x text o rest h = on_tests (number == simple_blo
     on_tests false false p q h = on_beside (is_beside number n) refl
       where
         on_beside : (d : Bool) → is_beside number n ≡ d → TakesAfter base x n text o rest
-        on_beside true r = single false (rw (p, q, r) at h)
+        on_beside true r = single false (sym (beside_kept number n (group_at base 0 x) text) ∙ rw (p, q, r) at h)
         on_beside false r = absurd (cc (rw (p, q, r) at h))
 
 takes_cluster : (track : TrackNumbers) (place : Place) (text : List ℕ) (o : Turn) (rest : List ℕ) → place.group ≡ 0 → 0 < place.cluster → IsPast place.sum → turn_read track place text ≡ Ok (o, rest) → Takes place text o rest

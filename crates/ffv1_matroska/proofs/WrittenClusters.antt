@@ -85,30 +85,30 @@ block_is = inl (omega arith, omega arith)
 cluster_is : IsIdent cluster
 cluster_is = inr (inr (inr (omega arith, omega arith)))
 
--- the number of the one track, and the numbers of all
-abbrev pub written_numbers : TrackNumbers
-written_numbers = record { number = 1; known = 2; others = 0 }
+-- the number of the one track, and the numbers of all; and how long a frame lasts
+abbrev pub written_numbers : ℕ → TrackNumbers
+written_numbers duration = record { number = 1; known = 2; others = 0; duration = duration }
 
 one_is : IsVint (129 ∷ [])
 unfolding length_of
 one_is = (omega arith, refl)
 
-own_leaf : (frame : List ℕ) → 0 < length frame → length frame ≤ frame_limit → IsLeaf simple_block written_numbers (block_leaf frame)
-own_leaf frame some few =
+own_leaf : (duration : ℕ) (frame : List ℕ) → 0 < length frame → length frame ≤ frame_limit → IsLeaf simple_block (written_numbers duration) (block_leaf frame)
+own_leaf duration frame some few =
     let p = ident_spelled simple_block block_is in
-    let own : IsOwn written_numbers (129 ∷ []) (0 ∷ 0 ∷ []) 128 frame = record { own = (one_is, omega arith, refl); timed = refl; unlaced = refl; some = some; short = few } in
+    let own : IsOwn (written_numbers duration) (129 ∷ []) (0 ∷ 0 ∷ []) 128 frame = record { own = (one_is, omega arith, refl); timed = refl; unlaced = refl; some = some; short = few } in
     let long_enough : length (block_header ++ frame) < 2 ^ 56 - 1 = omega (arith, length-append block_header frame, few) in
     record { named = p.is; few = p.few; sized = long_spelled (length (block_header ++ frame)) long_enough; holds = (rw p.number refl, own) }
 
-pieces_are : (number : ℕ) (frame : List ℕ) → 0 < length frame → length frame ≤ frame_limit → ArePieces written_numbers (pieces_of number frame)
-pieces_are number frame some few =
+pieces_are : (duration number : ℕ) (frame : List ℕ) → 0 < length frame → length frame ≤ frame_limit → ArePieces (written_numbers duration) (pieces_of number frame)
+pieces_are duration number frame some few =
     let low = bytes_low_first 0 4 (crc_of (cluster_content number frame)) in
-    let crc = plain_leaf crc_ident simple_block (short 4) low crc_is_ident (λ same. omega (arith, same)) (short_spelled 4 (omega arith)) written_numbers in
-    let time = plain_leaf timestamp simple_block (short 8) (bytes_high_first 8 number) time_is (λ same. omega (arith, same)) (rw (length_high 8 number) (short_spelled 8 (omega arith))) written_numbers in (
+    let crc = plain_leaf crc_ident simple_block (short 4) low crc_is_ident (λ same. omega (arith, same)) (short_spelled 4 (omega arith)) (written_numbers duration) in
+    let time = plain_leaf timestamp simple_block (short 8) (bytes_high_first 8 number) time_is (λ same. omega (arith, same)) (rw (length_high 8 number) (short_spelled 8 (omega arith))) (written_numbers duration) in (
       (crc, not_group crc_ident crc_is_ident (λ same. omega (arith, same)), stands crc_ident (length low) crc_is_ident (crc_may (length low))),
       (
         (time, not_group timestamp time_is (λ same. omega (arith, same)), stands timestamp (length (bytes_high_first 8 number)) time_is (time_may (length (bytes_high_first 8 number)) (length_high 8 number))),
-        ((own_leaf frame some few, not_group simple_block block_is (λ same. omega (arith, same)), stands simple_block (length (content_text (block_leaf frame).content)) block_is (block_may (length (content_text (block_leaf frame).content)))), tt),
+        ((own_leaf duration frame some few, not_group simple_block block_is (λ same. omega (arith, same)), stands simple_block (length (content_text (block_leaf frame).content)) block_is (block_may (length (content_text (block_leaf frame).content)))), tt),
       ),
     )
 
@@ -118,10 +118,10 @@ pieces_summed number frame bytes = λ _. crc_says (cluster_content number frame)
 abbrev pub cluster_part : ℕ → List ℕ → Part
 cluster_part number frame = Part.Sized (ident_bytes cluster) (long (length (checked (cluster_content number frame)))) (pieces_of number frame)
 
-part_is : (number : ℕ) (frame : List ℕ) → 0 < length frame → length frame ≤ frame_limit → AreBytes frame → length (checked (cluster_content number frame)) < 2 ^ 56 - 1 → IsPart written_numbers (cluster_part number frame)
-part_is number frame some few bytes short_enough =
+part_is : (duration number : ℕ) (frame : List ℕ) → 0 < length frame → length frame ≤ frame_limit → AreBytes frame → length (checked (cluster_content number frame)) < 2 ^ 56 - 1 → IsPart (written_numbers duration) (cluster_part number frame)
+part_is duration number frame some few bytes short_enough =
     let whole = whole_text number frame in
-    (says_ident cluster cluster_is, rw whole (long_spelled (length (checked (cluster_content number frame))) short_enough), pieces_are number frame some few, pieces_summed number frame bytes)
+    (says_ident cluster cluster_is, rw whole (long_spelled (length (checked (cluster_content number frame))) short_enough), pieces_are duration number frame some few, pieces_summed number frame bytes)
 
 part_is_text : (number : ℕ) (frame : List ℕ) → part_text (cluster_part number frame) ≡ cluster_element number frame
 unfolding cluster_element
@@ -157,8 +157,8 @@ content_short number frame few =
     let f = ident_most simple_block in
     omega (arith, checked_long (time ++ block), a, b, c, d, e, f, few)
 
-pub parts_are : (number : ℕ) (frames : List (List ℕ)) → AreWritten frames → AreParts written_numbers (cluster_parts number frames)
-parts_are number [] written = tt
-parts_are number (frame ∷ frames) written =
+pub parts_are : (duration number : ℕ) (frames : List (List ℕ)) → AreWritten frames → AreParts (written_numbers duration) (cluster_parts number frames)
+parts_are duration number [] written = tt
+parts_are duration number (frame ∷ frames) written =
     let one = written.0 in
-    (part_is number frame one.0 one.1 one.2 (content_short number frame one.1), parts_are (suc number) frames written.1)
+    (part_is duration number frame one.0 one.1 one.2 (content_short number frame one.1), parts_are duration (suc number) frames written.1)

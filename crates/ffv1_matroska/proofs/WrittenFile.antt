@@ -18,7 +18,7 @@ use Rattle.ffv1_matroska.specs.Tracks.{codec_private, entry}
 use Rattle.ffv1_matroska.specs.WrittenFiles.{IsWritable}
 use Rattle.ffv1_matroska.specs.WrittenIdents.{cues, ebml_version, info, max_id_length, max_size_length, seek_head, type_version}
 use Rattle.ffv1_matroska.specs.WrittenPlaces.{every, places_from, stride_of}
-use Rattle.ffv1_matroska.specs.Written.{begun_of, checked, crc_element, seek_element, void_element, clusters_from, cluster_element, cues_element, cues_from, cues_of, ebml_header, end_place, entry_element, entry_fields, finish_of, finished_of, first_place, info_content, long_element, open_of, opening, seeks, segment_size, short_element, to_clusters, tracks_element, private_content}
+use Rattle.ffv1_matroska.specs.Written.{begun_of, checked, crc_element, seek_element, void_element, clusters_from, cluster_element, cues_element, cues_from, cues_of, ebml_header, end_place, entry_element, entry_fields, finish_of, finished_of, frame_duration, first_place, info_content, long_element, open_of, opening, seeks, segment_size, short_element, to_clusters, tracks_element, private_content}
 use Rattle.ffv1_matroska.specs.declared.track_entry.TrackEntry.{TrackEntry}
 use Rattle.ffv1_matroska.specs.declared.write.opening.Finish.{Finish}
 use Rattle.ffv1_matroska.proofs.FileLaws.{file_complete}
@@ -140,7 +140,7 @@ entry_short head details few =
     let inner = entry_fields head details ++ long_element codec_private (private_content details.codec_id head) in
     omega (arith, checked_long (long_element entry inner), long_long entry inner, few)
 
-tracks_say : (head : Head) (details : TrackEntry) (frames : List (List ℕ)) → IsWritable head details frames → IsTracks (tracks_top head details) (record { numbers = written_numbers; head = head })
+tracks_say : (head : Head) (details : TrackEntry) (frames : List (List ℕ)) → IsWritable head details frames → IsTracks (tracks_top head details) (record { numbers = written_numbers (frame_duration head); head = head })
 tracks_say head details frames is =
     let p = ident_spelled tracks tracks_is in
     let few : length (checked (entry_element head details)) < 2 ^ 56 - 1 = let most = is.short in omega (arith, most) in
@@ -194,7 +194,7 @@ tracks_text head details = refl
 with_rest : (head : Head) (details : TrackEntry) (parts : List Part) (text : List ℕ) → parts_text parts ≡ text → tracks_element head details ++ text ≡ top_text (tracks_top head details) ++ (parts_text parts ++ [])
 with_rest head details parts text is = rw (tracks_text head details, append-nil (parts_text parts), is) refl
 
-pub file_with : (head : Head) (details : TrackEntry) (frames : List (List ℕ)) (finish : Option Finish) (size : Option ℕ) (parts : List Part) (text : List ℕ) → IsWritable head details frames → parts_text parts ≡ text → AreParts written_numbers parts → parts_frames parts ≡ frames →
+pub file_with : (head : Head) (details : TrackEntry) (frames : List (List ℕ)) (finish : Option Finish) (size : Option ℕ) (parts : List Part) (text : List ℕ) → IsWritable head details frames → parts_text parts ≡ text → AreParts (written_numbers (frame_duration head)) parts → parts_frames parts ≡ frames →
     SaysSize (segment_size finish) size → SegmentEnds size (148 + (length (tracks_element head details) + length text)) [] → MatroskaFile (opening head finish ++ (tracks_element head details ++ text)) head frames
 file_with head details frames finish size parts text is text_is are have says ends =
     let tops = tops_text (seek_top finish ∷ info_top head finish ∷ []) in
@@ -209,7 +209,7 @@ file_with head details frames finish size parts text is text_is are have says en
       size = size;
       before = seek_top finish ∷ info_top head finish ∷ [];
       tracks = tracks_top head details;
-      track = record { numbers = written_numbers; head = head };
+      track = record { numbers = written_numbers (frame_duration head); head = head };
       parts = parts;
       rest = [];
       begins = begins_at (opening head finish ++ after) (opening head finish ++ (tracks_element head details ++ text)) size (tops ++ after) (ap (λ z. opening head finish ++ z) (sym same)) begins;
@@ -233,7 +233,7 @@ pub record IsRead (file : List ℕ) (head : Head) (frames : List (List ℕ)) : T
   pub is : MatroskaFile file head frames
   pub read : file_read file ≡ Ok ((head, frames), [])
 
-read_with : (head : Head) (details : TrackEntry) (frames : List (List ℕ)) (finish : Option Finish) (size : Option ℕ) (parts : List Part) (text : List ℕ) → IsWritable head details frames → parts_text parts ≡ text → AreParts written_numbers parts → parts_frames parts ≡ frames →
+read_with : (head : Head) (details : TrackEntry) (frames : List (List ℕ)) (finish : Option Finish) (size : Option ℕ) (parts : List Part) (text : List ℕ) → IsWritable head details frames → parts_text parts ≡ text → AreParts (written_numbers (frame_duration head)) parts → parts_frames parts ≡ frames →
     SaysSize (segment_size finish) size → SegmentEnds size (148 + (length (tracks_element head details) + length text)) [] → IsRead (opening head finish ++ (tracks_element head details ++ text)) head frames
 unfolding file_with
 read_with head details frames finish size parts text is text_is are have says ends =
@@ -310,8 +310,8 @@ all_text head details frames = flat_map-append part_text (cluster_parts 0 frames
 all_have : (head : Head) (details : TrackEntry) (frames : List (List ℕ)) → parts_frames (all_parts head details frames) ≡ frames
 all_have head details frames = flat_map-append part_frames (cluster_parts 0 frames) (cues_part head details frames) ∙ append-nil (parts_frames (cluster_parts 0 frames)) ∙ parts_have 0 frames
 
-all_are : (head : Head) (details : TrackEntry) (frames : List (List ℕ)) → IsWritable head details frames → AreParts written_numbers (all_parts head details frames)
-all_are head details frames is = parts_join written_numbers (cluster_parts 0 frames) (cues_part head details frames) (parts_are 0 frames is.written) (cues_top_is (stride_of (length frames)) (kept head details frames) (kept_few head details frames is.near), tt)
+all_are : (head : Head) (details : TrackEntry) (frames : List (List ℕ)) → IsWritable head details frames → AreParts (written_numbers (frame_duration head)) (all_parts head details frames)
+all_are head details frames is = parts_join (written_numbers (frame_duration head)) (cluster_parts 0 frames) (cues_part head details frames) (parts_are (frame_duration head) 0 frames is.written) (cues_top_is (stride_of (length frames)) (kept head details frames) (kept_few head details frames is.near), tt)
 
 at_file : (xs ys : List ℕ) (head : Head) (frames : List (List ℕ)) → xs ≡ ys → IsRead xs head frames → IsRead ys head frames
 at_file xs ys head frames e h = let P : List ℕ → Type 0 = λ z. IsRead z head frames in subst P e h
@@ -343,7 +343,7 @@ begun_by : (head : Head) (details : TrackEntry) (frames : List (List ℕ)) → I
 begun_by head details frames is =
     let near = is.near in
     let less : 148 + (length (tracks_element head details) + length (clusters_from 0 frames)) < endless = omega (arith, near) in
-    at_file _ _ head frames (sym (append_assoc (opening head None) (tracks_element head details) (clusters_from 0 frames))) (read_with head details frames None None (cluster_parts 0 frames) (clusters_from 0 frames) is (parts_are_text 0 frames) (parts_are 0 frames is.written) (parts_have 0 frames) unknown_spelled (inr (less, refl)))
+    at_file _ _ head frames (sym (append_assoc (opening head None) (tracks_element head details) (clusters_from 0 frames))) (read_with head details frames None None (cluster_parts 0 frames) (clusters_from 0 frames) is (parts_are_text 0 frames) (parts_are (frame_duration head) 0 frames is.written) (parts_have 0 frames) unknown_spelled (inr (less, refl)))
 
 pub begun_file : (head : Head) (details : TrackEntry) (frames : List (List ℕ)) → 0 < length frames → IsWritable head details frames → IsRead (begun_of head details frames) head frames
 begun_file head details [] some is = absurd (omega (arith, some))

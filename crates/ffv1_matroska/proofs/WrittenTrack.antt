@@ -206,7 +206,7 @@ record_says codec.Vfw head content number picture short h =
     rw (h.kind, h.codec, h.config_is, is_format_back head) (ap (λ z. Ok (Some z)) (format_back head short))
 
 track_of_says : (id : CodecId) (content : List ℕ) (number : ℕ) (picture held config : List ℕ) (width height : ℕ) → Says id content number picture held → number_at pixel_width picture ≡ Ok width → number_at pixel_height picture ≡ Ok height →
-    track_of content config ≡ Ok (record { numbers = record { number = 1; known = 0; others = 0 }; head = record { width = min width greatest; height = min height greatest; rate = (rate_of number).rate; scale = (rate_of number).scale; colour = colour_in picture; config_record = config } })
+    track_of content config ≡ Ok (record { numbers = record { number = 1; known = 0; others = 0; duration = number }; head = record { width = min width greatest; height = min height greatest; rate = (rate_of number).rate; scale = (rate_of number).scale; colour = colour_in picture; config_record = config } })
 unfolding track_of
 track_of_says id content number picture held config width height h wide high = rw (h.plain, h.track, h.lasts, h.picture_is, wide, high) refl
 
@@ -220,14 +220,14 @@ head_says head picture wide high timed coloured =
     rw (a, b, c, d, coloured) refl
 
 entry_track : (head : Head) (details : TrackEntry) → head.width < 2 ^ 32 → head.height < 2 ^ 32 → IsColour head.colour → IsTimed (rate_in head) → frame_duration head < 2 ^ 64 → length (private_content details.codec_id head) < 2 ^ 56 - 1 → length head.config_record < 2 ^ 31 →
-    track_at entry (content_of_entry head details) ≡ Ok (Some (record { numbers = record { number = 1; known = 0; others = 0 }; head = head }))
+    track_at entry (content_of_entry head details) ≡ Ok (Some (record { numbers = record { number = 1; known = 0; others = 0; duration = frame_duration head }; head = head }))
 unfolding track_at
 entry_track head details wide high coloured timed fits short few =
     let says = entry_says head details fits short in
     let sizes = size_found head details wide high in
     let config = record_says details.codec_id head (content_of_entry head details) (frame_duration head) (video_content head details) few says in
     let track = track_of_says details.codec_id (content_of_entry head details) (frame_duration head) (video_content head details) (private_content details.codec_id head) head.config_record head.width head.height says sizes.0 sizes.1 in
-    rw (config, track) (ap (λ h. Ok (Some (record { numbers = record { number = 1; known = 0; others = 0 }; head = h }))) (head_says head (video_content head details) wide high timed (video_colour head details coloured)))
+    rw (config, track) (ap (λ h. Ok (Some (record { numbers = record { number = 1; known = 0; others = 0; duration = frame_duration head }; head = h }))) (head_says head (video_content head details) wide high timed (video_colour head details coloured)))
 
 -- and its number is the only one
 entry_known : (head : Head) (details : TrackEntry) → frame_duration head < 2 ^ 64 → length (private_content details.codec_id head) < 2 ^ 56 - 1 → known_with 0 entry (content_of_entry head details) ≡ Ok 2
@@ -252,13 +252,13 @@ duration_fits head rate scale = elim (cases_eq head.rate 0) [
 
 -- the content of Tracks
 pub track_says : (head : Head) (details : TrackEntry) → head.width < 2 ^ 32 → head.height < 2 ^ 32 → head.rate < 2 ^ 32 → head.scale < 2 ^ 32 → IsColour head.colour → IsTimed (rate_in head) → AreBytes head.config_record →
-    length (content_of_entry head details) < 2 ^ 31 → track_in (checked (entry_element head details)) ≡ Ok (record { numbers = written_numbers; head = head })
+    length (content_of_entry head details) < 2 ^ 31 → track_in (checked (entry_element head details)) ≡ Ok (record { numbers = written_numbers (frame_duration head); head = head })
 unfolding entry_element crc_element track_at first_part
 track_says head details wide high rate scale coloured timed bytes within =
     let inner = content_of_entry head details in
     let e = entry_element head details in
     let low = bytes_low_first 0 4 (crc_of e) in
-    let track : Track = record { numbers = record { number = 1; known = 0; others = 0 }; head = head } in
+    let track : Track = record { numbers = record { number = 1; known = 0; others = 0; duration = frame_duration head }; head = head } in
     let content = checked e in
     let first = part_spelled crc_ident (short 4) low e crc_is_ident (short_spelled 4 (omega arith)) in
     let next = track_next (length content) content (record { ident = crc_ident; content = low; rest = e }) first refl (omega arith) (part_less content (record { ident = crc_ident; content = low; rest = e }) first) in

@@ -1,12 +1,12 @@
 -- Blocks (RFC 9559, 5.1.3.4, 5.1.3.5.1 and 10): a track number, two bytes of time, flags, and a
 -- frame, if there is no lacing.
 use Rattle.std.specs.Prelude.{ℕ, ◌-◌, ◌/◌, ◌%◌, ◌^◌, ◌==◌, Bool, if◌then◌else◌, nat_le}
-use Rattle.std.specs.Prelude.{nat_lt, slice_index}
-use Rattle.std.specs.Prelude.{Option, Some}
+use Rattle.std.specs.Prelude.{nat_lt, slice_index, List, take, Option, Some}
 use Rattle.ffv1_reads.specs.Reads.{Reading, given, refused, ◌>>=◌}
 use Rattle.ffv1_reads.specs.declared.fault.FileFault.TheVariants as fault
 use Rattle.ffv1_ebml.specs.Elements.{data_read}
 use Rattle.ffv1_ebml.specs.Sums.{passed_summed, taken_summed}
+use Rattle.ffv1_ebml.specs.Vints.{number_of}
 use Rattle.ffv1_ebml.specs.declared.element.Data.{Data}
 use Rattle.ffv1_ebml.specs.declared.sum.Sum.{Sum}
 use Rattle.ffv1_matroska.specs.Places.{closed, frame_at, step_to, summed_at}
@@ -24,21 +24,25 @@ passed_on size place = passed_summed size place.sum >>= λ sum.
 abbrev pub lacing_of : ℕ → ℕ
 lacing_of flags = flags / 2 % 4
 
+-- the first two of these bytes, which are time, as a number of 16 bits (10.1, 10.2)
+abbrev pub time_of : List ℕ → ℕ
+time_of fields = number_of (take 2 fields)
+
 -- a frame's size is judged before its bytes are read
-abbrev pub frame_judged : ℕ → ℕ → Place → Reading (Option Step)
-frame_judged flags size place =
+abbrev pub frame_judged : ℕ → ℕ → ℕ → Place → Reading (Option Step)
+frame_judged time flags size place =
     if lacing_of flags == 0
     then (if nat_lt frame_limit size then refused fault.ChunkTooLong
     else if size == 0 then refused fault.EmptyFrame
-    else given (Some (frame_at size place)))
+    else given (Some (frame_at (Some time) size place)))
     else refused fault.Laced
 
--- after the track number: two bytes of time, which are not looked at, and flags
+-- after the track number: two bytes of time, which are told, and flags
 unfoldable pub fields_read : ℕ → Place → Reading (Option Step)
 fields_read left place =
     if nat_lt left 3 then refused fault.Truncated
     else (taken_summed 3 place.sum >>= λ p.
-    frame_judged (slice_index p.0 2) (left - 3) (summed_at place p.1))
+    frame_judged (time_of p.0) (slice_index p.0 2) (left - 3) (summed_at place p.1))
 
 -- the bit that stands for a track's number: the one that it counts up to 127; for all greater ones
 -- that of 0, which is the number of no track (5.1.4.1.1)

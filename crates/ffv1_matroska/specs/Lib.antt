@@ -13,7 +13,11 @@ pub mod Readers
 pub mod Internal
 pub mod Offsets
 pub mod Again
+pub mod Scales
+pub mod Carried
 pub mod Cues
+pub mod Times
+pub mod Seen
 pub mod WrittenIdents
 pub mod WrittenPlaces
 pub mod Written

@@ -159,7 +159,8 @@ FindsFrom track place p (Ok None) to = ⊤
 FindsFrom track place p (Ok (Some found)) to =
     (between : Option (List ℕ)) × (count : ℕ)
     × ReadsWhole (element_taken track) place p.old between to count
-    × Read (step_read track to) between p.new (Some (frame_at found.0 found.1))
+    × (time : Option ℕ)
+    × Read (step_read track to) between p.new (Some (frame_at time found.0 found.1))
 FindsFrom track place p (Err f) to =
     (count : ℕ) × StopsAfter (element_taken track) place p f to count
 

@@ -1,5 +1,6 @@
 -- Where a reader stands in a Segment (RFC 9559, 5.1).
-use Rattle.std.specs.Prelude.{ℕ, ◌+◌, ◌||◌, Bool, false, if◌then◌else◌, nat_lt, Some, None}
+use Rattle.std.specs.Prelude.{ℕ, ◌+◌, ◌||◌, Bool, false, if◌then◌else◌, nat_lt, Option, Some}
+use Rattle.std.specs.Prelude.{None}
 use Rattle.ffv1_reads.specs.Reads.{Reading, given, refused}
 use Rattle.ffv1_reads.specs.declared.fault.FileFault.TheVariants as fault
 use Rattle.ffv1_ebml.specs.Sums.{is_met}
@@ -70,10 +71,15 @@ summed_at place sum = group_at place place.group sum
 
 -- what was read on to: a position, before a frame of so many bytes or before the next element
 abbrev pub step_to : Place → Step
-step_to place = record { frame = None; place = place }
+step_to place = record { frame = None; time = None; place = place }
 
-abbrev pub frame_at : ℕ → Place → Step
-frame_at size place = record { frame = Some size; place = place }
+-- the next element, behind a Timestamp that says this
+abbrev pub timed_to : ℕ → Place → Step
+timed_to time place = record { frame = None; time = Some time; place = place }
+
+-- a frame, with what its block says of time
+abbrev pub frame_at : Option ℕ → ℕ → Place → Step
+frame_at time size place = record { frame = Some size; time = time; place = place }
 
 -- the Cluster has bytes left, or its CRC-32 is the sum
 abbrev pub is_sound : Place → Bool

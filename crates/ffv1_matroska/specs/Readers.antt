@@ -11,11 +11,13 @@ use Rattle.ffv1_matroska.specs.Opened.{Opened}
 use Rattle.ffv1_matroska.specs.Places.{amount, ended}
 use Rattle.ffv1_matroska.specs.Tracks.{Track}
 use Rattle.ffv1_matroska.specs.declared.place.Place.{Place}
+use Rattle.ffv1_matroska.specs.declared.times.Times.{Times}
 use Rattle.ffv1_matroska.specs.declared.track.TrackNumbers.{TrackNumbers}
 
 -- the track that is read, the size of the Segment, the place in that, the fault that it has met,
 -- for how many bytes its record has room, the bytes before that place, those before the end of the
--- Segment, and whether Cues came after the last Cluster before that place
+-- Segment, whether Cues came after the last Cluster before that place, and what is known there of
+-- when frames come
 pub record Standing : Type 0 where
   pub track : Track
   pub segment : Option ℕ
@@ -25,6 +27,7 @@ pub record Standing : Type 0 where
   pub offset : ℕ
   pub end : ℕ
   pub cued : Bool
+  pub times : Times
 
 -- what is known of its file, and where it stands
 abbrev pub opened_at : Standing → Opened

@@ -8,13 +8,15 @@ use Rattle.ffv1_reads.specs.declared.fault.FileFault.TheVariants as fault
 use Rattle.ffv1_sum.specs.Sum.{number_of as low_number, turned}
 use Rattle.ffv1_ebml.specs.Elements.{content_passed, crc_ident, element_in, element_read}
 use Rattle.ffv1_ebml.specs.Elements.{first_read, is_among, is_crc}
-use Rattle.ffv1_ebml.specs.Sums.{passed_summed}
+use Rattle.ffv1_ebml.specs.Sums.{passed_summed, taken_summed}
+use Rattle.ffv1_ebml.specs.Vints.{number_of}
 use Rattle.ffv1_ebml.specs.declared.element.Element.{Element}
 use Rattle.ffv1_ebml.specs.declared.sum.Sum.{Sum}
 use Rattle.ffv1_ebml.specs.declared.sum.Sum.TheVariants.{Absent, Begins, Awaits}
 use Rattle.ffv1_matroska.specs.Blocks.{block_read, passed_on}
 use Rattle.ffv1_matroska.specs.Places.{closed, cluster_at, cluster_entered, group_at, segment_at}
-use Rattle.ffv1_matroska.specs.Places.{step_to, summed_at}
+use Rattle.ffv1_matroska.specs.Places.{step_to, summed_at, timed_to}
+use Rattle.ffv1_matroska.specs.WrittenIdents.{timestamp}
 use Rattle.ffv1_matroska.specs.declared.place.Place.{Place}
 use Rattle.ffv1_matroska.specs.declared.place.Step.{Step}
 use Rattle.ffv1_matroska.specs.declared.track.TrackNumbers.{TrackNumbers}
@@ -90,6 +92,16 @@ is_beside ident size =
     if ident == 0xE7 || ident == 0xA7 || ident == 0xAB then nat_le size 8
     else ident == 0x5854 || ident == 0xAF || is_filler ident
 
+-- a Timestamp (5.1.3.1) is a number, which is told; all else that a Cluster has beside blocks is
+-- passed
+unfoldable pub timestamp_read : ℕ → Place → Reading (Option Step)
+timestamp_read size place = taken_summed size place.sum >>= λ p.
+    closed (Some (timed_to (number_of p.0) (summed_at place p.1))) (summed_at place p.1)
+
+abbrev pub beside_read : ℕ → ℕ → Place → Reading (Option Step)
+beside_read ident size place =
+    if ident == timestamp then timestamp_read size place else passed_on size place
+
 -- an element of a Cluster, of so many bytes, after its header, and a BlockGroup up to its first
 -- Block: any other may not stand there
 unfoldable pub cluster_child : TrackNumbers → ℕ → ℕ → Place → Reading (Option Step)
@@ -97,7 +109,7 @@ cluster_child track ident size place =
     if ident == simple_block then block_read track size place
     else if ident == block_group
     then block_sought size track (group_at place size place.sum)
-    else if is_beside ident size then passed_on size place
+    else if is_beside ident size then beside_read ident size place
     else refused fault.BadElement
 
 -- the CRC-32 of a Cluster: the sum of all that comes after it, low end first (RFC 8794, 11.3.1)

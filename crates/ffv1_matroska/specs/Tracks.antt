@@ -116,7 +116,7 @@ track_of content config = found content_encodings content >>? plain
     (number_at pixel_width picture >>? λ width.
     (number_at pixel_height picture >>? λ height.
     Ok (record {
-      numbers = record { number = number; known = 0; others = 0 };
+      numbers = record { number = number; known = 0; others = 0; duration = duration };
       head = record {
         width = min width greatest;
         height = min height greatest;
@@ -220,7 +220,12 @@ others_in content = videos_up_to (length content) 0 content - 1
 abbrev pub track_among : ℕ → ℕ → Track → Track
 track_among known others track =
     record {
-      numbers = record { number = track.numbers.number; known = known; others = others };
+      numbers = record {
+        number = track.numbers.number;
+        known = known;
+        others = others;
+        duration = track.numbers.duration;
+      };
       head = track.head;
     }
 

@@ -5,6 +5,7 @@ ghost use Rattle.std.specs.Vec.{vec_capacity};
 ghost use Rattle.ffv1_wire.specs.Passage.{passage};
 ghost use Rattle.ffv1_reads.specs.Ends.{AnswersOrFaults};
 ghost use Rattle.ffv1_reads.specs.First.{bytes_with, passage_with};
+ghost use Rattle.ffv1_reads.specs.Known.{Known};
 ghost use Rattle.ffv1_reads.specs.Reads.{Answers, Kept, wanted};
 ghost use Rattle.ffv1_reads.specs.Room.{HasRoom, RoomRead};
 ghost use Rattle.ffv1_reads.specs.declared.fault.FileFault.TheVariants as fault;
@@ -15,10 +16,12 @@ ghost use Rattle.ffv1_matroska.specs.Opened.{tracks_or_passed, tracks_read};
 ghost use Rattle.ffv1_matroska.specs.Opening.{content_kept};
 ghost use Rattle.ffv1_matroska.specs.Places.{ended};
 ghost use Rattle.ffv1_matroska.specs.Readers.{HasEnded};
+ghost use Rattle.ffv1_matroska.specs.Scales.{scale_from, scale_with, tick_in};
 ghost use Rattle.ffv1_matroska.specs.Tracks.{Track};
 ghost use Rattle.ffv1_matroska.specs.declared.place.Place.{Place};
 ghost use Rattle.ffv1_matroska.specs.declared.track.Numbers.{Numbers};
 
+use crate::info::pass_scaled;
 use crate::opening::{LIMIT, begin_segment, enter_segment, read_ebml};
 use crate::place::{Place, cluster_entered, ended, passed, segment_at};
 use crate::segment::{CLUSTER, is_filler, is_section, next_header};
@@ -163,11 +166,12 @@ pub(crate) fn pass_element<R: ByteIn>(
     Err(FileFault::BadElement)
 }
 
-/// Reads Tracks, if there were none yet, or passes an element.
+/// Reads Tracks, if there were none yet, or passes an element; of Info as `pass_scaled` does.
 fn visit<R: ByteIn, A: Allocator>(
     input: &mut R,
     found: Option<Numbers>,
     element: Element,
+    scale: &mut u64,
     content: &mut Vec<u8, A>,
     config: &mut Vec<u8, A>,
 ) -> Result<Option<Numbers>, FileFault>
@@ -178,12 +182,14 @@ fn visit<R: ByteIn, A: Allocator>(
         (vec_capacity config.old) (vec_capacity config.new)) }
     ensures kept { OnOk result (RoomRead (R.remaining input.old) (R.remaining input.new)
         (vec_capacity content.old) (vec_capacity content.new)) }
+    ensures scale { OnOk result (Known (R.remaining input.old) (R.remaining input.new)
+        (λ text rest. scale.new ≡ scale_with element.ident element.size scale.old text)) }
 {
     if found.is_none() && element.ident == TRACKS {
         let numbers = read_tracks(input, element.size, content, config)?;
         return Ok(Some(numbers));
     }
-    pass_element(input, element.ident, element.size)?;
+    pass_scaled(input, element.ident, element.size, scale)?;
     Ok(found)
 }
 
@@ -197,9 +203,10 @@ fn in_cluster(place: Place, size: Option<u64>) -> Place
     }
 }
 
-/// Reads the elements of a Segment from a position on, up to where its frames begin: what its track
-/// says, with the record in place of what the vector `config` has, and the place. If the track is
-/// `known`, with that record, Tracks are passed.
+/// Reads the elements of a Segment from a position on, `here`, up to where its frames begin: what
+/// its track says, with the record in place of what the vector `config` has, and the place. If the
+/// track is `known`, with that record, Tracks are passed. `scale` is how many nanoseconds a tick
+/// has, and changes with each Info.
 ///
 /// `NoTracks` if it is not known and no Tracks come before the first Cluster, or the end of the
 /// Segment; faults of the header of an element as of `next_header`, then as `read_tracks` and
@@ -208,24 +215,25 @@ fn in_cluster(place: Place, size: Option<u64>) -> Place
 pub(crate) fn read_beginning<R: ByteIn, A: Allocator>(
     input: &mut R,
     known: Option<Numbers>,
-    place: Place,
     here: &mut Place,
+    scale: &mut u64,
     content: &mut Vec<u8, A>,
     config: &mut Vec<u8, A>,
 ) -> Result<(Numbers, Place), FileFault>
     ensures answer { AnswersOrFaults fault.NoTracks (λ (p : Track × Place). p.1 ≡ ended)
         (λ (p : Numbers × Place). (track_kept p.0 config.new.items, p.1))
-        (begin_from (found_kept known config.old.items) place)
+        (begin_from (found_kept known config.old.items) here.old)
         (passage R.remaining R.failures input.old input.new) result }
     ensures grown { OnOk result (RoomRead (R.remaining input.old) (R.remaining input.new)
         (vec_capacity config.old) (vec_capacity config.new)) }
     ensures kept { OnOk result (RoomRead (R.remaining input.old) (R.remaining input.new)
         (vec_capacity content.old) (vec_capacity content.new)) }
-    ensures from { BeginsFrom (found_kept known config.old.items) place
+    ensures from { BeginsFrom (found_kept known config.old.items) here.old
         (passage R.remaining R.failures input.old input.new) config.new.items result here.new }
+    ensures scale { OnOk result (Known (R.remaining input.old) (R.remaining input.new)
+        (λ text rest. scale_from scale.old here.old text ≡ scale.new)) }
 {
     let mut found = known;
-    *here = place;
     while let Some(element) = next_header(input, *here)? {
         let after = segment_at(*here, false, element.left);
         if element.ident == CLUSTER {
@@ -235,7 +243,7 @@ pub(crate) fn read_beginning<R: ByteIn, A: Allocator>(
             *here = in_cluster(after, element.size);
             return Ok((numbers, *here));
         }
-        found = visit(input, found, element, content, config)?;
+        found = visit(input, found, element, scale, content, config)?;
         *here = after;
     }
     let Some(numbers) = found else {
@@ -246,7 +254,8 @@ pub(crate) fn read_beginning<R: ByteIn, A: Allocator>(
 
 /// Reads a file, whose first byte may have been read, up to where its frames begin: the size of its
 /// Segment, what its track says, with the record in place of what the vector `config` has, and the
-/// place. The room of both vectors grows by at most as many bytes as are read.
+/// place; and `tick`, how many nanoseconds a tick has, or 0 if that is not known. The room of both
+/// vectors grows by at most as many bytes as are read.
 #[tactic(auto, unfolding(crate::specs::Opened::open_read))]
 pub(crate) fn read_opening<R: ByteIn, A: Allocator>(
     first: Option<u8>,
@@ -254,6 +263,7 @@ pub(crate) fn read_opening<R: ByteIn, A: Allocator>(
     content: &mut Vec<u8, A>,
     config: &mut Vec<u8, A>,
     offset: &mut u64,
+    tick: &mut u64,
 ) -> Result<(Option<u64>, Numbers, Place), FileFault>
     ensures answer { AnswersOrFaults fault.NoTracks HasEnded
         (λ (p : Option ℕ × Numbers × Place). opened_kept p config.new.items) open_read
@@ -264,15 +274,18 @@ pub(crate) fn read_opening<R: ByteIn, A: Allocator>(
         (R.remaining input.new) (vec_capacity content.old) (vec_capacity content.new)) }
     ensures from { OpensFrom (passage_with first R.remaining R.failures input.old input.new)
         config.new.items result offset.new }
+    ensures tick { OnOk result (Known (bytes_with first (R.remaining input.old))
+        (R.remaining input.new) (λ text rest. tick.new ≡ tick_in text)) }
 {
     let mut after = 0;
     *offset = 0;
+    *tick = 0;
     read_ebml(first, input, content, &mut after)?;
     *offset = after;
     let size = enter_segment(input, offset)?;
     let begin = begin_segment(size);
     let mut here = begin;
-    let read = read_beginning(input, None, begin, &mut here, content, config);
+    let read = read_beginning(input, None, &mut here, tick, content, config);
     *offset = offset.saturating_add(passed(begin, here));
     let (numbers, place) = read?;
     Ok((size, numbers, place))

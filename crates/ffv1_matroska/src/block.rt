@@ -9,7 +9,7 @@ ghost use Rattle.ffv1_matroska.specs.declared.place.Step.{Step};
 
 use crate::place::{Place, Step, closed, summed_at};
 use crate::track::{TrackNumbers, is_unknown};
-use ffv1_ebml::{next_data, pass_summed, take_summed};
+use ffv1_ebml::{next_data, number_of, pass_summed, take_summed};
 use ffv1_reads::FileFault;
 use ffv1_wire::ByteIn;
 
@@ -66,6 +66,7 @@ fn read_fields<R: ByteIn>(input: &mut R, left: u64, place: Place) -> Result<Opti
     }
     Ok(Some(Step {
         frame: Some(size),
+        time: Some(number_of(&fields[..2])),
         place: summed_at(place, sum),
     }))
 }

@@ -7,14 +7,15 @@ ghost use Rattle.ffv1_wire.specs.Passage.{passage};
 ghost use Rattle.ffv1_matroska.specs.Files.{frame_found, frame_read};
 ghost use Rattle.ffv1_reads.specs.Ends.{AnswersOrNone};
 ghost use Rattle.ffv1_reads.specs.Room.{HasRoom};
-ghost use Rattle.ffv1_matroska.specs.Cues.{FindsCued, ReadsCued};
 ghost use Rattle.ffv1_matroska.specs.Offsets.{FindsFrom, ReadsFrom};
 ghost use Rattle.ffv1_matroska.specs.Places.{amount};
 ghost use Rattle.ffv1_matroska.specs.Readers.{Leaves, next_with};
+ghost use Rattle.ffv1_matroska.specs.Seen.{FindsSeen, ReadsSeen};
 ghost use Rattle.ffv1_matroska.specs.declared.place.Place.{Place};
 
 use crate::place::{Place, is_sound, summed_at};
 use crate::segment::step;
+use crate::times::{Seen, timed_by};
 use crate::track::TrackNumbers;
 use ffv1_ebml::fill_summed;
 use ffv1_reads::FileFault;
@@ -22,14 +23,14 @@ use ffv1_wire::ByteIn;
 use std::alloc::Allocator;
 
 /// The size of the next frame, and the place after it, except its sum; None at the end. `here` is
-/// then the place before its element, or before the one that was refused, or at the end; and `cued`
-/// is whether Cues came after the last Cluster.
+/// then the place before its element, or before the one that was refused, or at the end; and `seen`
+/// is what was seen up to the frame, or up to the end.
 fn find_frame<R: ByteIn>(
     input: &mut R,
     track: TrackNumbers,
     place: Place,
     here: &mut Place,
-    cued: &mut bool,
+    seen: &mut Seen,
 ) -> Result<Option<(u64, Place)>, FileFault>
     ensures answer { AnswersOrNone (λ (p : Option (ℕ × Place)). p) (frame_found track place)
         (passage R.remaining R.failures input.old input.new) result }
@@ -37,13 +38,16 @@ fn find_frame<R: ByteIn>(
     ensures less { IfOk result (λ o. IfSome o (λ p. amount p.1 < amount place)) }
     ensures from { FindsFrom track place (passage R.remaining R.failures input.old input.new) result
         here.new }
-    ensures cued { FindsCued track (place, cued.old)
-        (passage R.remaining R.failures input.old input.new) result (here.new, cued.new) }
+    ensures seen { FindsSeen track (place, seen.old)
+        (passage R.remaining R.failures input.old input.new) result (here.new, seen.new) }
 {
     *here = place;
-    let mut came = *cued;
+    let mut came = seen.cued;
     while let Some(next) = step(input, track, *here, &mut came)? {
-        *cued = came;
+        *seen = Seen {
+            cued: came,
+            times: timed_by(track.duration, next, seen.times),
+        };
         if let Some(size) = next.frame {
             return Ok(Some((size, next.place)));
         }
@@ -54,13 +58,13 @@ fn find_frame<R: ByteIn>(
 
 /// The next frame in place of what the vector has, and the place after it; None at the end. After a
 /// fault `here` is the place before the element that was refused, and at the end where that is.
-/// `cued` is whether Cues came after the last Cluster, if there is no fault.
+/// `seen` is what was seen up to the frame and with that, or up to the end, if there is no fault.
 pub(crate) fn read_frame<R: ByteIn, A: Allocator>(
     input: &mut R,
     track: TrackNumbers,
     place: Place,
     here: &mut Place,
-    cued: &mut bool,
+    seen: &mut Seen,
     frame: &mut Vec<u8, A>,
 ) -> Result<Option<Place>, FileFault>
     ensures answer { AnswersOrNone (λ (after : Option Place). next_with frame.new.items after)
@@ -74,11 +78,11 @@ pub(crate) fn read_frame<R: ByteIn, A: Allocator>(
         (length frame.new.items) result }
     ensures from { ReadsFrom track place (passage R.remaining R.failures input.old input.new) result
         here.new }
-    ensures cued { ReadsCued track (place, cued.old)
-        (passage R.remaining R.failures input.old input.new) result (here.new, cued.new) }
+    ensures seen { ReadsSeen track (place, seen.old)
+        (passage R.remaining R.failures input.old input.new) result (here.new, seen.new) }
 {
     frame.clear();
-    let Some((size, after)) = find_frame(input, track, place, here, cued)? else {
+    let Some((size, after)) = find_frame(input, track, place, here, seen)? else {
         return Ok(None);
     };
     let mut sum = after.sum;

@@ -6,6 +6,7 @@ ghost use Rattle.std.specs.Vec.{vec_capacity};
 ghost use Rattle.ffv1_wire.specs.Failures.{one_more};
 ghost use Rattle.ffv1_wire.specs.Passage.{between, passage};
 ghost use Rattle.ffv1_reads.specs.Ends.{AnswersOrFaults};
+ghost use Rattle.ffv1_reads.specs.Known.{Known};
 ghost use Rattle.ffv1_reads.specs.Reads.{Answers};
 ghost use Rattle.ffv1_reads.specs.Room.{RoomRead};
 ghost use Rattle.ffv1_reads.specs.declared.fault.FileFault.TheVariants as fault;
@@ -15,6 +16,7 @@ ghost use Rattle.ffv1_matroska.specs.Again.{SeeksFrom, TwiceFrom};
 ghost use Rattle.ffv1_matroska.specs.Internal.{opened_kept, track_kept};
 ghost use Rattle.ffv1_matroska.specs.Late.{passed_over, reopened, track_read, track_sought};
 ghost use Rattle.ffv1_matroska.specs.Readers.{HasEnded};
+ghost use Rattle.ffv1_matroska.specs.Scales.{tick_in};
 ghost use Rattle.ffv1_matroska.specs.Tracks.{Track};
 ghost use Rattle.ffv1_matroska.specs.declared.place.Place.{Place};
 ghost use Rattle.ffv1_matroska.specs.declared.track.Numbers.{Numbers};
@@ -135,7 +137,7 @@ fn find_track<R: ByteIn, A: Allocator>(
 ///
 /// Faults of what comes before the Segment as of `read_ebml` and `enter_segment`, then as
 /// `read_beginning`. `offset` is the number of bytes before where the frames begin, or before the
-/// element that was refused.
+/// element that was refused; `tick` is how many nanoseconds a tick has, or 0 if that is not known.
 #[tactic(auto, unfolding(crate::specs::Late::reopened))]
 fn reopen<R: ByteIn, A: Allocator>(
     input: &mut R,
@@ -143,6 +145,7 @@ fn reopen<R: ByteIn, A: Allocator>(
     content: &mut Vec<u8, A>,
     config: &mut Vec<u8, A>,
     offset: &mut u64,
+    tick: &mut u64,
 ) -> Result<(Option<u64>, Numbers, Place), FileFault>
     ensures answer { AnswersOrFaults fault.NoTracks HasEnded
         (λ (p : Option ℕ × Numbers × Place). opened_kept p config.new.items)
@@ -152,15 +155,18 @@ fn reopen<R: ByteIn, A: Allocator>(
         (vec_capacity config.old) (vec_capacity config.new)) }
     ensures from { ReopensFrom (passage R.remaining R.failures input.old input.new)
         config.new.items result offset.new }
+    ensures tick { OnOk result (Known (R.remaining input.old) (R.remaining input.new)
+        (λ text rest. tick.new ≡ tick_in text)) }
 {
     let mut after = 0;
     *offset = 0;
+    *tick = 0;
     read_ebml(None, input, content, &mut after)?;
     *offset = after;
     let size = enter_segment(input, offset)?;
     let begin = begin_segment(size);
     let mut here = begin;
-    let read = read_beginning(input, Some(known), begin, &mut here, content, config);
+    let read = read_beginning(input, Some(known), &mut here, tick, content, config);
     *offset = offset.saturating_add(passed(begin, here));
     let (numbers, place) = read?;
     Ok((size, numbers, place))
@@ -183,13 +189,15 @@ fn begin_again<R: AgainIn>(input: &mut R, start: &R::Start) -> Result<(), FileFa
 /// Reads a file from its beginning up to the end of its first Tracks, and then once more from there
 /// up to where the frames of their track begin, as `find_track` and `reopen` do: the size of its
 /// Segment, what the track says, with the record in place of what the vector `config` has, and the
-/// place. `Read` too if it can't be begun again, and then `offset` is 0.
+/// place; and `tick`, how many nanoseconds a tick has. `Read` too if it can't be begun again, and
+/// then `offset` is 0.
 pub(crate) fn read_twice<R: AgainIn, A: Allocator>(
     input: &mut R,
     start: &R::Start,
     content: &mut Vec<u8, A>,
     config: &mut Vec<u8, A>,
     offset: &mut u64,
+    tick: &mut u64,
 ) -> Result<(Option<u64>, Numbers, Place), FileFault>
     ensures answer { AnswersAgain
         (λ (p : Option ℕ × Numbers × Place). opened_kept p config.new.items)
@@ -199,12 +207,14 @@ pub(crate) fn read_twice<R: AgainIn, A: Allocator>(
         (vec_capacity config.old) (vec_capacity config.new)) }
     ensures from { TwiceFrom (between (R.whole start.now) (R.remaining input.new)
         (R.failures input.old) (R.failures input.new)) config.new.items result offset.new }
+    ensures tick { OnOk result (Known (R.whole start.now) (R.remaining input.new)
+        (λ text rest. tick.new ≡ tick_in text)) }
 {
     *offset = 0;
     begin_again(input, start)?;
     let known = find_track(input, content, config, offset)?;
     *offset = 0;
     begin_again(input, start)?;
-    let (segment, numbers, place) = reopen(input, known, content, config, offset)?;
+    let (segment, numbers, place) = reopen(input, known, content, config, offset, tick)?;
     Ok((segment, numbers, place))
 }

@@ -30,6 +30,9 @@ pub(crate) struct Place {
 pub(crate) struct Step {
     /// The size of a frame, if that comes next; None if an element does.
     pub(crate) frame: Option<u64>,
+    /// What was read of time: the 16 bits of the frame's block; or, if no frame comes next, the
+    /// Timestamp of the Cluster. None if nothing was.
+    pub(crate) time: Option<u64>,
     /// The place; after the frame, except its bytes that are still to be summed.
     pub(crate) place: Place,
 }
@@ -126,7 +129,11 @@ pub(crate) fn closed(place: Place) -> Result<Option<Step>, FileFault>
     if !is_sound(place) {
         return Err(FileFault::Checksum);
     }
-    Ok(Some(Step { frame: None, place }))
+    Ok(Some(Step {
+        frame: None,
+        time: None,
+        place,
+    }))
 }
 
 /// The bytes from one place to a later one, as one number of 8 bytes says them at most.

@@ -7,6 +7,7 @@ ghost use Rattle.ffv1_wire.specs.Passage.{between, passage};
 ghost use Rattle.ffv1_reads.specs.Ends.{AnswersOrEnds, AnswersOrFaults, AnswersOrNone};
 ghost use Rattle.ffv1_reads.specs.First.{bytes_with, passage_with};
 ghost use Rattle.ffv1_reads.specs.Head.{head_of};
+ghost use Rattle.ffv1_reads.specs.Known.{Known};
 ghost use Rattle.ffv1_reads.specs.Room.{HasRoom, RoomRead};
 ghost use Rattle.ffv1_reads.specs.declared.fault.FileFault.{FileFault};
 ghost use Rattle.ffv1_reads.specs.declared.fault.FileFault.TheVariants as fault;
@@ -23,6 +24,8 @@ ghost use Rattle.ffv1_matroska.specs.Readers.{EndsThere, HasEnded, Leaves, Stand
 ghost use Rattle.ffv1_matroska.specs.Readers.{is_frame_fault, is_open, is_opening_fault};
 ghost use Rattle.ffv1_matroska.specs.Readers.{next_of, segment_behind};
 ghost use Rattle.ffv1_matroska.specs.Readers.{opened_at};
+ghost use Rattle.ffv1_matroska.specs.Scales.{tick_in};
+ghost use Rattle.ffv1_matroska.specs.Times.{TimedAfter, times_begun};
 
 use crate::beginning::read_opening;
 use crate::course::{Course, Pending};
@@ -30,6 +33,7 @@ use crate::frames::read_frame;
 use crate::items::{Item, read_item};
 use crate::late::read_twice;
 use crate::place::{Place, ended, passed};
+use crate::times::{Seen, Times, times_begun};
 use crate::track::TrackNumbers;
 use ffv1_reads::{FileFault, FileHead, look_behind};
 use ffv1_wire::{AgainIn, ByteIn};
@@ -50,6 +54,7 @@ pub struct MatroskaReader<A: Allocator = Global> {
     offset: u64,
     end: u64,
     cued: bool,
+    times: Times,
 }
 
 impl<A: Allocator> Model for MatroskaReader<A> {
@@ -64,6 +69,7 @@ impl<A: Allocator> Model for MatroskaReader<A> {
       offset = r.offset;
       end = r.end;
       cued = r.cued;
+      times = r.times;
     } };
 }
 
@@ -118,15 +124,19 @@ impl<A: Allocator + Copy> MatroskaReader<A> {
             input.new) result offset.new }
         ensures end { IfOk result EndsThere }
         ensures uncued { IfOk result (λ r. r.cued ≡ false) }
+        ensures timed { IfOk result (λ r. Known (bytes_with first (R.remaining input.old))
+            (R.remaining input.new) (λ text rest. r.times ≡ times_begun (tick_in text))) }
     {
         let mut content = Vec::new(alloc);
         let mut config_record = Vec::new(alloc);
+        let mut tick = 0;
         let (segment, numbers, place) = read_opening(
             first,
             input,
             &mut content,
             &mut config_record,
             offset,
+            &mut tick,
         )?;
         Ok(MatroskaReader {
             head: FileHead {
@@ -144,6 +154,7 @@ impl<A: Allocator + Copy> MatroskaReader<A> {
             offset: *offset,
             end: offset.saturating_add(passed(place, ended())),
             cued: false,
+            times: times_begun(tick),
         })
     }
 }
@@ -175,15 +186,19 @@ impl<A: Allocator + Copy> MatroskaReader<A> {
             (R.failures input.old) (R.failures input.new)) result offset.new }
         ensures end { IfOk result EndsThere }
         ensures uncued { IfOk result (λ r. r.cued ≡ false) }
+        ensures timed { IfOk result (λ r. Known (R.whole start.now) (R.remaining input.new)
+            (λ text rest. r.times ≡ times_begun (tick_in text))) }
     {
         let mut content = Vec::new(alloc);
         let mut config_record = Vec::new(alloc);
+        let mut tick = 0;
         let (segment, numbers, place) = read_twice(
             input,
             start,
             &mut content,
             &mut config_record,
             offset,
+            &mut tick,
         )?;
         Ok(MatroskaReader {
             head: FileHead {
@@ -201,6 +216,7 @@ impl<A: Allocator + Copy> MatroskaReader<A> {
             offset: *offset,
             end: offset.saturating_add(passed(place, ended())),
             cued: false,
+            times: times_begun(tick),
         })
     }
 }
@@ -250,6 +266,21 @@ impl<A: Allocator> MatroskaReader<A> {
         ensures { result ≡ self.now.cued }
     {
         self.cued
+    }
+
+    /// The number of the first frame, of those before where the reader stands, that came too early
+    /// or too late for DefaultDuration; None if none did. The first frame has number 0. It is so if
+    /// frame i comes more than a tick and i nanoseconds away from where i durations lead to from
+    /// the first one, where its time is the Timestamp of its Cluster and the 16 bits of its block,
+    /// which are signed, as RFC 9559 says, 11.2. A tick has as many nanoseconds as TimestampScale
+    /// of Info says, before the first Cluster, or 1000000 if Info has none. Nothing is told if no
+    /// Info comes there, as where a program moved it to the end; where TimestampScale is not found
+    /// in the first element of Info nor in the 4096 bytes after that, and Info has more; nor if an
+    /// element before it can't be read, or if it or DefaultDuration is 0.
+    pub fn times(&self) -> Option<u64>
+        ensures { result ≡ self.now.times.off }
+    {
+        self.times.off
     }
 
     /// Whether nothing says that the Segment is whole, once `next_frame` has answered false: its
@@ -342,6 +373,8 @@ impl<A: Allocator> MatroskaReader<A> {
         ensures ends { EndsThere self.old → IfOk result (λ more. more ≡ true → EndsThere self.new) }
         ensures cued { self.old.fault ≡ None → CuedAfter self.old
             (passage R.remaining R.failures input.old input.new) result self.new }
+        ensures timed { self.old.fault ≡ None → TimedAfter self.old
+            (passage R.remaining R.failures input.old input.new) result self.new }
         ensures offset { self.old.fault ≡ None → OffsetAfter self.old
             (passage R.remaining R.failures input.old input.new) result self.new }
     {
@@ -354,17 +387,22 @@ impl<A: Allocator> MatroskaReader<A> {
             return Ok(false);
         }
         let mut here = self.place;
-        let mut cued = self.cued;
-        match read_frame(input, self.track, self.place, &mut here, &mut cued, frame) {
+        let mut seen = Seen {
+            cued: self.cued,
+            times: self.times,
+        };
+        match read_frame(input, self.track, self.place, &mut here, &mut seen, frame) {
             Ok(Some(place)) => {
                 self.offset = self.offset.saturating_add(passed(self.place, place));
                 self.place = place;
-                self.cued = cued;
+                self.cued = seen.cued;
+                self.times = seen.times;
                 Ok(true)
             }
             Ok(None) => {
                 self.place = ended();
-                self.cued = cued;
+                self.cued = seen.cued;
+                self.times = seen.times;
                 Ok(false)
             }
             Err(fault) => {

@@ -23,6 +23,7 @@ use crate::block::{pass_on, read_block};
 use crate::place::{
     Place, Step, closed, cluster_at, cluster_entered, group_at, segment_at, summed_at,
 };
+use crate::times::read_timestamp;
 use crate::track::TrackNumbers;
 use ffv1_ebml::{
     Element, Sum, first_element, next_element, next_element_in, pass_content, pass_summed,
@@ -39,6 +40,8 @@ pub(crate) const SIMPLE_BLOCK: u32 = 0xA3;
 pub(crate) const BLOCK_GROUP: u32 = 0xA0;
 
 pub(crate) const BLOCK: u32 = 0xA1;
+
+const TIMESTAMP: u32 = 0xE7;
 
 pub(crate) const CRC_32: u32 = 0xBF;
 
@@ -216,6 +219,9 @@ fn cluster_child<R: ByteIn>(
     if !is_beside(ident, size) {
         return Err(FileFault::BadElement);
     }
+    if ident == TIMESTAMP {
+        return read_timestamp(input, size, place);
+    }
     pass_on(input, size, place)
 }
 
@@ -328,6 +334,7 @@ pub(crate) fn pass_other<R: ByteIn>(
         pass_content(input, size)?;
         return Ok(Some(Step {
             frame: None,
+            time: None,
             place: segment_at(place, false, place.segment),
         }));
     }
@@ -359,6 +366,7 @@ fn sized_child<R: ByteIn>(
     if ident == CLUSTER {
         return Ok(Some(Step {
             frame: None,
+            time: None,
             place: cluster_entered(place, size),
         }));
     }
@@ -396,6 +404,7 @@ fn segment_child<R: ByteIn>(
             }
             Ok(Some(Step {
                 frame: None,
+                time: None,
                 place: segment_at(place, true, place.segment),
             }))
         }

@@ -38,7 +38,7 @@ const PIXEL_WIDTH: u32 = 0xB0;
 
 const PIXEL_HEIGHT: u32 = 0xBA;
 
-/// The numbers of tracks, by which blocks are told apart.
+/// The numbers of tracks, by which blocks are told apart, and what else reading goes by.
 #[derive(Clone, Copy)]
 pub(crate) struct TrackNumbers {
     /// The number of the track that is read.
@@ -48,6 +48,8 @@ pub(crate) struct TrackNumbers {
     pub(crate) known: u128,
     /// How many other tracks are FFV1 video, which are not read.
     pub(crate) others: u64,
+    /// How long a frame of the track lasts, in nanoseconds; 0 if that is not said.
+    pub(crate) duration: u64,
 }
 
 /// A track of FFV1 video: the number of its blocks, and what its head says.
@@ -171,7 +173,8 @@ fn track_of<'a>(content: &[u8], config_record: &'a [u8]) -> Result<Track<'a>, Fi
         return Err(FileFault::Encoded);
     }
     let number = number_at(content, TRACK_NUMBER)?;
-    let (rate, scale) = rate_of(number_at(content, DEFAULT_DURATION)?);
+    let duration = number_at(content, DEFAULT_DURATION)?;
+    let (rate, scale) = rate_of(duration);
     let video = content_at(content, VIDEO)?;
     let width = samples(number_at(video, PIXEL_WIDTH)?);
     let height = samples(number_at(video, PIXEL_HEIGHT)?);
@@ -180,6 +183,7 @@ fn track_of<'a>(content: &[u8], config_record: &'a [u8]) -> Result<Track<'a>, Fi
             number,
             known: 0,
             others: 0,
+            duration,
         },
         width,
         height,
@@ -354,6 +358,7 @@ pub(crate) fn read_track(content: &[u8]) -> Result<Track<'_>, FileFault>
             number: track.numbers.number,
             known: known_in(content),
             others: others_in(content),
+            duration: track.numbers.duration,
         },
         width: track.width,
         height: track.height,

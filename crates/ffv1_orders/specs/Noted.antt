@@ -9,7 +9,8 @@ use Rattle.ffv1_orders.specs.declared.refusal.Refusal.TheVariants as refusal
 -- anything is
 abbrev pub is_noted : Notes → Bool
 is_noted notes =
-    ((notes.is_open || nat_lt 0 notes.others) || nat_lt 0 notes.repeated) || is_some notes.after
+    (((notes.is_open || nat_lt 0 notes.others) || is_some notes.times) || nat_lt 0 notes.repeated)
+    || is_some notes.after
 
 -- what comes of what was done of a file, if a note is a fault or if it is none
 abbrev pub noted : Bool → Result Notes Refusal → Result Notes Refusal

@@ -11,7 +11,11 @@ use std::io;
 fn is_noted(notes: Notes) -> bool
     ensures { result ≡ is_noted notes }
 {
-    notes.is_open || notes.others > 0 || notes.repeated > 0 || notes.after.is_some()
+    notes.is_open
+        || notes.others > 0
+        || notes.times.is_some()
+        || notes.repeated > 0
+        || notes.after.is_some()
 }
 
 /// What comes of an order by what was done of its file: if that is done, what is noted of the file,
@@ -50,6 +54,9 @@ pub(crate) fn tell_notes(rt: &impl Eprint, path: Option<&str>, notes: Notes) -> 
     if notes.others > 0 {
         let others = notes.others;
         eprintln!(rt; "ffv1: {path}{colon}note 91 OtherVideo {others}")?;
+    }
+    if let Some(frame) = notes.times {
+        eprintln!(rt; "ffv1: {path}{colon}note 92 Times frame {frame}")?;
     }
     if notes.repeated > 0 {
         let repeated = notes.repeated;

@@ -11,7 +11,7 @@ use Rattle.ffv1_reads.specs.Known.{Known}
 use Rattle.ffv1_reads.specs.declared.fault.FileFault.TheVariants as file_fault
 use Rattle.ffv1_matroska.specs.CuedItems.{CuedBy}
 use Rattle.ffv1_matroska.specs.Items.{Given}
-use Rattle.ffv1_files.specs.Behind.{items_noted, notes_read}
+use Rattle.ffv1_files.specs.Behind.{items_noted, notes_read, notes_told}
 use Rattle.ffv1_files.specs.Files.{open_read}
 use Rattle.ffv1_files.specs.Items.{course_by, course_of}
 use Rattle.ffv1_files.specs.Offsets.{PlaceReached}
@@ -51,7 +51,7 @@ use Rattle.ffv1_unpack.proofs.SalvageLists.{counted_told, lines_more}
 -- what stands behind an AVI was looked at before
 avi_looked : (place : Place) (end : ℕ) (cued was : Bool) (after : Option ℕ) (repeated others : ℕ) (from : Place) (told : List JudgedItem) (notes : Notes) (left rest : List ℕ) → container_of place ≡ container.Avi → container_of from ≡ container.Avi → EndTold told notes end (notes_read place end cued after repeated others) left rest →
     EndTold told notes 0 (notes_read from 0 was after repeated others) left rest
-unfolding notes_read
+unfolding notes_read notes_told
 avi_looked (InAvi p) end cued was after repeated others (InAvi q) told notes left rest avi same (inl h) = inl h
 avi_looked (InAvi p) end cued was after repeated others (InAvi q) told notes left rest avi same (inr (is, none, met)) = absurd (cc (met))
 avi_looked (InAvi p) end cued was after repeated others (InMatroska size track q) told notes left rest avi same h = absurd (cc (same))
@@ -59,18 +59,18 @@ avi_looked (InMatroska size track p) end cued was after repeated others from tol
 
 -- how notes of an AVI are read
 lists_same : (place : Place) (end other : ℕ) (now : Bool) (after : Option ℕ) (repeated others : ℕ) (P : Looks) (left rest : List ℕ) → container_of place ≡ container.Avi → P (notes_read place end now after repeated others) left rest → P (notes_read place other now after repeated others) left rest
-unfolding notes_read
+unfolding notes_read notes_told
 lists_same (InAvi p) end other now after repeated others P left rest avi h = h
 lists_same (InMatroska size track p) end other now after repeated others P left rest avi h = absurd (cc (avi))
 
 lists_alike : (place from : Place) (end other : ℕ) (now was : Bool) (after : Option ℕ) (repeated others : ℕ) (P : Looks) (left rest : List ℕ) → container_of place ≡ container.Avi → container_of from ≡ container.Avi → P (notes_read place end now after repeated others) left rest → P (notes_read from other was after repeated others) left rest
-unfolding notes_read
+unfolding notes_read notes_told
 lists_alike (InAvi p) (InAvi q) end other now was after repeated others P left rest avi also h = h
 lists_alike (InAvi p) (InMatroska size track q) end other now was after repeated others P left rest avi also h = absurd (cc (also))
 lists_alike (InMatroska size track p) from end other now was after repeated others P left rest avi also h = absurd (cc (avi))
 
 lists_none : (place : Place) (end : ℕ) (now : Bool) (after : Option ℕ) (repeated others : ℕ) (left rest : List ℕ) → container_of place ≡ container.Avi → BeginsAnother (notes_read place end now after repeated others) left rest → ⊥
-unfolding notes_read
+unfolding notes_read notes_told
 lists_none (InAvi p) end now after repeated others left rest avi h = absurd (cc (h))
 lists_none (InMatroska size track p) end now after repeated others left rest avi h = absurd (cc (avi))
 

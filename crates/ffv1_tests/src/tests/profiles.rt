@@ -76,6 +76,7 @@ static AGAIN: &[u8] = b"RIFF\x18\0\0\0AVIXLIST\x0C\0\0\0movi00dc\0\0\0\0";
 const REPEATED: Notes = Notes {
     is_open: false,
     others: 0,
+    times: None,
     repeated: 1,
     after: None,
 };
@@ -101,6 +102,7 @@ fn what_stands_behind_is_looked_at(rt: HostRuntime) -> Result<(), Fail> {
     let noted = Notes {
         is_open: false,
         others: 0,
+        times: None,
         repeated: 0,
         after: Some(file.len().saturating_sub(3) as u64),
     };

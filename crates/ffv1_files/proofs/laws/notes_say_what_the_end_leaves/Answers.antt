@@ -1,5 +1,6 @@
 -- What is noted of a whole file says no more than its end does.
 use Rattle.ffv1_files.proofs.NotedLaws.{avi_bare, avi_others, avi_streams, segment_bare, segment_others}
+use Rattle.ffv1_files.proofs.NotedLaws.{avi_untimed, segment_times}
 use Rattle.ffv1_files.proofs.NotedLaws.{avi_repeated, segment_repeated, segment_tracks, segment_unknown}
 use Rattle.ffv1_files.proofs.laws.notes_say_what_the_end_leaves.Goals as goal
 
@@ -10,6 +11,8 @@ returns c = record {
   none = segment_repeated;
   streams = avi_streams;
   tracks = segment_tracks;
+  times = segment_times;
+  untimed = avi_untimed;
   others = avi_others;
   sized = segment_bare;
   behind = λ file rest notes is. segment_others file rest notes is

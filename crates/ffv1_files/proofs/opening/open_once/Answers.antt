@@ -18,7 +18,9 @@ use Rattle.ffv1_files.proofs.Locations.{matroska_stopped}
 use Rattle.ffv1_files.proofs.Openings.{avi_apart, avi_opens, avi_stops, matroska_late}
 use Rattle.ffv1_files.proofs.Openings.{matroska_opens, matroska_stops, none_short}
 use Rattle.ffv1_files.proofs.NotedStreams.{avi_streams, segment_streams}
+use Rattle.ffv1_files.proofs.NotedTimes.{lists_begin, segment_begins}
 use Rattle.ffv1_files.proofs.OpenedRooms.{room_with}
+use Rattle.ffv1_matroska.specs.Times.{times_begun}
 use Rattle.ffv1_files.proofs.opening.open_once.Goals as goal
 
 pub returns-in_default-clause-answer : goal.returns-in_default-clause-answer
@@ -152,3 +154,12 @@ pub returns-in-Ok-open_located-2-clause-streams : goal.returns-in-Ok-open_locate
 returns-in-Ok-open_located-2-clause-streams g c = avi_streams c.in-Ok.first _ _ _
     c.in-Ok-open_located-2.reader.others c.in-Ok-open_located-2.reader.place c.in-Ok.ensures.ok
     c.in-Ok-open_located-2.ensures.others
+
+pub returns-in-Ok-open_located-clause-times : goal.returns-in-Ok-open_located-clause-times
+returns-in-Ok-open_located-clause-times g c = segment_begins c.in-Ok.first _ _ _
+    c.in-Ok-open_located.reader.times c.in-Ok.ensures.ok c.in-Ok-open_located.ensures.timed
+
+pub returns-in-Ok-open_located-2-clause-times : goal.returns-in-Ok-open_located-2-clause-times
+returns-in-Ok-open_located-2-clause-times g c = lists_begin _ _ _
+    c.in-Ok-open_located-2.reader.place (times_begun 0)
+    (returns-in-Ok-open_located-2-clause-answer g c).1

@@ -42,6 +42,10 @@ returns-in-Ok-open_again-clause-streams g c =
     segment_streams _ _ _ 0 reader.segment reader.track.numbers reader.place
     (returns-in-Ok-open_again-clause-answer g c).1
 
+pub returns-in-Ok-open_again-clause-times : goal.returns-in-Ok-open_again-clause-times
+returns-in-Ok-open_again-clause-times g c = rw c.in-Some.ensures.there at
+    c.in-Ok-open_again.ensures.timed
+
 pub returns-clause-answer : goal.returns-clause-answer
 returns-clause-answer g c =
     let late : lacks_tracks c.in-Err.fault ≡ true = search rules in

@@ -13,6 +13,7 @@ use Rattle.ffv1_matroska.specs.Internal.{found_kept, track_kept}
 use Rattle.ffv1_matroska.specs.Opened.{begin_from, begin_up_to, element_or_begun, in_cluster}
 use Rattle.ffv1_matroska.specs.Opened.{tracks_or_passed}
 use Rattle.ffv1_matroska.specs.Places.{amount, ended, segment_at}
+use Rattle.ffv1_matroska.specs.Scales.{scale_from}
 use Rattle.ffv1_matroska.specs.Segments.{cluster, header_read}
 use Rattle.ffv1_matroska.specs.Tracks.{Track}
 use Rattle.ffv1_matroska.specs.declared.place.Place.{Place}
@@ -27,20 +28,23 @@ use Rattle.ffv1_matroska.proofs.SpotReadings.{cluster_refused as spot_refused}
 use Rattle.ffv1_matroska.proofs.SpotReadings.{end_refused as spots_end, entered_amount, header_left}
 use Rattle.ffv1_matroska.proofs.SpotReadings.{header_refused, opening_stops, section_refused}
 use Rattle.ffv1_matroska.proofs.SpotReadings.{spot_begins, spot_read}
+use Rattle.ffv1_matroska.proofs.ScaleWalks.{known_none, scale_ends, scale_goes, scale_stops}
 use Rattle.ffv1_matroska.proofs.beginning.read_beginning.Goals as goal
 
 pub loop-element-init : goal.loop-element-init
 loop-element-init g c = (
-  amount c.args.place,
+  amount c.args.here.now,
   omega arith,
-  goes_none (begin_from (found_kept c.args.known c.args.config.now.items) c.args.place)
+  goes_none (begin_from (found_kept c.args.known c.args.config.now.items) c.args.here.now)
       (g.R.ByteIn.remaining c.args.input.now) (g.R.ByteIn.failures c.args.input.now),
   room_none _ _,
   0,
   reads_none spot_taken
-      (InSegment (found_kept c.args.known c.args.config.now.items) c.args.place) _,
+      (InSegment (found_kept c.args.known c.args.config.now.items) c.args.here.now) _,
   λ flat. (flat, omega arith),
   room_none _ _,
+  known_none _ (λ text rest. scale_from c.args.scale.now c.args.here.now text
+      ≡ scale_from c.args.scale.now c.args.here.now rest) (λ text. refl),
 )
 
 pub returns-in_err-element-clause-answer : goal.returns-in_err-element-clause-answer
@@ -147,6 +151,8 @@ loop-element-preserved g c =
       room_then inv.7
           (room_then (room_or_none (header_read here) _ _ _ _ c.in_ok-element.ensures.answer.1)
           c.in_ok-found.ensures.kept),
+      rw f.2 at (scale_goes inv.0 _ _ here e other found now _ _ _ _ _ inv.8 header
+          c.in_ok-found.ensures.answer.1 c.in_ok-found.ensures.scale),
     )
 
 pub returns-in_default-found-2-clause-answer : goal.returns-in_default-found-2-clause-answer
@@ -283,3 +289,20 @@ returns-clause-from g c =
       ),
       λ flat. (inv.6 flat).1,
     )
+
+pub returns-then-element-eq-CLUSTER-clause-scale : goal.returns-then-element-eq-CLUSTER-clause-scale
+returns-then-element-eq-CLUSTER-clause-scale g c =
+    let inv = c.loop-element.invariant in
+    let here = c.loop-element.here in
+    let e = c.in-Some.element in
+    let header = some_read (header_read here) _ _ e
+    (rw c.in-Some.is at c.in_ok-element.ensures.answer).1 in
+    let is : (e.ident == cluster) ≡ true = eq-eqb _ _
+    (omega (arith, c.if-element-eq-CLUSTER.true)) in
+    scale_stops inv.0 _ here _ _ _ _ inv.8 e is header
+
+pub returns-clause-scale : goal.returns-clause-scale
+returns-clause-scale g c =
+    let inv = c.loop-element.invariant in
+    let answer = rw c.in_default.is at c.in_ok-element.ensures.answer in
+    scale_ends inv.0 _ c.loop-element.here _ _ _ _ inv.8 answer.1

@@ -58,6 +58,6 @@ returns-clause-answer g c =
     (arith, c.if-fields-ne0.false) in
     let fits : c.args.left - 3 ≤ frame_limit = omega (arith, c.if-size-gt-FRAME_LIMIT.false) in
     let some : c.args.left - 3 ≡ 0 → ⊥ = λ z. omega (arith, z, c.if-size-eq0.false) in
-    rw c.summed_at.ensures (answers_ok (answers_most _ c.if-left-lt3.false
+    rw (c.summed_at.ensures, c.number_of.ensures.value) (answers_ok (answers_most _ c.if-left-lt3.false
     (answers_next _ c.in_ok-take_summed.ensures.answer (answers_equal _ plain
     (answers_most _ fits (answers_differ _ some answers_given))))))

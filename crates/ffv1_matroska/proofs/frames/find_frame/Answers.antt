@@ -10,8 +10,8 @@ use Rattle.ffv1_matroska.proofs.Steps.{fewer}
 use Rattle.ffv1_reads.proofs.EndReadings.{some_read}
 use Rattle.ffv1_reads.proofs.OffsetLaws.{reads_more, reads_none, stops_after}
 use Rattle.ffv1_matroska.specs.Offsets.{element_taken}
-use Rattle.ffv1_matroska.specs.Cues.{cued_taken}
-use Rattle.ffv1_matroska.proofs.CuedElements.{cued_read}
+use Rattle.ffv1_matroska.specs.Seen.{seen_taken}
+use Rattle.ffv1_matroska.proofs.SeenElements.{seen_found, seen_read, seen_step}
 use Rattle.ffv1_matroska.proofs.ElementReadings.{element_read, element_refused}
 use Rattle.ffv1_reads.proofs.EndReadings.{none_err}
 use Rattle.ffv1_matroska.proofs.frames.find_frame.Goals as goal
@@ -28,7 +28,7 @@ loop-next-init g c =
       reads_none (element_taken c.args.track) place _,
       refl,
       0,
-      reads_none (cued_taken c.args.track) (place, c.args.cued.now) _,
+      reads_none (seen_taken c.args.track) (place, c.args.seen.now) _,
     )
 
 pub returns-in_err-next-clause-answer : goal.returns-in_err-next-clause-answer
@@ -56,7 +56,9 @@ loop-next-preserved g c =
     let f = fewer inv.0 (amount s.place) (amount c.loop-next.here) inv.1 less in
     let read = element_read c.args.track c.loop-next.here s _ _ c.in_default-frame.is
     (some_read (step_read c.args.track c.loop-next.here) _ _ s
-    (rw c.in-Some.is at c.in_ok-next.ensures.answer).1) in (
+    (rw c.in-Some.is at c.in_ok-next.ensures.answer).1) in
+    let seen = seen_step c.args.track c.loop-next.here c.loop-next.seen _ s _ _ cued in
+    rw c.timed_by.ensures (
       f.0,
       f.1,
       omega (arith, less, inv.2),
@@ -65,7 +67,7 @@ loop-next-preserved g c =
       reads_more _ inv.5 read refl,
       refl,
       _,
-      reads_more _ inv.8 (cued_read c.args.track c.loop-next.here _ _ s _ _ c.in_default-frame.is cued)
+      reads_more _ inv.8 (seen_read c.args.track c.loop-next.here _ _ s _ _ c.in_default-frame.is seen)
           refl,
     )
 
@@ -97,19 +99,29 @@ returns-in-Some-frame-clause-from g c =
     let s = c.in-Some.next in
     let read = some_read (step_read c.args.track c.loop-next.here) _ _ s
     (rw c.in-Some.is at c.in_ok-next.ensures.answer).1 in
-    (_, inv.4, inv.5, rw c.in-Some-frame.is at read)
+    (_, inv.4, inv.5, s.time, rw c.in-Some-frame.is at read)
 
-pub returns-in_err-next-clause-cued : goal.returns-in_err-next-clause-cued
-returns-in_err-next-clause-cued g c =
+pub returns-in_err-next-clause-seen : goal.returns-in_err-next-clause-seen
+returns-in_err-next-clause-seen g c =
     let p = err_from_is_err_and c.from_residual.result c.from_residual.ensures.1 in rw (p.1) tt
 
-pub returns-in-Some-frame-clause-cued : goal.returns-in-Some-frame-clause-cued
-returns-in-Some-frame-clause-cued g c =
+pub returns-in-Some-frame-clause-seen : goal.returns-in-Some-frame-clause-seen
+returns-in-Some-frame-clause-seen g c =
     let inv = c.loop-next.invariant in
+    let s = c.in-Some.next in
     let cued = rw (c.in-Some.is, inv.6) at c.in_ok-next.ensures.cued in
-    (_, inv.7, c.loop-next.cued, inv.8, rw c.in-Some-frame.is at cued)
+    let seen = seen_step c.args.track c.loop-next.here c.loop-next.seen _ s _ _ cued in
+    rw c.timed_by.ensures (
+      _,
+      inv.7,
+      c.loop-next.seen,
+      s.time,
+      inv.8,
+      seen_found c.args.track _ _ s _ _ _
+          c.in-Some-frame.is seen,
+    )
 
-pub returns-clause-cued : goal.returns-clause-cued
-returns-clause-cued g c =
+pub returns-clause-seen : goal.returns-clause-seen
+returns-clause-seen g c =
     let inv = c.loop-next.invariant in
     (_, inv.7, inv.8, (rw c.in_default.is at c.in_ok-next.ensures.answer).1)

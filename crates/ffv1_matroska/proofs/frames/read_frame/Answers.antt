@@ -13,7 +13,7 @@ use Rattle.ffv1_reads.proofs.EndReadings.{none_ends, none_given, none_read, none
 use Rattle.ffv1_reads.proofs.EndReadings.{none_refused_end, some_read}
 use Rattle.ffv1_matroska.proofs.FoundFrames.{begins_all, leaves_begun}
 use Rattle.ffv1_reads.proofs.OffsetLaws.{reads_more, stops_after}
-use Rattle.ffv1_matroska.proofs.CuedElements.{cued_whole}
+use Rattle.ffv1_matroska.proofs.SeenElements.{seen_whole}
 use Rattle.ffv1_matroska.proofs.ElementReadings.{frame_differs, frame_refused, frame_whole}
 use Rattle.ffv1_reads.proofs.EndReadings.{none_err}
 use Rattle.ffv1_matroska.proofs.frames.read_frame.Goals as goal
@@ -119,9 +119,9 @@ returns-in_err-fill_summed-clause-from g c =
     rw (p.1, p.2) (
       from.1,
       stops_after _ f same from.2
-          (frame_refused c.args.track c.find_frame.new.here c.in-Some.after c.in-Some.size _ _ _ _ _
-          f
-          from.3 c.in_err-fill_summed.ensures.answer),
+          (frame_refused c.args.track c.find_frame.new.here c.in-Some.after from.3 c.in-Some.size _ _ _ _
+          _ f
+          from.4 c.in_err-fill_summed.ensures.answer),
     )
 
 pub returns-then-not-is_sound-clause-from : goal.returns-then-not-is_sound-clause-from
@@ -134,8 +134,8 @@ returns-then-not-is_sound-clause-from g c =
     (sym c.is_sound.ensures ∙ c.if-not-is_sound.true) in (
       from.1,
       stops_after _ fault.Checksum same from.2
-          (frame_differs c.args.track c.find_frame.new.here after c.in-Some.size _ _ _ _ _
-          (c.fill_summed.new.bytes.items, sum) differs from.3 c.in_ok-fill_summed.ensures.answer),
+          (frame_differs c.args.track c.find_frame.new.here after from.3 c.in-Some.size _ _ _ _ _
+          (c.fill_summed.new.bytes.items, sum) differs from.4 c.in_ok-fill_summed.ensures.answer),
     )
 
 pub returns-clause-from : goal.returns-clause-from
@@ -145,30 +145,30 @@ returns-clause-from g c =
     let from = rw c.in-Some.is at c.in_ok-size.ensures.from in
     let sound : is_sound (summed_at after sum) ≡ true = rw c.summed_at-last.ensures at
     (sym c.is_sound.ensures ∙ c.if-not-is_sound.false) in
-    let read = frame_whole c.args.track c.find_frame.new.here after c.in-Some.size _ _ _ _ _
-    (c.fill_summed.new.bytes.items, sum) sound from.3 c.in_ok-fill_summed.ensures.answer in
+    let read = frame_whole c.args.track c.find_frame.new.here after from.3 c.in-Some.size _ _ _ _ _
+    (c.fill_summed.new.bytes.items, sum) sound from.4 c.in_ok-fill_summed.ensures.answer in
     rw c.summed_at-last.ensures (_, reads_more _ from.2 read refl)
 
-pub returns-in_err-size-clause-cued : goal.returns-in_err-size-clause-cued
-returns-in_err-size-clause-cued g c =
+pub returns-in_err-size-clause-seen : goal.returns-in_err-size-clause-seen
+returns-in_err-size-clause-seen g c =
     let p = err_from_is_err_and c.from_residual.result c.from_residual.ensures.1 in rw (p.1) tt
 
-pub returns-in_default-clause-cued : goal.returns-in_default-clause-cued
-returns-in_default-clause-cued g c = rw c.in_default.is at c.in_ok-size.ensures.cued
+pub returns-in_default-clause-seen : goal.returns-in_default-clause-seen
+returns-in_default-clause-seen g c = rw c.in_default.is at c.in_ok-size.ensures.seen
 
-pub returns-in_err-fill_summed-clause-cued : goal.returns-in_err-fill_summed-clause-cued
-returns-in_err-fill_summed-clause-cued g c =
+pub returns-in_err-fill_summed-clause-seen : goal.returns-in_err-fill_summed-clause-seen
+returns-in_err-fill_summed-clause-seen g c =
     let p = err_from_is_err_and c.from_residual-in_err-fill_summed.result
     c.from_residual-in_err-fill_summed.ensures.1 in
     rw (p.1) tt
 
-pub returns-clause-cued : goal.returns-clause-cued
-returns-clause-cued g c =
+pub returns-clause-seen : goal.returns-clause-seen
+returns-clause-seen g c =
     let after = c.in-Some.after in
     let sum = c.fill_summed.new.sum in
-    let from = rw c.in-Some.is at c.in_ok-size.ensures.cued in
+    let from = rw c.in-Some.is at c.in_ok-size.ensures.seen in
     let sound : is_sound (summed_at after sum) ≡ true = rw c.summed_at-last.ensures at
     (sym c.is_sound.ensures ∙ c.if-not-is_sound.false) in
-    let read = cued_whole c.args.track c.find_frame.new.here after _ _ c.in-Some.size _ _ _
-    (c.fill_summed.new.bytes.items, sum) sound from.4 c.in_ok-fill_summed.ensures.answer.1 in
-    rw c.summed_at-last.ensures (_, reads_more _ from.3 read refl)
+    let read = seen_whole c.args.track c.find_frame.new.here after _ _ from.3 c.in-Some.size _ _ _
+    (c.fill_summed.new.bytes.items, sum) sound from.5 c.in_ok-fill_summed.ensures.answer.1 in
+    rw c.summed_at-last.ensures (_, reads_more _ from.4 read refl)

@@ -76,3 +76,6 @@ returns-in_err-known-clause-from g c =
     let begun = c.in_ok-begin_again.ensures in
     rw (p.1, p.2) (track_stopped _ _ _ _ _ _ begun.done begun.counted
     c.in_err-known.field-0.0 _ c.in_err-known.ensures.from)
+
+pub returns-clause-tick : goal.returns-clause-tick
+returns-clause-tick g c = rw c.in_ok-begin_again-2.ensures.done at c.in_ok-segment.ensures.tick

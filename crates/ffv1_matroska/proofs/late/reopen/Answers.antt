@@ -22,6 +22,7 @@ use Rattle.ffv1_matroska.proofs.SoughtReadings.{known_from}
 use Rattle.ffv1_matroska.proofs.SpotReadings.{begins_within, begun_flat, ebml_refused, ebml_whole}
 use Rattle.ffv1_matroska.proofs.SpotReadings.{entered_offset, last_offset, opening_from}
 use Rattle.ffv1_matroska.proofs.SpotReadings.{opening_stops}
+use Rattle.ffv1_matroska.proofs.ScaleWalks.{tick_known}
 use Rattle.ffv1_matroska.proofs.late.reopen.Goals as goal
 
 abbrev made : Option ℕ → Track × Place → Opened
@@ -162,3 +163,9 @@ returns-clause-from g c =
       offset_is = c.saturating_add.ensures ∙ rw (passed, second.2 first.0 first.2)
           (last_offset first.0 second.0 from.0 _ _ (2 ^ 64 - 1) left);
     }
+
+pub returns-clause-tick : goal.returns-clause-tick
+returns-clause-tick g c =
+    let size = c.in_ok-size.size in
+    let scale = rw c.begin_segment-begin.ensures at c.in_ok-numbers.ensures.scale in
+    tick_known size _ _ _ _ _ c.in_ok-read_ebml.ensures.answer.1 c.in_ok-size.ensures.answer.1 scale

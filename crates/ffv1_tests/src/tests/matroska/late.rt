@@ -2,9 +2,12 @@
 
 use super::written_example::{EXAMPLE, FRAME};
 use ffv1_doubles::{Scarce, SoughtReader};
+use ffv1_engine::{Fault, Profile};
 use ffv1_files::{FileReader, Scope};
+use ffv1_info::info;
+use ffv1_outline::Form;
 use ffv1_reads::FileFault;
-use ffv1_wire::{AgainIn, FromFile, FromRead};
+use ffv1_wire::{AgainIn, FromFile, FromRead, ToWrite};
 use std::alloc::{Allocator, Global};
 
 /// The smallest file, its Cluster before its Tracks too: the Cluster has 46 bytes.
@@ -92,6 +95,28 @@ fn tracks_before_clusters(rt: HostRuntime) {
 fn failing_seeks(rt: HostRuntime) {
     assert!(rt; sought(rt.alloc(), &late(), 0) == (0, 0, Some(FileFault::Read)));
     assert!(rt; sought(rt.alloc(), &late(), 1) == (0, 0, Some(FileFault::Read)));
+}
+
+/// What `info` answers of a reader, and whether what it writes ends with two frames.
+fn told<R: AgainIn + Drop>(alloc: Global, input: R) -> (Result<(), Fault>, bool) {
+    let mut output = ToWrite::new(Vec::new(alloc));
+    let done = info(alloc, Profile::Wide, input, &mut output, Form::Text, true);
+    let written = output.into_inner();
+    let counted = b"counted_frames      2\ncounted_duration    unknown\n";
+    (done, written.as_slice().ends_with(counted))
+}
+
+/// `info` reads such a file again from where it stood, behind the bytes that it keeps.
+#[test]
+fn told_of_clusters_before_tracks(rt: HostRuntime) {
+    let file = late();
+    let alloc = rt.alloc();
+    let sought = FromFile::new(SoughtReader::new(&file, 2), true);
+    assert!(rt; told(alloc, sought) == (Ok(()), true));
+    let failing = FromFile::new(SoughtReader::new(&file, 1), true);
+    assert!(rt; told(alloc, failing) == (Err(Fault::Read), false));
+    let pipe = FromRead::new(file.as_slice());
+    assert!(rt; told(alloc, pipe) == (Err(Fault::NoTracks), false));
 }
 
 /// Tracks are sought up to the end of the Segment.

@@ -1,26 +1,29 @@
 -- Looks at what stands after a file that may be damaged.
-use Rattle.std.proofs.Common.{Ok, false, refl}
+use Rattle.std.proofs.Common.{Ok, None, false, refl}
 use Rattle.ffv1_wire.specs.Passage.{passage}
+use Rattle.ffv1_files.specs.Behind.{notes_read}
 use Rattle.ffv1_files.proofs.Behinds.{lists_noted}
 use Rattle.ffv1_files.proofs.Noted.{noted_answer}
 use Rattle.ffv1_files.proofs.reader.FileReader.look_behind_items.Goals as goal
 
 pub returns-in-Avi-clause-answer : goal.returns-in-Avi-clause-answer
+unfolding notes_read
 returns-in-Avi-clause-answer g c = rw (← c.self.view_is, c.in-Avi.is, c.avi_notes.ensures)
-    (lists_noted _ 0 c.args.cued _ _ _ (passage g.R.ByteIn.remaining g.R.ByteIn.failures
+    (lists_noted None _ 0 c.args.cued _ _ _ (passage g.R.ByteIn.remaining g.R.ByteIn.failures
     c.args.input.now c.args.input.now) refl refl)
 
 pub returns-in-Avi-clause-noted : goal.returns-in-Avi-clause-noted
 returns-in-Avi-clause-noted g c =
     let rest = passage g.R.ByteIn.remaining g.R.ByteIn.failures c.args.input.now c.args.input.now in
     rw (← c.self.view_is, c.in-Avi.is, c.avi_notes.ensures) (λ avi s text ends. noted_answer s text _
-    rest (Ok _) (lists_noted _ 0 false _ _ _ rest refl refl) ends)
+    rest (Ok _) (lists_noted None _ 0 false _ _ _ rest refl refl) ends)
 
 pub returns-in-Matroska-clause-noted : goal.returns-in-Matroska-clause-noted
 returns-in-Matroska-clause-noted g c = rw (← c.self.view_is, c.in-Matroska.is) (λ avi s text ends.
     absurd (cc (avi)))
 
 pub returns-in-Matroska-clause-answer : goal.returns-in-Matroska-clause-answer
+unfolding notes_read
 returns-in-Matroska-clause-answer g c = rw (← c.self.view_is, c.in-Matroska.is)
     c.look_behind_segment.ensures.answer
 

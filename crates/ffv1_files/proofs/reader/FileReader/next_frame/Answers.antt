@@ -119,5 +119,5 @@ returns-clause-noted g c = elim c.match-self.branch [
       w.next_frame-in-Matroska.new.self (passage g.R.ByteIn.remaining g.R.ByteIn.failures
       c.args.input.now w.next_frame-in-Matroska.new.input) w.next_frame-in-Matroska.result
       w.next_frame-in-Matroska.ensures.stands w.next_frame-in-Matroska.ensures.behind
-      (w.next_frame-in-Matroska.ensures.cued none))
+      (w.next_frame-in-Matroska.ensures.cued none) (w.next_frame-in-Matroska.ensures.timed none))
 ]

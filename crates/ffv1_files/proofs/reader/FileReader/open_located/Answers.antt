@@ -6,6 +6,8 @@ use Rattle.ffv1_wire.specs.Passage.{passage}
 use Rattle.ffv1_files.proofs.Locations.{movi_reached, movi_stopped}
 use Rattle.ffv1_files.proofs.Noted.{opens_noted}
 use Rattle.ffv1_files.proofs.NotedStreams.{movi_streams}
+use Rattle.ffv1_files.proofs.NotedTimes.{lists_begin}
+use Rattle.ffv1_matroska.specs.Times.{times_begun}
 use Rattle.ffv1_files.specs.Places.{InAvi}
 use Rattle.ffv1_files.proofs.Openings.{avi_apart, movi_opens, movi_stops}
 use Rattle.ffv1_files.proofs.reader.FileReader.open_located.Goals as goal
@@ -54,11 +56,13 @@ returns-in-Ok-clause-noted g c =
     (movi_opens p (reader.head, reader.place) c.in-Ok.ensures.answer).1
     (movi_reached p reader c.open_located.new.offset c.in-Ok.ensures.offset) tt refl
     c.in-Ok.ensures.none (omega (arith, c.in-Ok.ensures.least)) c.in-Ok.ensures.uncounted
-    (movi_streams p.old p.new reader.others (InAvi reader.place) c.in-Ok.ensures.others))
+    (movi_streams p.old p.new reader.others (InAvi reader.place) c.in-Ok.ensures.others)
+    (lists_begin p.old p.new _ reader.place (times_begun 0)
+    (movi_opens p (reader.head, reader.place) c.in-Ok.ensures.answer).1))
 
 pub returns-in-Ok-open_whole-clause-noted : goal.returns-in-Ok-open_whole-clause-noted
 returns-in-Ok-open_whole-clause-noted g c =
     let done = c.in-Ok-open_whole.ensures in
     rw c.in-Whole.is (opens_noted _ _ _ c.in-Ok-open_whole.reader done.answer.1 done.located
     done.ends done.uncued done.untold done.least done.uncounted
-    done.streams)
+    done.streams done.times)

@@ -1,6 +1,7 @@
 -- Reads the next frame in place of what the vector has, and answers true; or false at the end. The
 -- vector is then empty. Each further call answers false again, and reads nothing.
 use Rattle.std.proofs.Common.{rules, ◌≡◌, ◌-◌, ◌^◌, ℕ, [], inl, refl, ◌∙◌, arith}
+use Rattle.ffv1_wire.specs.Passage.{passage}
 use Rattle.ffv1_reads.proofs.Reading.{consumes_none}
 use Rattle.ffv1_matroska.proofs.FoundFrames.{frame_ends}
 use Rattle.ffv1_matroska.proofs.FrameFaults.{frame_own}
@@ -10,6 +11,8 @@ use Rattle.ffv1_reads.proofs.OffsetLaws.{offset_of, reads_none, reads_take}
 use Rattle.ffv1_matroska.specs.Places.{amount}
 use Rattle.ffv1_matroska.specs.Cues.{cued_taken}
 use Rattle.ffv1_matroska.proofs.CuedElements.{ended_none, ends_on}
+use Rattle.ffv1_matroska.specs.Times.{timed_taken}
+use Rattle.ffv1_matroska.proofs.SeenElements.{ends_cued, ends_timed, whole_cued, whole_timed}
 use Rattle.ffv1_matroska.proofs.ElementTaken.{element_taken_takes}
 use Rattle.ffv1_matroska.proofs.reader.MatroskaReader.next_frame.Goals as goal
 
@@ -100,9 +103,42 @@ returns-then-self-eq0-3-clause-cued g c =
 pub returns-in-Ok-None-clause-cued : goal.returns-in-Ok-None-clause-cued
 returns-in-Ok-None-clause-cued g c = rw (← c.self.view_is) (λ sound. (
   c.read_frame.new.here,
-  rw c.in-Ok-None.field-0-is at c.in-Ok-None.ensures.cued,
+  ends_cued _ _ _ (passage g.R.ByteIn.remaining g.R.ByteIn.failures c.args.input.now
+      c.read_frame.new.input) (rw c.in-Ok-None.field-0-is at c.in-Ok-None.ensures.seen),
 ))
 
 pub returns-in-Ok-Some-clause-cued : goal.returns-in-Ok-Some-clause-cued
 returns-in-Ok-Some-clause-cued g c = rw (← c.self.view_is, c.in-Ok-Some.place-is)
-    (λ sound. rw c.in-Ok-Some.field-0-is at c.in-Ok-Some.ensures.cued)
+    (λ sound.
+    (let seen = rw c.in-Ok-Some.field-0-is at c.in-Ok-Some.ensures.seen in
+    (seen.0, whole_cued _ _ _ _ _ _ seen.1)))
+
+pub returns-then-self-eq0-3-clause-timed : goal.returns-then-self-eq0-3-clause-timed
+returns-then-self-eq0-3-clause-timed g c =
+    let place = c.self.inside.place in
+    let segment : place.segment ≡ 0 = search rules in
+    let cluster : place.cluster ≡ 0 = search rules in
+    let group : place.group ≡ 0 = search rules in
+    let track = c.self.inside.track in
+    rw (← c.self.view_is) (λ sound. (
+      place,
+      (
+        _,
+        0,
+        reads_none (timed_taken track) (place, c.self.inside.times) _,
+        ended_none track place _ segment cluster group,
+      ),
+    ))
+
+pub returns-in-Ok-None-clause-timed : goal.returns-in-Ok-None-clause-timed
+returns-in-Ok-None-clause-timed g c = rw (← c.self.view_is) (λ sound. (
+  c.read_frame.new.here,
+  ends_timed _ _ _ (passage g.R.ByteIn.remaining g.R.ByteIn.failures c.args.input.now
+      c.read_frame.new.input) (rw c.in-Ok-None.field-0-is at c.in-Ok-None.ensures.seen),
+))
+
+pub returns-in-Ok-Some-clause-timed : goal.returns-in-Ok-Some-clause-timed
+returns-in-Ok-Some-clause-timed g c = rw (← c.self.view_is, c.in-Ok-Some.place-is)
+    (λ sound.
+    (let seen = rw c.in-Ok-Some.field-0-is at c.in-Ok-Some.ensures.seen in
+    (seen.0, whole_timed _ _ _ _ _ _ seen.1)))
