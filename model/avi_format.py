@@ -17,11 +17,11 @@ MOST = 2 ** 31 - 1          # own: the greatest size of RIFF that is written
 
 class AviHead:
     """The head of a file: the size of the pictures, rate and scale, of which rate / scale is the
-    pictures a second, and the configuration record."""
+    pictures a second, and the configuration record; and how many other streams are FFV1 video."""
 
     def __init__(self, width, height, rate, scale, record):
         self.width, self.height, self.rate, self.scale = width, height, rate, scale
-        self.record = record
+        self.record, self.others = record, 0
 
 
 def numbers(*values):
@@ -134,7 +134,7 @@ class Opening:
         return movi.stands(name, self.number, self.all, self.wide)
 
     def bars(self, name):
-        return self.wide and name != b"LIST" and not self.stands(name)
+        return self.wide and not self.stands(name)
 
     def header(self, source, left):
         """The chunks of a list hdrl."""
@@ -162,6 +162,7 @@ def open_avi(source, wide):
         if own == b"movi":
             if opening.head is None:
                 raise Fault(51)
+            opening.head.others = opening.others
             return opening.head, avi_frames(source, opening, size - 4, parts)
         if own == b"hdrl":
             opening.header(source, size - 4)
@@ -173,10 +174,14 @@ def open_avi(source, wide):
 
 def movi_frames(source, left, opening):
     """The frames of a movi, in turn. Own: wide, an empty chunk is a frame of no bytes, which repeats
-    the one before it."""
-    for name, size in marked(source, left, opening.bars):
+    the one before it, and the chunks of a list `rec ` are those of movi, which has no other list."""
+    for name, size in marked(source, left, opening.bars, opening.wide):
         if not opening.stands(name):
             raise Fault(50)
+        if name == b"LIST":
+            if source.exactly(4, 52) != b"rec ":
+                raise Fault(50)
+            continue
         if not opening.is_frame(name):
             source.skip(padded(size), 52)
             continue

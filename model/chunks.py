@@ -14,9 +14,9 @@ def bars_none(name):
     return False
 
 
-def marked(source, left, bars=bars_none):
+def marked(source, left, bars=bars_none, opens=False):
     """The chunks of RIFF or movi: where each begins is marked, and where the next one would."""
-    inner = chunks(source, left, bars)
+    inner = chunks(source, left, bars, opens)
     while True:
         source.mark()
         entry = next(inner, None)
@@ -25,10 +25,11 @@ def marked(source, left, bars=bars_none):
         yield entry
 
 
-def chunks(source, left, bars=bars_none):
+def chunks(source, left, bars=bars_none, opens=False):
     """The name and the size of each chunk of a list with so many bytes left, in turn; who asks for
     the next has passed this one, with its padding. Own: a barred name is refused before its size; a
-    list has room for its own name."""
+    list has room for its own name; of one that is opened that name alone is its chunk, and the next
+    one is the first in it."""
     while left:
         if left < 8:
             raise Fault(52)
@@ -40,6 +41,8 @@ def chunks(source, left, bars=bars_none):
             raise Fault(52)
         if name == b"LIST" and size < 4:
             raise Fault(50)
+        if opens and name == b"LIST":
+            size = 4
         left -= 8 + padded(size)
         yield name, size
 

@@ -151,8 +151,8 @@ def check_frames(config, frames, out, place, every):
 
 def show(source, out, cost):
     """What a file says, and what its frames cost."""
-    head, config, frames, segment = opened(source)
-    for line in shown(head, config, segment):
+    head, config, frames, beside = opened(source)
+    for line in shown(head, config, beside):
         out(line + "\n")
     for number, payload in enumerate(frames if cost else []):
         if not payload:

@@ -9,10 +9,10 @@ def is_frame(name, number, wide):
 
 def stands(name, number, count, wide):
     """Own: whether a chunk may stand in movi, of a file of so many streams: no list; wide, frames,
-    NNpc of the stream, chunks of another one of the streams, ixNN and JUNK alone."""
+    NNpc of the stream, chunks of another one of the streams, ixNN, JUNK and lists alone."""
     if not wide:
         return name != b"LIST"
-    if is_frame(name, number, wide) or name in (b"%02dpc" % number, b"JUNK"):
+    if is_frame(name, number, wide) or name in (b"%02dpc" % number, b"JUNK", b"LIST"):
         return True
     if name[:2].isdigit():
         return int(name[:2]) != number and int(name[:2]) < count

@@ -50,7 +50,8 @@ def input_of(source):
 
 
 def opened(source):
-    """The head of a file, its configuration, its frames, and the line of a Segment."""
+    """The head of a file, its configuration, its frames, and the lines of further FFV1 video and of
+    a Segment."""
     return opened_in(*input_of(source))
 
 
@@ -63,5 +64,6 @@ def opened_in(data, is_matroska, damaged=False):
     else:
         head, frames = avi_format.open_avi(data, True)
         segment = []
+    others = [f"note 91 OtherVideo {head.others}"] if head.others else []
     config = ffv1.read_record(head.record, head.width, head.height, wide=True)
-    return head, config, frames, segment
+    return head, config, frames, [*others, *segment]

@@ -18,7 +18,7 @@ def held(config):
     return states, 3 * planes * config.width + kept, size * planes * config.width, config.columns
 
 
-def shown(head, config, segment):
+def shown(head, config, beside):
     """What a file says, a line each."""
     chroma = f"{config.log2_h},{config.log2_v}" if config.chroma else "mono"
     states, samples, output, columns = held(config)
@@ -31,6 +31,6 @@ def shown(head, config, segment):
         *["note other programs refuse sets of more than 16384 contexts"]
         * any(ffv1.contexts_of(runs) > 16384 for runs in config.sets),
         f"ec {config.ec}", f"intra {config.intra}", f"rate {head.rate}/{head.scale}",
-        *segment,
+        *beside,
         f"held states {states} samples {samples} output {output} columns {columns} offsets 1025",
     ]

@@ -111,7 +111,7 @@ REFUSED = [
     ("a list without a name", riff(chunk(b"LIST", b""), header(), MOVI), "50 NotAvi"),
     ("a chunk that passes its list", riff(spelled(10 ** 6, header()), MOVI), "52 Truncated"),
     ("bytes after a chunk", riff(header(), b"1234567"), "52 Truncated"),
-    ("a list in movi", riff(header(), chunk_list(b"movi", chunk_list(b"rec ", GOOD))), "50 NotAvi"),
+    ("a list in movi", riff(header(), chunk_list(b"movi", chunk_list(b"abcd", GOOD))), "50 NotAvi"),
     ("a frame that passes movi", riff(header(), chunk_list(b"movi", spelled(2 ** 32 - 1, GOOD))),
      "52 Truncated"),
     ("a frame too long", long_frame(1073741825), "53 ChunkTooLong"),

@@ -91,10 +91,15 @@ def said_of(answer):
     return text.replace("samples 3 output 1", f"samples {3 * width} output {width}"), ""
 
 
+BESIDE = {"two of FFV1": "note 91 OtherVideo 1\n"}
+
+
 def known_tracks():
-    """The files whose Tracks are known."""
+    """The files whose Tracks are known; one has further video, which is said."""
     for name, content, answer in matroska_tracks.files():
-        yield shown(f"Tracks: {name}", matroska_tracks.file_of(content), *said_of(answer))
+        text, fault = said_of(answer)
+        text = text.replace("held", BESIDE.get(name, "") + "held", 1)
+        yield shown(f"Tracks: {name}", matroska_tracks.file_of(content), text, fault)
 
 
 # ---------------------------------------------------------------------------------- the three forms

@@ -30,6 +30,10 @@ OF_AVI = [
     ("no movi", riff(header(), JUNK), 0, 12 + len(header()) + 12, "50 NotAvi"),
     ("a list in movi", riff(header(), chunk_list(b"movi", GOOD, chunk_list(b"abcd"))), 1,
      12 + len(header()) + 12 + 14, "50 NotAvi"),
+    ("a list rec that is cut in its second frame", riff(header(), chunk_list(b"movi", chunk_list(
+        b"rec ", GOOD, GOOD)))[:-1], 1, 12 + len(header()) + 12 + 12 + 14, "52 Truncated"),
+    ("a list rec that is cut in its name", riff(header(), chunk_list(b"movi", GOOD, chunk_list(
+        b"rec ")))[:-1], 1, 12 + len(header()) + 12 + 14, "52 Truncated"),
     ("another file", TWO + b"RIFF" + bytes(8), 2, len(TWO), "88 Another"),
     ("Matroska after all RIFFs", TWO + further(JUNK) + H, 2, len(TWO + further(JUNK)), "88 Another"),
     ("bytes where a frame is owed", riff(streams(total=numbers(2)), MOVI) + b"x", 1,

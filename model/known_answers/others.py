@@ -79,4 +79,20 @@ def streams_of_avi():
             Step(["check", "--all", "in"], lines(1, "frames 1 faults 0\n"), note=note)])
 
 
-CASES = [others, beside_others, streams_of_avi]
+def shown():
+    """The line that says so: after the rate, and before that of a Segment."""
+    lines = "size 1x1\ncoder 1\ncolour YCbCr\nchroma mono\nslices 1x1\ncontexts 666\nec 0\nintra 1\n" \
+        "rate {}\n{}held states 21312 samples 3 output 1 columns 1 offsets 1025\n"
+    cost = "cost frame 0: ones 11 zeros 0 renormalisations 1\n"
+    tracks = of_tracks(ALL, SOUND, ALL)
+    for name, file, rate, beside, note in [
+        ("no stream", with_streams(), "25/1", "", ""),
+        ("two streams", with_streams(STREAM, STREAM), "25/1", f"note {TWO}\n", TWO),
+        ("a track", tracks, "0/0", f"note {ONE}\nsegment {len(tracks) - 52}\n", ONE),
+    ]:
+        yield Case(f"shown: {name}", {"in": file}, [
+            Step(["show", "in"], lines.format(rate, beside)),
+            Step(["show", "--cost", "in"], lines.format(rate, beside) + cost, note=note)])
+
+
+CASES = [others, beside_others, streams_of_avi, shown]

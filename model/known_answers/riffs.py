@@ -32,6 +32,7 @@ SECOND_DMLH = chunk_list(b"odml", chunk(b"dmlh", numbers(9)))
 SHORT_DMLH = chunk_list(b"odml", JUNK, chunk(b"dmlh", b"abc"), chunk(b"dmlh", numbers(1)))
 FIRST_COUNTS = chunk_list(b"hdrl", header()[12:], SHORT_DMLH, SECOND_DMLH)
 FRAME_OF_1, BITMAP = chunk(b"01dc", FRAME), chunk(b"00db", FRAME)
+REC, EMPTY_REC = chunk_list(b"rec ", GOOD), chunk_list(b"rec ")
 
 
 # ---------------------------------------------------------------------------------------- all RIFFs
@@ -161,6 +162,26 @@ CLOSED = [
         b"movi", chunk(b"01dc", FRAME), b"00wb" + numbers(2 ** 31))), lines(1), "52 Truncated"),
     ("a list that passes movi", riff(header(), chunk_list(
         b"movi", GOOD, b"LIST" + numbers(2 ** 31))), lines(1), "52 Truncated"),
+    ("a list without a name in movi", riff(header(), chunk_list(b"movi", GOOD, spelled(3, REC))),
+     lines(1), "50 NotAvi"),
+    ("another list in movi", riff(header(), chunk_list(b"movi", GOOD, chunk_list(b"xyz ", GOOD))),
+     lines(1), "50 NotAvi"),
+    ("lists rec", riff(header(), chunk_list(b"movi", REC, chunk_list(b"rec ", GOOD, GOOD))),
+     whole(3), ""),
+    ("a list rec and a frame", riff(header(), chunk_list(b"movi", REC, GOOD)), whole(2), ""),
+    ("a list rec in a further RIFF", FIRST + further(chunk_list(b"movi", REC)), whole(2), ""),
+    ("a list rec of no chunks", riff(header(), chunk_list(b"movi", EMPTY_REC, GOOD)), whole(1), ""),
+    ("a list rec in a list rec", riff(header(), chunk_list(b"movi", chunk_list(b"rec ", REC))),
+     whole(1), ""),
+    ("a frame that passes its list rec", riff(header(), chunk_list(b"movi", spelled(6, REC), GOOD)),
+     whole(2), ""),
+    ("a list rec that has all of movi", riff(header(), chunk_list(b"movi", spelled(32, REC), GOOD)),
+     whole(2), ""),
+    ("a list rec that passes movi", riff(header(), chunk_list(b"movi", spelled(33, REC), GOOD)),
+     "", "52 Truncated"),
+    ("a chunk in a list rec that may not stand in movi", riff(header(), chunk_list(
+        b"movi", chunk_list(b"rec ", GOOD, FRAME_OF_1))), lines(1), "50 NotAvi"),
+    ("a list rec after movi", riff(header(), MOVI, EMPTY_REC), whole(1), ""),
     ("a frame after movi", riff(header(), MOVI, GOOD), lines(1), "50 NotAvi"),
     ("a bitmap after movi", riff(header(), MOVI, BITMAP), lines(1), "50 NotAvi"),
     ("a frame in a further RIFF", FIRST + further(GOOD, MOVI), lines(1), "50 NotAvi"),

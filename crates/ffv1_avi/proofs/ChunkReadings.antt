@@ -1,6 +1,6 @@
 -- Chunks from the first movi on, by the calls of which the reading of each is made.
-use Rattle.std.proofs.Common.{Bool, ◌≡◌, ◌+◌, ◌-◌, ◌%◌, ◌==◌, ◌&&◌, ◌≤◌, min, ℕ, nat_lt, Option, Some, None, List, [], ◌∷◌, ◌++◌, length, take, drop, codes, refl, ap, ◌∙◌, subst, arith}
-use Rattle.std.proofs.lemmas.Bool.{eqb-true}
+use Rattle.std.proofs.Common.{◌≡◌, ◌+◌, ◌-◌, ◌%◌, ◌==◌, ◌&&◌, ◌≤◌, min, ℕ, nat_lt, Option, Some, None, List, [], ◌∷◌, ◌++◌, length, take, drop, codes, refl, ap, ◌∙◌, subst, arith}
+use Rattle.std.proofs.lemmas.Bool.{eqb-true, ltb-false}
 use Rattle.std.proofs.lemmas.Bool.Decides.{nat_tests}
 use Rattle.byteorder.specs.Endian.{little_number}
 use Rattle.ffv1_reads.specs.declared.fault.FileFault.{FileFault}
@@ -11,21 +11,22 @@ use Rattle.std.proofs.lemmas.List.{length-append}
 use Rattle.std.specs.Io.KnownBytes.{Consumes}
 use Rattle.ffv1_wire.proofs.Bytes.{consumes_then}
 use Rattle.ffv1_reads.specs.Offsets.{ReadsCounted, ReadsWhole, all_bytes}
-use Rattle.ffv1_reads.specs.Reads.{Kept, Looked, Read, Reading, Refused, given, passed, refused, taken, wanted, ◌>>=◌}
+use Rattle.ffv1_reads.specs.Reads.{Kept, Looked, Want, Read, Reading, Refused, given, passed, refused, taken, wanted, ◌>>=◌}
 use Rattle.ffv1_reads.proofs.EndRefusals.{ends_refused}
 use Rattle.ffv1_reads.proofs.OffsetLaws.{counted_given, counted_then, reads_counted}
 use Rattle.ffv1_reads.proofs.Reading.{Goes, goes_none, goes_read, goes_refused}
 use Rattle.ffv1_reads.proofs.Taking.{Takes, takes_given, takes_if, takes_passed, takes_refused, takes_same, takes_then, takes_wanted}
 use Rattle.ffv1_avi.specs.declared.chunk.Entry.{Entry}
 use Rattle.ffv1_avi.specs.declared.place.Place.{Place}
-use Rattle.ffv1_avi.specs.Files.{frame_judged, visit_movi}
+use Rattle.ffv1_avi.specs.Files.{frame_judged, list_opened, visit_movi}
 use Rattle.ffv1_avi.specs.Offsets.{chunk_taken, frame_taken, movi_left, movi_taken}
 use Rattle.ffv1_avi.specs.Internal.Offsets.{FrameBegins}
 use Rattle.ffv1_avi.specs.Padding.{content, padded}
 use Rattle.ffv1_avi.specs.Places.{frame_at}
-use Rattle.ffv1_avi.specs.Walk.{entry_in, entry_judged, is_name}
+use Rattle.ffv1_avi.specs.Walk.{Rule, entry_in, entry_judged, is_name}
+use Rattle.ffv1_avi.proofs.TakenChunks.{size_fits}
 use Rattle.ffv1_avi.specs.declared.place.Names.{Names}
-use Rattle.ffv1_avi.specs.Names.{bars, is_barred, least_bytes, most_bytes}
+use Rattle.ffv1_avi.specs.Names.{is_barred, least_bytes, most_bytes, rule_of}
 use Rattle.ffv1_avi.specs.Names.{is_frame}
 
 -- a header
@@ -37,26 +38,27 @@ abbrev pub left_of : ℕ → Option Entry → ℕ
 left_of left None = left
 left_of left (Some e) = padded e.size + e.left
 
-pub entry_takes : (barred : List ℕ → Bool) (left : ℕ) → Takes (Fits left) left (left_of left) (entry_in barred left)
+pub entry_takes : (rule : Rule) (left : ℕ) → Takes (Fits left) left (left_of left) (entry_in rule left)
 unfolding entry_in
-entry_takes barred left =
+entry_takes rule left =
     takes_if (left == 0) (given None) _ (λ none. takes_given None (eqb-true left 0 none) refl)
     (λ _. takes_if (nat_lt left 8) (refused fault.Truncated) _ (λ _. takes_refused fault.Truncated)
     (λ long. (let eight : 8 ≤ left = grind (arith, nat_tests, long) in
     takes_then (taken 8) _ (takes_same _ _ (taken 8) (omega (arith, eight)) (takes_wanted Looked 8 (left - 8))) (λ head _. judged (take 4 head) (little_number 4 (drop 4 head))))))
   where
-    judged : (name : List ℕ) (size : ℕ) → Takes (Fits left) (left - 8) (left_of left) (entry_judged barred left name size)
+    judged : (name : List ℕ) (size : ℕ) → Takes (Fits left) (left - 8) (left_of left) (entry_judged rule left name size)
     judged name size =
-        takes_if (barred name) (refused fault.NotAvi) _ (λ _. takes_refused fault.NotAvi)
+        takes_if (rule.bars name) (refused fault.NotAvi) _ (λ _. takes_refused fault.NotAvi)
         (λ _. takes_if (nat_lt left (8 + padded size)) (refused fault.Truncated) _ (λ _. takes_refused fault.Truncated)
         (λ fits. (let room : 8 + padded size ≤ left = grind (arith, nat_tests, fits) in
-        takes_if (is_name name (codes "LIST") && nat_lt size 4) (refused fault.NotAvi) _ (λ _. takes_refused fault.NotAvi) (λ _. takes_given _ (omega (arith, room)) (omega (arith, room))))))
+        takes_if (is_name name (codes "LIST") && nat_lt size 4) (refused fault.NotAvi) _ (λ _. takes_refused fault.NotAvi)
+        (λ long. (let less = size_fits rule name size (λ l. ltb-false _ _ (rw l at long)) in takes_given _ (omega (arith, room, less)) (omega (arith, room, less)))))))
 
-pub entry_counted : (barred : List ℕ → Bool) (left : ℕ) (e : Entry) {a b : Option (List ℕ)} → Read (entry_in barred left) a b (Some e) → ReadsCounted (entry_in barred left) a b (Some e) 8
-entry_counted barred left e read = reads_counted 8 (entry_takes barred left) ((entry_takes barred left).only _ _ _ (read.is [])).0 read
+pub entry_counted : (rule : Rule) (left : ℕ) (e : Entry) {a b : Option (List ℕ)} → Read (entry_in rule left) a b (Some e) → ReadsCounted (entry_in rule left) a b (Some e) 8
+entry_counted rule left e read = reads_counted 8 (entry_takes rule left) ((entry_takes rule left).only _ _ _ (read.is [])).0 read
 
-pub entry_end : (barred : List ℕ → Bool) (left : ℕ) {a b : Option (List ℕ)} → Read (entry_in barred left) a b None → left ≡ 0
-entry_end barred left read = ((entry_takes barred left).only _ _ _ (read.is [])).0
+pub entry_end : (rule : Rule) (left : ℕ) {a b : Option (List ℕ)} → Read (entry_in rule left) a b None → left ≡ 0
+entry_end rule left read = ((entry_takes rule left).only _ _ _ (read.is [])).0
 
 -- a chunk of movi
 abbrev pub visit_left : Entry → Unit {0} × Option (ℕ × ℕ) → ℕ
@@ -67,8 +69,17 @@ abbrev pub Same : Entry → Unit {0} × Option (ℕ × ℕ) → Type 0
 Same e (u, None) = Unit {0}
 Same e (u, Some p) = p ≡ (e.size, e.left)
 
+-- bytes and their padding
+pub content_takes : (w : Want) (size : ℕ) → Takes (λ (bytes : List ℕ). Unit {0}) (padded size) (λ _. 0) (content w size)
+content_takes w size = takes_then (wanted w size) _ (takes_same (size + size % 2) (padded size) (wanted w size) refl (takes_wanted w size (size % 2))) (λ bytes _. takes_then (passed (size % 2)) _ (takes_same _ _ (passed (size % 2)) (omega arith) (takes_passed (size % 2) 0)) (λ _ _. takes_given bytes tt refl))
+
 pub skipped_takes : (e : Entry) → Takes (Same e) (padded e.size) (visit_left e) (passed (padded e.size) >>= λ _. given (tt {0}, None))
 skipped_takes e = takes_then (passed (padded e.size)) _ (takes_same _ _ (passed (padded e.size)) (omega arith) (takes_passed (padded e.size) 0)) (λ _ _. takes_given _ tt refl)
+
+pub opened_takes : (e : Entry) → Takes (Same e) (padded e.size) (visit_left e) (content Looked e.size >>= list_opened)
+opened_takes e =
+    takes_then (content Looked e.size) list_opened (content_takes Looked e.size)
+    (λ own _. takes_if (is_name own (codes "rec ")) (given (tt {0}, None)) _ (λ _. takes_given _ tt refl) (λ _. takes_refused fault.NotAvi))
 
 pub visit_takes : (names : Names) (e : Entry) → Takes (Same e) (padded e.size) (visit_left e) (visit_movi names tt e)
 unfolding visit_movi
@@ -77,12 +88,12 @@ visit_takes names e =
     (λ _. takes_if (is_frame names e.name) (frame_judged (least_bytes names) (most_bytes names) e.size e.left) _
     (λ _. takes_if (nat_lt (most_bytes names) e.size) (refused fault.ChunkTooLong) _ (λ _. takes_refused fault.ChunkTooLong)
     (λ _. takes_if (nat_lt e.size (least_bytes names)) (refused fault.EmptyFrame) _ (λ _. takes_refused fault.EmptyFrame) (λ _. takes_given _ refl refl)))
-    (λ _. skipped_takes e))
+    (λ _. takes_if (is_name e.name (codes "LIST")) (content Looked e.size >>= list_opened) _ (λ _. opened_takes e) (λ _. skipped_takes e)))
 
-pub chunk_passed : (place : Place) (e : Entry) {a b c : Option (List ℕ)} → Read (entry_in (bars place.names) place.movi) a b (Some e) → Read (visit_movi place.names tt e) b c (tt, None) → ReadsCounted (chunk_taken place) a c (movi_left place e.left) (8 + (padded e.size + 0))
+pub chunk_passed : (place : Place) (e : Entry) {a b c : Option (List ℕ)} → Read (entry_in (rule_of place.names) place.movi) a b (Some e) → Read (visit_movi place.names tt e) b c (tt, None) → ReadsCounted (chunk_taken place) a c (movi_left place e.left) (8 + (padded e.size + 0))
 unfolding chunk_taken
 chunk_passed place e {c = c} header visit =
-    counted_then (entry_in (bars place.names) place.movi) (movi_taken place) (entry_counted (bars place.names) place.movi e header)
+    counted_then (entry_in (rule_of place.names) place.movi) (movi_taken place) (entry_counted (rule_of place.names) place.movi e header)
     (counted_then (visit_movi place.names tt e) (λ p. frame_taken place e.left p.1) (reads_counted (padded e.size) (visit_takes place.names e) (omega arith) visit) (counted_given (movi_left place e.left) c))
 
 -- a frame
@@ -91,13 +102,13 @@ content_counted size bytes {c = c} read pad =
     counted_then (wanted Kept size) _ (reads_counted {before = size} size (takes_same (size + 0) size (wanted Kept size) (omega arith) (takes_wanted Kept size 0)) (omega arith) read)
     (counted_then (passed (size % 2)) _ (reads_counted {before = size % 2} (size % 2) (takes_same (size % 2 + 0) (size % 2) (passed (size % 2)) (omega arith) (takes_passed (size % 2) 0)) (omega arith) pad) (counted_given bytes c))
 
-pub chunk_framed : (place : Place) (e : Entry) (size left : ℕ) (bytes : List ℕ) {a b c d f : Option (List ℕ)} → Read (entry_in (bars place.names) place.movi) a b (Some e) → Read (visit_movi place.names tt e) b c (tt, Some (size, left)) → Read (wanted Kept size) c d bytes → Read (passed (size % 2)) d f tt →
+pub chunk_framed : (place : Place) (e : Entry) (size left : ℕ) (bytes : List ℕ) {a b c d f : Option (List ℕ)} → Read (entry_in (rule_of place.names) place.movi) a b (Some e) → Read (visit_movi place.names tt e) b c (tt, Some (size, left)) → Read (wanted Kept size) c d bytes → Read (passed (size % 2)) d f tt →
     ReadsCounted (chunk_taken place) a f (frame_at place left) (8 + (0 + (size + (size % 2 + 0) + 0)))
 unfolding chunk_taken
 chunk_framed place e size left bytes {f = f} header visit read pad =
     let same = ((visit_takes place.names e).only _ _ _ (visit.is [])).0 in
     let long : size ≡ e.size = ap (λ (z : ℕ × ℕ). z.0) same in
-    counted_then (entry_in (bars place.names) place.movi) (movi_taken place) (entry_counted (bars place.names) place.movi e header)
+    counted_then (entry_in (rule_of place.names) place.movi) (movi_taken place) (entry_counted (rule_of place.names) place.movi e header)
     (counted_then (visit_movi place.names tt e) (λ p. frame_taken place e.left p.1) (reads_counted {x = (tt {0}, Some (size, left))} 0 (visit_takes place.names e) (omega arith) visit)
     (counted_then (content Kept size) _ (content_counted size bytes read pad) (counted_given (frame_at place left) f)))
 
@@ -105,7 +116,7 @@ frame_reached : (to : Place) (size left : ℕ) (old now : Option (List ℕ)) (be
 unfolding chunk_taken
 frame_reached to size left old now before h =
     goes_read (visit_movi to.names tt h.entry) (λ p. frame_taken to h.entry.left p.1) now before (tt, Some (size, left))
-    (goes_read (entry_in (bars to.names) to.movi) (movi_taken to) h.between before (Some h.entry) (goes_none (chunk_taken to) old before) (refl, h.header)) (refl, h.visit)
+    (goes_read (entry_in (rule_of to.names) to.movi) (movi_taken to) h.between before (Some h.entry) (goes_none (chunk_taken to) old before) (refl, h.header)) (refl, h.visit)
 
 frame_ends : (to : Place) (size left : ℕ) (old now new : Option (List ℕ)) (before last : ℕ) (f : FileFault) → FrameBegins to old now (size, left) → Refused (content Kept size) now new before last f → RefusedOrEnds (chunk_taken to) old new before last f
 frame_ends to size left old now new before last f h why = ends_refused (content Kept size) (λ bytes. given (frame_at to left)) new last f (frame_reached to size left old now before h) why
@@ -122,23 +133,23 @@ pad_refused to size left bytes old now between new before mid after last f h sam
     (subst (λ n. Refused (content Kept size) now new n last f) same (goes_refused (passed (size % 2)) (λ _. given bytes) new last f (goes_read (wanted Kept size) (λ bytes. passed (size % 2) >>= λ _. given bytes) between after bytes (goes_none (content Kept size) now mid) read) why))
 
 -- that was refused
-pub entry_refused : (place : Place) (old new : Option (List ℕ)) (before after : ℕ) (f : FileFault) → Refused (entry_in (bars place.names) place.movi) old new before after f → RefusedOrEnds (chunk_taken place) old new before after f
+pub entry_refused : (place : Place) (old new : Option (List ℕ)) (before after : ℕ) (f : FileFault) → Refused (entry_in (rule_of place.names) place.movi) old new before after f → RefusedOrEnds (chunk_taken place) old new before after f
 unfolding chunk_taken
-entry_refused place old new before after f why = ends_refused (entry_in (bars place.names) place.movi) (movi_taken place) new after f (goes_none (chunk_taken place) old before) why
+entry_refused place old new before after f why = ends_refused (entry_in (rule_of place.names) place.movi) (movi_taken place) new after f (goes_none (chunk_taken place) old before) why
 
-pub visit_refused : (place : Place) (e : Entry) (old mid new : Option (List ℕ)) (before between after : ℕ) (f : FileFault) → (between ≡ before) × Read (entry_in (bars place.names) place.movi) old mid (Some e) → Refused (visit_movi place.names tt e) mid new between after f → RefusedOrEnds (chunk_taken place) old new before after f
+pub visit_refused : (place : Place) (e : Entry) (old mid new : Option (List ℕ)) (before between after : ℕ) (f : FileFault) → (between ≡ before) × Read (entry_in (rule_of place.names) place.movi) old mid (Some e) → Refused (visit_movi place.names tt e) mid new between after f → RefusedOrEnds (chunk_taken place) old new before after f
 unfolding chunk_taken
 visit_refused place e old mid new before between after f header why =
-    ends_refused (visit_movi place.names tt e) (λ p. frame_taken place e.left p.1) new after f (goes_read (entry_in (bars place.names) place.movi) (movi_taken place) mid between (Some e) (goes_none (chunk_taken place) old before) header) why
+    ends_refused (visit_movi place.names tt e) (λ p. frame_taken place e.left p.1) new after f (goes_read (entry_in (rule_of place.names) place.movi) (movi_taken place) mid between (Some e) (goes_none (chunk_taken place) old before) header) why
 
 -- an offset goes on by one chunk
 pub one_more : (offset count size most : ℕ) → min (min (offset + count) most + (8 + size)) most ≡ min (offset + (count + (8 + (size + 0)))) most
 one_more offset count size most = grind arith
 
 -- nothing more was read
-pub still : {S : Type 0} {element : S → Reading S} {from to : S} {a b c : Option (List ℕ)} {n : ℕ} (barred : List ℕ → Bool) (left : ℕ) → ReadsWhole element from a b to n → Read (entry_in barred left) b c None → ReadsWhole element from a c to n
-still {a = a} {b = b} {c = c} barred left h read =
-    let all = ((entry_takes barred left).only _ _ _ (read.is [])).1 in
+pub still : {S : Type 0} {element : S → Reading S} {from to : S} {a b c : Option (List ℕ)} {n : ℕ} (rule : Rule) (left : ℕ) → ReadsWhole element from a b to n → Read (entry_in rule left) b c None → ReadsWhole element from a c to n
+still {a = a} {b = b} {c = c} rule left h read =
+    let all = ((entry_takes rule left).only _ _ _ (read.is [])).1 in
     let empty : read.bytes ≡ [] = none_left read.bytes (omega (arith, all, length-append read.bytes [])) in
     let P : List ℕ → Type 0 = λ z. Consumes a c z in
     record {

@@ -1,12 +1,12 @@
 -- A file of every RIFF, by its chunks, is read.
-use Rattle.std.proofs.Common.{◌≡◌, ℕ, ◌+◌, ◌-◌, ◌<◌, Some, None, Result, Ok, List, [], ◌∷◌, ◌++◌, length, codes, flat_map, ap, ◌∙◌, sym, subst, arith, append_assoc, append-nil, length-append, min, zero-add}
+use Rattle.std.proofs.Common.{true, ◌≡◌, ℕ, ◌+◌, ◌-◌, ◌<◌, Some, None, Result, Ok, List, [], ◌∷◌, ◌++◌, length, codes, flat_map, ap, ◌∙◌, sym, subst, arith, append_assoc, append-nil, length-append, min, zero-add}
 use Rattle.std.proofs.lemmas.Grind.{flat_map-append}
 use Rattle.byteorder.specs.Endian.{little_number}
 use Rattle.ffv1_avi.specs.declared.place.Extent.TheVariants.{EveryRiff}
 use Rattle.ffv1_avi.specs.declared.place.Names.{Names}
 use Rattle.ffv1_avi.specs.declared.place.Names.TheVariants.{Closed}
 use Rattle.ffv1_avi.specs.declared.place.Place.{Place}
-use Rattle.ffv1_avi.specs.Chunks.{AreFrames, Chunk, chunks_text, first_of, header_chunks, streams, those}
+use Rattle.ffv1_avi.specs.Chunks.{AreFrames, Chunk, chunks_text, first_of, header_chunks, streams, those, Fit}
 use Rattle.ffv1_avi.specs.Behind.{RiffFileThen, looked_past}
 use Rattle.ffv1_avi.specs.Edges.{frames_to}
 use Rattle.ffv1_avi.specs.Files.{file_read, frames_read, no_headers, open_read, owed}
@@ -20,10 +20,10 @@ use Rattle.ffv1_avi.proofs.HeaderRuns.{Counts, Heads, counts_found, heads}
 use Rattle.ffv1_avi.proofs.LaterFrames.{Framed, after_end, behind_over, frames_behind, frames_both, frames_in, framed_apart, in_riff, preceded, preceded_both, riffs_read, sections_read}
 use Rattle.ffv1_avi.proofs.OpenLaws.{open_complete}
 use Rattle.ffv1_avi.proofs.PartLaws.{parts_text}
-use Rattle.ffv1_avi.proofs.RiffLaws.{chunks_even}
 use Rattle.ffv1_avi.proofs.StreamCounts.{run_counted}
 use Rattle.ffv1_avi.proofs.WholeLaws.{all_of, owed_total}
 use Rattle.ffv1_reads.proofs.Results.{ok_is}
+use Rattle.ffv1_avi.proofs.TakenChunks.{taken_even}
 
 -- frames of chunks are those among them
 pub framed_own : (names : Names) (chunks : List Chunk) (frames : List (List ℕ)) → AreFrames names chunks frames → Framed names chunks
@@ -32,10 +32,10 @@ framed_own names chunks frames h =
     subst P (sym h.those_of) h
 
 -- the frames of a movi, of what is after it in RIFF, and of RIFFs, and those after them
-place_read : (input : ℕ) (names : Names) (owed : ℕ) (chunks : List Chunk) (sections : List Section) (riffs : List Riff) (rest : List ℕ) → AreSections names sections → AreRiffs names riffs → length (riffs_text riffs) < input → Framed names (chunks ++ (movis sections ++ riff_movis riffs)) →
+place_read : (input : ℕ) (names : Names) (owed : ℕ) (chunks : List Chunk) (sections : List Section) (riffs : List Riff) (rest : List ℕ) → AreSections names sections → AreRiffs names riffs → length (riffs_text riffs) < input → Fit 0 chunks → Framed names (chunks ++ (movis sections ++ riff_movis riffs)) →
     frames_read (placed (in_riff input names (length (sections_text sections)) 0) (length (chunks_text chunks)) owed) (chunks_text chunks ++ (sections_text sections ++ (riffs_text riffs ++ rest)))
     ≡ preceded (frames_in names (chunks ++ (movis sections ++ riff_movis riffs))) (frames_behind (in_riff (input - length (riffs_text riffs)) names 0 (owed - length (frames_in names (chunks ++ (movis sections ++ riff_movis riffs))))) rest)
-place_read input names owed chunks sections riffs rest sections_are riffs_are fits framed =
+place_read input names owed chunks sections riffs rest sections_are riffs_are fits fit framed =
     let first = framed_apart names chunks (movis sections ++ riff_movis riffs) framed in
     let second = framed_apart names (movis sections) (riff_movis riffs) first.1 in
     let some : input ≡ 0 → ⊥ = λ e. omega (arith, e, fits) in
@@ -48,7 +48,7 @@ place_read input names owed chunks sections riffs rest sections_are riffs_are fi
     let more = input - length (riffs_text riffs) in
     let all : fs ++ (gs ++ hs) ≡ frames_in names (chunks ++ (movis sections ++ riff_movis riffs)) = sym (frames_both names chunks (movis sections ++ riff_movis riffs) ∙ ap (λ z. fs ++ z) (frames_both names (movis sections) (riff_movis riffs))) in
     let owes : owed - length fs - length gs - length hs ≡ owed - length (fs ++ (gs ++ hs)) = omega (arith, length-append fs (gs ++ hs), length-append gs hs) in
-    movi_frames (in_riff input names left 0) chunks owed (sections_text sections ++ behind) first.0.each first.0.none_barred first.0.sized
+    movi_frames (in_riff input names left 0) chunks owed (sections_text sections ++ behind) first.0.each fit first.0.none_barred first.0.sized
     ∙ ap (λ n. preceded fs (frames_after (in_riff input names n (owed - length fs)) (sections_text sections ++ behind))) room
     ∙ ap (preceded fs) (sections_read input names 0 (owed - length fs) sections behind some sections_are second.0)
     ∙ ap (λ z. preceded fs (preceded gs z)) (after_end input names (owed - length fs - length gs) behind some)
@@ -98,7 +98,7 @@ file_opened {head = head} {frames = frames} is rest =
     let size = little_number 4 is.movi_size in
     let left = length (sections_text is.sections) in
     let framed = framed_apart (names_in is) is.chunks (movis is.sections ++ riff_movis is.riffs) (file_framed is) in
-    let even = chunks_even is.chunks framed.0.each in
+    let even = taken_even true is.chunks framed.0.each in
     let opened = open_complete EveryRiff is.riff_size is.parts is.movi_size left known.known head rest is.riff_sized is.movi_sized (omega (arith, is.counted)) (omega (arith, is.filled, is.counted, even)) is.each known.run known.head_is in
     let room : size - 4 ≡ length (chunks_text is.chunks) = omega (arith, is.counted) in
     let owes : owed known.known.frames ≡ total is.extended = ap owed known.frames_are ∙ owed_total (first_of (those is_total (all_of is.extended))) in
@@ -147,7 +147,7 @@ file_to {head = head} is before after rest parted =
     let known = file_before is before after parted in
     ap (file_read EveryRiff) (regrouped (codes "RIFF" ++ is.riff_size ++ codes "AVI ") (parts_text is.parts) (codes "LIST" ++ is.movi_size ++ codes "movi") (chunks_text is.chunks) (sections_text is.sections) (riffs_text before ++ rest))
     ∙ ap (λ z. read_on z (λ p. (frames_read p.1 >>= λ frames. given (p.0, frames)))) (file_opened is (chunks_text is.chunks ++ (sections_text is.sections ++ (riffs_text before ++ rest))))
-    ∙ ap (λ z. read_on z (λ frames. given (head, frames))) (place_read most_input n (total is.extended) is.chunks is.sections before rest is.sections_are known.0 known.1 known.2)
+    ∙ ap (λ z. read_on z (λ frames. given (head, frames))) (place_read most_input n (total is.extended) is.chunks is.sections before rest is.sections_are known.0 known.1 is.fit known.2)
 
 -- a file and what stands after it
 pub every_then : (file : List ℕ) (head : Head) (frames : List (List ℕ)) (rest : List ℕ) → RiffFileThen file head frames rest → file_read EveryRiff file ≡ Ok ((head, frames), rest)

@@ -4,15 +4,15 @@ use Rattle.std.proofs.lemmas.Bool.{ltb-false, le-ltb}
 use Rattle.std.proofs.lemmas.Grind.{flat_map-append}
 use Rattle.byteorder.specs.Endian.{little_number}
 use Rattle.ffv1_avi.specs.declared.chunk.Entry.{Entry}
-use Rattle.ffv1_avi.specs.Chunks.{AreChunks, AreFrames, AreWithin, Chunk, IsChunk, chunk_text, chunks_text, those}
+use Rattle.ffv1_avi.specs.Chunks.{AreFrames, AreTaken, AreWithin, Chunk, Fit, IsChunk, chunk_text, chunks_text, those}
 use Rattle.ffv1_avi.specs.declared.place.Extent.{Extent}
 use Rattle.ffv1_avi.specs.declared.place.Extent.TheVariants.{FirstMovi, EveryRiff}
 use Rattle.ffv1_avi.specs.declared.place.Place.{Place}
-use Rattle.ffv1_avi.specs.Files.{found_or_on, found_read, frame_found, frame_read, frames_read, more_frames, moved, moved_by, movi_found, movi_or_riff, movi_sought, riff_begun, sought_on, visit_movi}
+use Rattle.ffv1_avi.specs.Files.{found_or_on, found_read, frame_found, frame_read, frames_read, list_opened, more_frames, moved, moved_by, movi_found, movi_or_riff, movi_sought, riff_begun, sought_on, visit_movi}
 use Rattle.ffv1_avi.specs.Places.{extent_of, first_place, frame_at}
-use Rattle.ffv1_reads.specs.Reads.{Kept, Reading, Stop, given, passed, read_on, ◌>>=◌}
+use Rattle.ffv1_reads.specs.Reads.{Kept, Looked, Reading, Stop, given, passed, read_on, ◌>>=◌}
 use Rattle.ffv1_avi.specs.Padding.{content, padded}
-use Rattle.ffv1_avi.specs.Walk.{entry_in, is_name, resumed, visited, walk_in}
+use Rattle.ffv1_avi.specs.Walk.{entry_in, entry_of, is_name, resumed, visited, walk_in}
 use Rattle.ffv1_avi.proofs.ListWalks.{Complete, Ended, IsPassed, Run, Sound, Stands, Taking, entry_complete_in, walk_complete_in, walk_sound_in}
 use Rattle.ffv1_avi.proofs.Fields.{skipped_passed}
 use Rattle.ffv1_avi.proofs.PassedBytes.{content_complete, content_sound, skip_complete}
@@ -23,15 +23,17 @@ use Rattle.ffv1_reads.proofs.Results.{ok_is, some_is}
 use Rattle.ffv1_avi.proofs.ChunkByChunk.{walk_step_in}
 use Rattle.ffv1_avi.specs.declared.place.Names.{Names}
 use Rattle.ffv1_reads.specs.Head.{limit}
-use Rattle.ffv1_avi.specs.Names.{bars, is_barred, least_bytes, most_bytes}
+use Rattle.ffv1_avi.specs.Names.{bars, is_barred, least_bytes, most_bytes, opens, rule_of}
+use Rattle.ffv1_avi.proofs.OpenedLists.{IsRec, barred_name, chunk_beside, frame_chunk, frame_no_list, name_stands, opened_sound, rec_stands, size_whole, stands_rec}
+use Rattle.ffv1_avi.proofs.TakenChunks.{IsTaken, chunk_fits, chunks_fit, fit_both, fit_first, taken_both, taken_first, taken_more, taken_one}
 use Rattle.ffv1_avi.specs.Names.{is_frame}
 use Rattle.ffv1_avi.specs.Chunks.{barred_in}
 use Rattle.ffv1_avi.specs.Chunks.{frame_in}
 use Rattle.ffv1_avi.specs.declared.place.Names.TheVariants.{Any, Closed}
 
--- a chunk that is no list and no frame
+-- a chunk that is no frame; of a list its own name, that of a list `rec `
 abbrev pub TakesMovi : Names → Taking (Unit {0})
-TakesMovi names s name bytes t = (is_barred names name ≡ false) × (is_frame names name ≡ false)
+TakesMovi names s name bytes t = (is_barred names name ≡ false) × (is_frame names name ≡ false) × IsRec name bytes
 
 abbrev M : Type 0
 M = (Unit {0} × Option (ℕ × ℕ)) × List ℕ
@@ -50,22 +52,31 @@ movi_sound names s e text t rest listed h = on_names (is_barred names e.name) (i
     on_names false true false false p q r z h =
         let y : ℕ × ℕ = (e.size, e.left) in
         absurd (no_some y (ap (λ (m : M). m.0.1) (ok_is ((tt, Some y), text) ((t, None), rest) (rw (p, q, r, z) at h))))
-    on_names false false c d p q r z h = skipped_passed {Y = ℕ × ℕ} (TakesMovi names) s e text t rest (λ bytes. (p, q)) (rw (p, q) at h)
+    on_names false false c d p q r z h = on_list (is_name e.name (codes "LIST")) refl p q h
+      where
+        on_list : (l : Bool) → is_name e.name (codes "LIST") ≡ l → is_barred names e.name ≡ false → is_frame names e.name ≡ false → visit_movi names s e text ≡ Ok ((t, None), rest) → IsPassed (TakesMovi names) s e t text rest
+        on_list true l p q h =
+            let first = read_on_ok (content Looked e.size text) list_opened ((t, None), rest) (rw (p, q, l) at h) in
+            let opened = opened_sound first.0.0 first.0.1 t None rest first.2 in
+            let c = content_sound Looked e.size text first.0 first.1 in
+            let P : List ℕ → Type 0 = λ z. IsPassed (TakesMovi names) s e t text z in
+            subst P opened.2 (record { bytes = first.0.0; padding = c.padding; text_is = c.text_is; long = c.long; padded_by = c.odd; takes = (p, q, λ k. opened.0) })
+        on_list false l p q h = skipped_passed {Y = ℕ × ℕ} (TakesMovi names) s e text t rest (λ bytes. (p, q, λ k. absurd (let no : true ≡ false = sym k ∙ l in cc))) (rw (p, q, l) at h)
 
 pub movi_complete : (names : Names) → Complete (visit_movi names) (TakesMovi names)
 unfolding visit_movi
-movi_complete names s e bytes padding t rest listed long odd takes = rw (takes.0, takes.1) (ap (λ z. read_on z (λ _. given (tt, None))) (skip_complete e.size bytes padding rest long odd))
+movi_complete names s e bytes padding t rest listed long odd takes = on_list (is_name e.name (codes "LIST")) refl takes
+  where
+    on_list : (l : Bool) → is_name e.name (codes "LIST") ≡ l → TakesMovi names s e.name bytes t → visit_movi names s e ((bytes ++ padding) ++ rest) ≡ Ok ((t, None), rest)
+    on_list true l takes = rw (takes.0, takes.1, l) (ap (λ z. read_on z list_opened) (content_complete Looked e.size bytes padding rest long odd) ∙ rw (takes.2 l) refl)
+    on_list false l takes = rw (takes.0, takes.1, l) (ap (λ z. read_on z (λ _. given (tt, None))) (skip_complete e.size bytes padding rest long odd))
 
 -- what may stand in movi is not barred
 pub stands_in : (names : Names) (name : List ℕ) → is_barred names name ≡ false → bars names name ≡ false
 stands_in Any name h = refl
-stands_in (Closed stream streams) name h = on_list (is_name name (codes "LIST")) refl
-  where
-    on_list : (a : Bool) → is_name name (codes "LIST") ≡ a → bars (Closed stream streams) name ≡ false
-    on_list true p = rw p refl
-    on_list false p = rw (p, h) refl
+stands_in (Closed stream streams) name h = h
 
-pub movi_stands : (names : Names) → Stands (bars names) (TakesMovi names)
+pub movi_stands : (names : Names) → Stands (rule_of names) (TakesMovi names)
 movi_stands names s name bytes t takes = stands_in names name takes.0
 
 -- if the walk of movi stops there is a frame
@@ -92,15 +103,22 @@ movi_stop names s e text t y rest h = on_names (is_barred names e.name) (is_fram
         let same : x ≡ y = some_is x y (ap (λ (m : M). m.0.1) found) in
         let some : least_bytes names ≤ e.size = ltb-false _ _ z in
         record { none_barred = p; named = q; short = ltb-false _ _ r; some = some; size = ap (λ (n : ℕ × ℕ). n.0) (sym same); left = ap (λ (n : ℕ × ℕ). n.1) (sym same); behind = ap (λ (m : M). m.1) found }
-    on_names false false c d p q r z h =
-        let first = read_on_ok (passed (padded e.size) text) (λ _. given (tt, None)) ((t, Some y), rest) (rw (p, q) at h) in
-        absurd (no_some y (sym (ap (λ (m : M). m.0.1) (ok_is ((tt, None), first.0.1) ((t, Some y), rest) first.2))))
+    on_names false false c d p q r z h = on_list (is_name e.name (codes "LIST")) refl p q h
+      where
+        on_list : (l : Bool) → is_name e.name (codes "LIST") ≡ l → is_barred names e.name ≡ false → is_frame names e.name ≡ false → visit_movi names s e text ≡ Ok ((t, Some y), rest) → IsFrame names e text y rest
+        on_list true l p q h =
+            let first = read_on_ok (content Looked e.size text) list_opened ((t, Some y), rest) (rw (p, q, l) at h) in
+            absurd (no_some y (opened_sound first.0.0 first.0.1 t (Some y) rest first.2).1)
+        on_list false l p q h =
+            let first = read_on_ok (passed (padded e.size) text) (λ _. given (tt, None)) ((t, Some y), rest) (rw (p, q, l) at h) in
+            absurd (no_some y (sym (ap (λ (m : M). m.0.1) (ok_is ((tt, None), first.0.1) ((t, Some y), rest) first.2))))
 
 -- movi ends with no further frame
 pub record IsEnd (names : Names) (left : ℕ) (text rest : List ℕ) : Type 0 where
   pub chunks : List Chunk
   pub text_is : text ≡ chunks_text chunks ++ rest
-  pub each : AreChunks chunks
+  pub each : AreTaken (opens names) chunks
+  pub fit : Fit 0 chunks
   pub long : length (chunks_text chunks) ≡ left
   pub run : Run (TakesMovi names) tt chunks tt
 
@@ -109,7 +127,8 @@ pub record IsNext (names : Names) (left : ℕ) (text bytes : List ℕ) (after : 
   pub chunks : List Chunk
   pub frame : Chunk
   pub text_is : text ≡ chunks_text chunks ++ (chunk_text frame ++ rest)
-  pub each : AreChunks chunks
+  pub each : AreTaken (opens names) chunks
+  pub fit : Fit (length (chunk_text frame) + after) chunks
   pub is : IsChunk frame
   pub bytes_are : frame.bytes ≡ bytes
   pub long : length (chunks_text chunks) + (length (chunk_text frame) + after) ≡ left
@@ -135,19 +154,19 @@ pub movi_read_sound : (names : Names) (left : ℕ) (text : List ℕ) (w : Option
 unfolding movi_found
 movi_read_sound names left text w h =
     let first = read_on_ok (movi_found names left text) movi_frame w h in
-    let second = read_on_ok (walk_in (bars names) (visit_movi names) left tt text) (λ p. given p.1) first.0 first.1 in
-    let walked = walk_sound_in (bars names) (visit_movi names) (TakesMovi names) (movi_sound names) left tt text second.0 second.1 in
+    let second = read_on_ok (walk_in (rule_of names) (visit_movi names) left tt text) (λ p. given p.1) first.0 first.1 in
+    let walked = walk_sound_in (rule_of names) (visit_movi names) (TakesMovi names) (movi_sound names) left tt text second.0 second.1 in
     let same = ok_is (second.0.0.1, second.0.1) first.0 second.2 in
     let Q : Option (ℕ × ℕ) × List ℕ → Type 0 = λ z. movi_frame z.0 z.1 ≡ Ok w in
-    on_end second.0.0.1 second.0.1 walked.chunks walked.behind walked.after walked.text_is walked.each walked.long walked.run walked.end (subst Q (sym same) first.2)
+    on_end second.0.0.1 second.0.1 walked.chunks walked.behind walked.after walked.text_is walked.each walked.fit walked.long walked.run walked.end (subst Q (sym same) first.2)
   where
-    on_end : (o : Option (ℕ × ℕ)) (more : List ℕ) (chunks : List Chunk) (behind : List ℕ) (after : ℕ) → text ≡ chunks_text chunks ++ behind → AreChunks chunks → length (chunks_text chunks) + after ≡ left → Run (TakesMovi names) tt chunks tt →
-        Ended (visit_movi names) after tt behind tt o more → movi_frame o more ≡ Ok w → NextIs names left text w
-    on_end None more chunks behind after whole each long run end k =
+    on_end : (o : Option (ℕ × ℕ)) (more : List ℕ) (chunks : List Chunk) (behind : List ℕ) (after : ℕ) → text ≡ chunks_text chunks ++ behind → AreTaken (opens names) chunks → Fit after chunks → length (chunks_text chunks) + after ≡ left → Run (TakesMovi names) tt chunks tt →
+        Ended (rule_of names) (visit_movi names) after tt behind tt o more → movi_frame o more ≡ Ok w → NextIs names left text w
+    on_end None more chunks behind after whole each fit long run end k =
         let P : Option (List ℕ × ℕ) × List ℕ → Type 0 = λ z. NextIs names left text z in
-        let here : IsEnd names left text more = record { chunks = chunks; text_is = whole ∙ ap (λ z. chunks_text chunks ++ z) end.2; each = each; long = omega (arith, long, end.0); run = run } in
+        let here : IsEnd names left text more = record { chunks = chunks; text_is = whole ∙ ap (λ z. chunks_text chunks ++ z) end.2; each = each; fit = subst (λ n. Fit n chunks) end.0 fit; long = omega (arith, long, end.0); run = run } in
         subst P (ok_is (None, more) w k) here
-    on_end (Some y) more chunks behind after whole each long run end k =
+    on_end (Some y) more chunks behind after whole each fit long run end k =
         let e = end.0 in
         let entry = end.2 in
         let is = movi_stop names tt e end.1 tt y more end.3 in
@@ -157,11 +176,13 @@ movi_read_sound names left text w h =
         let size : length bytes ≡ e.size = c.long ∙ is.size in
         let odd : length c.padding ≡ length bytes % 2 = c.odd ∙ ap (λ n. n % 2) (sym c.long) in
         let frame : Chunk = record { name = e.name; size = entry.size; bytes = bytes; padding = c.padding } in
-        let chunk : IsChunk frame = record { named = entry.named; sized = entry.sized; counted = entry.counted ∙ sym size; padded = odd; listed = λ l. rw size (entry.listed l) } in
+        let other = frame_no_list names e.name is.named in
+        let chunk : IsChunk frame = record { named = entry.named; sized = entry.sized; counted = sym (size_whole names e.name (little_number 4 entry.size) other) ∙ entry.counted ∙ sym size; padded = odd; listed = λ l. rw size (entry.listed l) } in
         let here : text ≡ chunks_text chunks ++ (chunk_text frame ++ third.0.1) =
         whole ∙ ap (λ z. chunks_text chunks ++ z) (entry.text_is ∙ ap (λ z. (e.name ++ entry.size) ++ z) (is.behind ∙ c.text_is) ∙ regrouped (e.name ++ entry.size) bytes c.padding third.0.1) in
         let total : length (chunk_text frame) ≡ 8 + padded e.size = omega (arith, entry.named, entry.sized, size, odd, length-append ((e.name ++ entry.size) ++ bytes) c.padding, length-append (e.name ++ entry.size) bytes, length-append e.name entry.size) in
-        let next : IsNext names left text bytes y.1 third.0.1 = record { chunks = chunks; frame = frame; text_is = here; each = each; is = chunk; bytes_are = refl; long = omega (arith, long, entry.fits, total, is.left); run = run; none_barred = is.none_barred; named = is.named; short = rw size is.short; some = rw size is.some } in
+        let room : after ≡ length (chunk_text frame) + y.1 = omega (arith, entry.fits, total, is.left) in
+        let next : IsNext names left text bytes y.1 third.0.1 = record { chunks = chunks; frame = frame; text_is = here; each = each; fit = subst (λ n. Fit n chunks) room fit; is = chunk; bytes_are = refl; long = omega (arith, long, entry.fits, total, is.left); run = run; none_barred = name_stands names frame is.none_barred other; named = is.named; short = rw size is.short; some = rw size is.some } in
         let P : Option (List ℕ × ℕ) × List ℕ → Type 0 = λ z. NextIs names left text z in
         let p : List ℕ × ℕ = (bytes, y.1) in
         subst P (ok_is (Some p, third.0.1) w third.2) next
@@ -177,28 +198,24 @@ those_both test (x ∷ xs) ys = on_test (test x) refl (those_both test xs ys)
     on_test true is more = rw is (ap (λ z. x ∷ z) more)
     on_test false is more = rw is more
 
-pub chunks_both : (xs ys : List Chunk) → AreChunks xs → AreChunks ys → AreChunks (xs ++ ys)
-chunks_both [] ys h k = k
-chunks_both (x ∷ xs) ys h k = (h.0, chunks_both xs ys h.1 k)
-
 -- chunks that are no frames
 no_frames : (names : Names) (cs : List Chunk) → Run (TakesMovi names) tt cs tt → (those (barred_in names) cs ≡ []) × (those (frame_in names) cs ≡ [])
 no_frames names [] run = (refl, refl)
-no_frames names (c ∷ cs) run = let more = no_frames names cs run.2 in (rw run.1.0 more.0, rw run.1.1 more.1)
+no_frames names (c ∷ cs) run = let more = no_frames names cs run.2 in (rw (rec_stands names c run.1.0 run.1.2) more.0, rw run.1.1 more.1)
 
-none_framed : (names : Names) (cs : List Chunk) → AreChunks cs → Run (TakesMovi names) tt cs tt → AreFrames names cs []
+none_framed : (names : Names) (cs : List Chunk) → AreTaken (opens names) cs → Run (TakesMovi names) tt cs tt → AreFrames names cs []
 none_framed names cs each run =
     let none = no_frames names cs run in
     record { each = each; none_barred = none.0; those_of = ap (map (λ (c : Chunk). c.bytes)) none.1; sized = tt }
 
-frames_more : (names : Names) (before behind : List Chunk) (c : Chunk) (frames : List (List ℕ)) → AreChunks before → Run (TakesMovi names) tt before tt → IsChunk c → barred_in names c ≡ false → frame_in names c ≡ true → length c.bytes ≤ most_bytes names → least_bytes names ≤ length c.bytes →
+frames_more : (names : Names) (before behind : List Chunk) (c : Chunk) (frames : List (List ℕ)) → AreTaken (opens names) before → Run (TakesMovi names) tt before tt → IsChunk c → barred_in names c ≡ false → frame_in names c ≡ true → length c.bytes ≤ most_bytes names → least_bytes names ≤ length c.bytes →
     AreFrames names behind frames → AreFrames names (before ++ c ∷ behind) (c.bytes ∷ frames)
 frames_more names before behind c frames each run is list named short some more =
     let none = no_frames names before run in
     let lists : those (barred_in names) (before ++ c ∷ behind) ≡ [] = those_both (barred_in names) before (c ∷ behind) ∙ rw (none.0, list) more.none_barred in
     let there : those (frame_in names) (before ++ c ∷ behind) ≡ c ∷ those (frame_in names) behind = those_both (frame_in names) before (c ∷ behind) ∙ rw (none.1, named) refl in
     let all : map (λ (c : Chunk). c.bytes) (those (frame_in names) (before ++ c ∷ behind)) ≡ c.bytes ∷ frames = ap (map (λ (c : Chunk). c.bytes)) there ∙ ap (λ z. c.bytes ∷ z) more.those_of in
-    record { each = chunks_both before (c ∷ behind) each (is, more.each); none_barred = lists; those_of = all; sized = (some, short, more.sized) }
+    record { each = taken_both (opens names) before (c ∷ behind) each (taken_more (opens names) c behind (chunk_beside names c is (frame_no_list names c.name named)) more.each); none_barred = lists; those_of = all; sized = (some, short, more.sized) }
 
 -- the frames after the end of a movi
 abbrev pub frames_on : Option Place → Reading (List (List ℕ))
@@ -275,6 +292,7 @@ pub record MoviPart (place : Place) (text : List ℕ) (frames : List (List ℕ))
   pub later : List (List ℕ)
   pub text_is : text ≡ chunks_text chunks ++ more
   pub long : length (chunks_text chunks) ≡ place.movi
+  pub fit : Fit 0 chunks
   pub framed : AreFrames place.names chunks here
   pub parted : frames ≡ here ++ later
   pub after : frames_after (placed place 0 (place.owed - length here)) more ≡ Ok (later, rest)
@@ -290,13 +308,16 @@ part_more place text bytes left more frames rest next part =
     let apart : chunks_text chunks ≡ chunks_text next.chunks ++ (chunk_text c ++ chunks_text part.chunks) = flat_map-append chunk_text next.chunks (c ∷ part.chunks) in
     let whole : text ≡ chunks_text chunks ++ part.more = next.text_is ∙ ap (λ z. chunks_text next.chunks ++ (chunk_text c ++ z)) part.text_is ∙ regrouped (chunks_text next.chunks) (chunk_text c) (chunks_text part.chunks) part.more ∙ ap (λ z. z ++ part.more) (sym apart) in
     let long : length (chunks_text chunks) ≡ place.movi = ap length apart ∙ length-append (chunks_text next.chunks) (chunk_text c ++ chunks_text part.chunks) ∙ (omega (arith, next.long, part.long, length-append (chunk_text c) (chunks_text part.chunks))) in
+    let first : 8 + padded (little_number 4 c.size) ≤ length (chunks_text (c ∷ part.chunks)) + 0 = omega (arith, chunk_fits c 0 next.is, length-append (chunk_text c) (chunks_text part.chunks)) in
+    let behind : length (chunk_text c) + left ≤ length (chunks_text (c ∷ part.chunks)) + 0 = omega (arith, part.long, length-append (chunk_text c) (chunks_text part.chunks)) in
+    let fit : Fit 0 chunks = fit_both 0 (length (chunk_text c) + left) next.chunks (c ∷ part.chunks) behind next.fit (first, part.fit) in
     let short : length c.bytes ≤ most_bytes place.names = rw next.bytes_are next.short in
     let some : least_bytes place.names ≤ length c.bytes = rw next.bytes_are next.some in
     let framed = frames_more place.names next.chunks part.chunks c part.here next.each next.run next.is next.none_barred next.named short some part.framed in
     let Q : List ℕ → Type 0 = λ b. AreFrames place.names chunks (b ∷ part.here) in
     let owes : place.owed - 1 - length part.here ≡ place.owed - suc (length part.here) = omega arith in
     let R : ℕ → Type 0 = λ n. frames_after (placed place 0 n) part.more ≡ Ok (part.later, rest) in
-    record { chunks = chunks; more = part.more; here = bytes ∷ part.here; later = part.later; text_is = whole; long = long; framed = subst Q next.bytes_are framed; parted = ap (λ z. bytes ∷ z) part.parted; after = subst R owes part.after }
+    record { chunks = chunks; more = part.more; here = bytes ∷ part.here; later = part.later; text_is = whole; long = long; fit = fit; framed = subst Q next.bytes_are framed; parted = ap (λ z. bytes ∷ z) part.parted; after = subst R owes part.after }
   where
     regrouped : (a b c d : List ℕ) → a ++ (b ++ (c ++ d)) ≡ (a ++ (b ++ c)) ++ d
     regrouped a b c d = simp append_assoc
@@ -321,7 +342,7 @@ part_step place text w again h = on_found (movi_found place.names place.movi tex
         let end = movi_read_sound place.names place.movi text (None, more) (ap (λ z. read_on z movi_frame) is) in
         let after : frames_after place more ≡ Ok w = sym (frames_none place text more is) ∙ h in
         let same : frames_after (placed place 0 (place.owed - 0)) more ≡ Ok w = ap (λ z. read_on z frames_on) (sym (moved_same place 0 (place.owed - 0) (omega arith) more)) ∙ after in
-        record { chunks = end.chunks; more = more; here = []; later = w.0; text_is = end.text_is; long = end.long; framed = none_framed place.names end.chunks end.each end.run; parted = refl; after = same }
+        record { chunks = end.chunks; more = more; here = []; later = w.0; text_is = end.text_is; long = end.long; fit = end.fit; framed = none_framed place.names end.chunks end.each end.run; parted = refl; after = same }
     on_found (Ok (Some y, more)) is =
         let found : frame_read place text ≡ (content Kept y.0 >>= λ bytes. given (Some (bytes, frame_at place y.1))) more = ap (λ z. read_on z found_read) (frame_step place text ∙ ap (λ z. read_on z (found_or_on frame_found place)) is) in
         let first = read_on_ok (frame_read place text) (more_frames frames_read) w read in
@@ -349,34 +370,38 @@ pub movi_part : (place : Place) (text : List ℕ) (w : List (List ℕ) × List �
 movi_part place text w h = movi_part_up_to place.movi place text w (omega arith) h
 
 -- a chunk that is no frame is passed
-pub movi_passed : (names : Names) (c : Chunk) (more : ℕ) (rest : List ℕ) → IsChunk c → barred_in names c ≡ false → frame_in names c ≡ false → movi_found names (length (chunk_text c) + more) (chunk_text c ++ rest) ≡ movi_found names more rest
+pub movi_passed : (names : Names) (c : Chunk) (more : ℕ) (rest : List ℕ) → IsTaken (opens names) c → 8 + padded (little_number 4 c.size) ≤ length (chunk_text c) + more → barred_in names c ≡ false → frame_in names c ≡ false → movi_found names (length (chunk_text c) + more) (chunk_text c ++ rest) ≡ movi_found names more rest
 unfolding movi_found
-movi_passed names c more rest is list named =
+movi_passed names c more rest is fits stands named =
     let one : chunks_text (c ∷ []) ≡ chunk_text c = append-nil (chunk_text c) in
-    let walked = walk_complete_in (bars names) (visit_movi names) (TakesMovi names) (movi_stands names) (movi_complete names) (c ∷ []) tt tt more rest (is, tt) (tt, (list, named), refl) in
-    let alone : walk_in (bars names) (visit_movi names) (length (chunk_text c) + more) tt (chunk_text c ++ rest) ≡ walk_in (bars names) (visit_movi names) more tt rest = rw one at walked in
+    let fit : Fit more (c ∷ []) = (rw one fits, tt) in
+    let takes : TakesMovi names tt c.name c.bytes tt = (barred_name names c stands, named, stands_rec names c stands) in
+    let walked = walk_complete_in (rule_of names) (visit_movi names) (TakesMovi names) (movi_stands names) (movi_complete names) (c ∷ []) tt tt more rest (taken_one (opens names) c is) fit (tt, takes, refl) in
+    let alone : walk_in (rule_of names) (visit_movi names) (length (chunk_text c) + more) tt (chunk_text c ++ rest) ≡ walk_in (rule_of names) (visit_movi names) more tt rest = rw one at walked in
     ap (λ z. read_on z (λ p. given p.1)) alone
 
 -- a frame is read
-pub movi_there : (names : Names) (c : Chunk) (more : ℕ) (rest : List ℕ) → IsChunk c → barred_in names c ≡ false → frame_in names c ≡ true → length c.bytes ≤ most_bytes names → least_bytes names ≤ length c.bytes → movi_read names (length (chunk_text c) + more) (chunk_text c ++ rest) ≡ Ok (Some (c.bytes, more), rest)
+pub movi_there : (names : Names) (c : Chunk) (more : ℕ) (rest : List ℕ) → IsChunk c → is_barred names c.name ≡ false → frame_in names c ≡ true → length c.bytes ≤ most_bytes names → least_bytes names ≤ length c.bytes → movi_read names (length (chunk_text c) + more) (chunk_text c ++ rest) ≡ Ok (Some (c.bytes, more), rest)
 unfolding movi_found visit_movi
 movi_there names c more rest is list named short some =
     let left = length (chunk_text c) + more in
     let size = little_number 4 c.size in
     let total : length (chunk_text c) ≡ 8 + padded (length c.bytes) = omega (arith, is.named, is.sized, is.padded, length-append ((c.name ++ c.size) ++ c.bytes) c.padding, length-append (c.name ++ c.size) c.bytes, length-append c.name c.size) in
     let counted : length c.bytes ≡ size = sym is.counted in
-    let e : Entry = record { name = c.name; size = size; left = left - (8 + padded size) } in
+    let e : Entry = entry_of left c.name size in
+    let taken = size_whole names c.name size (frame_no_list names c.name named) in
     let behind : e.left ≡ more = rw (← counted) (omega (arith, total)) in
     let whole : chunk_text c ++ rest ≡ (c.name ++ c.size) ++ ((c.bytes ++ c.padding) ++ rest) = regrouped c.name c.size c.bytes c.padding rest in
-    let entry : entry_in (bars names) left (chunk_text c ++ rest) ≡ Ok (Some e, (c.bytes ++ c.padding) ++ rest) =
-    ap (entry_in (bars names) left) whole ∙ entry_complete_in (bars names) left c.name c.size ((c.bytes ++ c.padding) ++ rest) (stands_in names c.name list) is.named is.sized (rw (← counted) (omega (arith, total))) (λ l. rw is.counted (is.listed l)) in
+    let entry : entry_in (rule_of names) left (chunk_text c ++ rest) ≡ Ok (Some e, (c.bytes ++ c.padding) ++ rest) =
+    ap (entry_in (rule_of names) left) whole ∙ entry_complete_in (rule_of names) left c.name c.size ((c.bytes ++ c.padding) ++ rest) (stands_in names c.name list) is.named is.sized (rw (← counted) (omega (arith, total))) (λ l. rw is.counted (is.listed l))
+    ∙ ap (λ n. Ok (Some (entry_of left c.name n), (c.bytes ++ c.padding) ++ rest)) taken in
     let fits : nat_lt (most_bytes names) size ≡ false = le-ltb _ _ (rw is.counted short) in
     let not_none : nat_lt size (least_bytes names) ≡ false = le-ltb _ _ (rw is.counted some) in
     let stop : visit_movi names tt e ((c.bytes ++ c.padding) ++ rest) ≡ Ok ((tt, Some (size, e.left)), (c.bytes ++ c.padding) ++ rest) = rw (list, named, fits, not_none) refl in
     let read : content Kept size ((c.bytes ++ c.padding) ++ rest) ≡ Ok (c.bytes, rest) = content_complete Kept size c.bytes c.padding rest counted (rw is.counted is.padded) in
-    ap (λ z. read_on (read_on z (λ p. given p.1)) movi_frame) (walk_step_in (bars names) (visit_movi names) left tt (chunk_text c ++ rest))
-    ∙ ap (λ z. read_on (read_on (read_on z (visited (visit_movi names) (walk_in (bars names) (visit_movi names)) tt)) (λ p. given p.1)) movi_frame) entry
-    ∙ ap (λ z. read_on (read_on (read_on z (λ p. resumed (walk_in (bars names) (visit_movi names) e.left) p.0 p.1)) (λ p. given p.1)) movi_frame) stop
+    ap (λ z. read_on (read_on z (λ p. given p.1)) movi_frame) (walk_step_in (rule_of names) (visit_movi names) left tt (chunk_text c ++ rest))
+    ∙ ap (λ z. read_on (read_on (read_on z (visited (visit_movi names) (walk_in (rule_of names) (visit_movi names)) tt)) (λ p. given p.1)) movi_frame) entry
+    ∙ ap (λ z. read_on (read_on (read_on z (λ p. resumed (walk_in (rule_of names) (visit_movi names) e.left) p.0 p.1)) (λ p. given p.1)) movi_frame) stop
     ∙ ap (λ z. read_on z (λ bytes. given (Some (bytes, e.left)))) read
     ∙ rw behind refl
   where
@@ -384,12 +409,12 @@ movi_there names c more rest is list named short some =
     regrouped a b c d e = simp append_assoc
 
 -- at a position whose movi begins with a chunk that is no frame
-pub frames_passed : (place : Place) (c : Chunk) (more : ℕ) (rest : List ℕ) → IsChunk c → barred_in place.names c ≡ false → frame_in place.names c ≡ false →
+pub frames_passed : (place : Place) (c : Chunk) (more : ℕ) (rest : List ℕ) → IsTaken (opens place.names) c → 8 + padded (little_number 4 c.size) ≤ length (chunk_text c) + more → barred_in place.names c ≡ false → frame_in place.names c ≡ false →
     frame_found (placed place (length (chunk_text c) + more) place.owed) (chunk_text c ++ rest) ≡ frame_found (placed place more place.owed) rest
-frames_passed place c more rest is list named =
+frames_passed place c more rest is fits list named =
     let here = placed place (length (chunk_text c) + more) place.owed in
     frame_step here (chunk_text c ++ rest)
-    ∙ ap (λ z. read_on z (found_or_on frame_found here)) (movi_passed place.names c more rest is list named)
+    ∙ ap (λ z. read_on z (found_or_on frame_found here)) (movi_passed place.names c more rest is fits list named)
     ∙ found_same here more (movi_found place.names more rest)
     ∙ sym (frame_step (placed place more place.owed) rest)
 
@@ -397,10 +422,10 @@ abbrev pub bytes_of : List Chunk → List (List ℕ)
 bytes_of cs = map (λ (c : Chunk). c.bytes) cs
 
 -- the frames of chunks are read, and then those after them
-pub movi_frames : (place : Place) (cs : List Chunk) (owed : ℕ) (rest : List ℕ) → AreChunks cs → those (barred_in place.names) cs ≡ [] → AreWithin (least_bytes place.names) (most_bytes place.names) (bytes_of (those (frame_in place.names) cs)) →
+pub movi_frames : (place : Place) (cs : List Chunk) (owed : ℕ) (rest : List ℕ) → AreTaken (opens place.names) cs → Fit 0 cs → those (barred_in place.names) cs ≡ [] → AreWithin (least_bytes place.names) (most_bytes place.names) (bytes_of (those (frame_in place.names) cs)) →
     frames_read (placed place (length (chunks_text cs)) owed) (chunks_text cs ++ rest)
     ≡ read_on (frames_after (placed place 0 (owed - length (bytes_of (those (frame_in place.names) cs)))) rest) (λ frames. given (bytes_of (those (frame_in place.names) cs) ++ frames))
-movi_frames place [] owed rest each none_barred sized =
+movi_frames place [] owed rest each fit none_barred sized =
     frames_none (placed place 0 owed) rest rest (movi_empty place.names rest)
     ∙ ap (λ z. read_on z frames_on) (moved_same (placed place 0 owed) 0 (owed - 0) (omega arith) rest)
     ∙ given_same (frames_after (placed place 0 (owed - 0)) rest)
@@ -408,9 +433,15 @@ movi_frames place [] owed rest each none_barred sized =
     given_same : (z : Result (List (List ℕ) × List ℕ) Stop) → z ≡ read_on z (λ frames. given ([] ++ frames))
     given_same (Ok p) = refl
     given_same (Err why) = refl
-movi_frames place (c ∷ cs) owed rest each none_barred sized =
-    on_names (barred_in place.names c) (frame_in place.names c) refl refl (λ o l s. movi_frames place cs o rest each.1 l s)
+movi_frames place (c ∷ cs) owed rest each fit none_barred sized =
+    on_names (barred_in place.names c) (frame_in place.names c) refl refl (λ o l s. movi_frames place cs o rest taken.1 fit.1 l s)
   where
+    taken : IsTaken (opens place.names) c × AreTaken (opens place.names) cs
+    taken = taken_first (opens place.names) c cs each
+
+    fits : 8 + padded (little_number 4 c.size) ≤ length (chunk_text c) + length (chunks_text cs)
+    fits = omega (arith, fit_first 0 c cs fit)
+
     behind : List ℕ
     behind = chunks_text cs ++ rest
 
@@ -441,7 +472,7 @@ movi_frames place (c ∷ cs) owed rest each none_barred sized =
         rw q
         (whole
         ∙ frames_step here (chunk_text c ++ behind)
-        ∙ ap (λ z. read_on (read_on z found_read) (more_frames frames_read)) (frames_passed here c more behind each.0 p q)
+        ∙ ap (λ z. read_on (read_on z found_read) (more_frames frames_read)) (frames_passed here c more behind taken.0 fits p q)
         ∙ sym (frames_step (placed place more owed) behind)
         ∙ later)
     on_names false true p q again =
@@ -452,7 +483,7 @@ movi_frames place (c ∷ cs) owed rest each none_barred sized =
         rw q
         (whole
         ∙ frames_step here (chunk_text c ++ behind)
-        ∙ ap (λ z. read_on z (more_frames frames_read)) (frame_next here (chunk_text c ++ behind) (c.bytes, more) behind (movi_there place.names c more behind each.0 p q sizes.1 sizes.0))
+        ∙ ap (λ z. read_on z (more_frames frames_read)) (frame_next here (chunk_text c ++ behind) (c.bytes, more) behind (movi_there place.names c more behind (frame_chunk place.names c taken.0 q) (barred_name place.names c p) q sizes.1 sizes.0))
         ∙ ap (λ z. read_on z (λ frames. given (c.bytes ∷ frames))) later
         ∙ one_more (frames_after (placed place 0 (owed - 1 - length (these cs))) rest)
         ∙ ap (λ n. read_on (frames_after (placed place 0 n) rest) (λ frames. given (c.bytes ∷ (these cs ++ frames)))) owes)
@@ -482,6 +513,6 @@ frames_complete chunks frames rest are =
     let P : List (List ℕ) → Type 0 = λ z. AreWithin 1 limit z in
     let here = bytes_of (those (frame_in Any) chunks) in
     let end : (frames_after (placed (in_movi 0) 0 (0 - length here))) rest ≡ Ok ([], rest) = ap (λ z. read_on z frames_on) (moved_first (placed (in_movi 0) 0 (0 - length here)) refl rest) in
-    movi_frames (in_movi 0) chunks 0 rest are.each are.none_barred (subst P (sym are.those_of) are.sized)
+    movi_frames (in_movi 0) chunks 0 rest are.each (chunks_fit 0 chunks are.each) are.none_barred (subst P (sym are.those_of) are.sized)
     ∙ ap (λ z. read_on z (λ frames. given (here ++ frames))) end
     ∙ ap (λ z. Ok (z, rest)) (append-nil here ∙ are.those_of)

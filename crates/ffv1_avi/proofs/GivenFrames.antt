@@ -1,10 +1,10 @@
 -- The frames of a file of every RIFF are given one by one, before what is after its last RIFF is refused.
-use Rattle.std.proofs.Common.{◌≡◌, ℕ, ◌+◌, ◌-◌, ◌<◌, Bool, true, false, Err, List, [], ◌∷◌, ◌++◌, length, codes, ap, ◌∙◌, sym, subst, arith, refl, append_assoc, append-nil, length-append}
+use Rattle.std.proofs.Common.{◌≤◌, ◌≡◌, ℕ, ◌+◌, ◌-◌, ◌<◌, Bool, true, false, Err, List, [], ◌∷◌, ◌++◌, length, codes, ap, ◌∙◌, sym, subst, arith, refl, append_assoc, append-nil, length-append}
 use Rattle.byteorder.specs.Endian.{little_number}
-use Rattle.ffv1_avi.specs.Names.{least_bytes, most_bytes}
+use Rattle.ffv1_avi.specs.Names.{least_bytes, most_bytes, opens}
 use Rattle.ffv1_avi.specs.declared.place.Extent.TheVariants.{EveryRiff}
 use Rattle.ffv1_avi.specs.declared.place.Place.{Place}
-use Rattle.ffv1_avi.specs.Chunks.{AreWithin, Chunk, IsChunk, chunk_text, chunks_text, is_list}
+use Rattle.ffv1_avi.specs.Chunks.{AreWithin, Chunk, IsChunk, chunk_text, chunks_text, is_list, Fit}
 use Rattle.ffv1_avi.specs.Edges.{FramesThen, GivesThen, frames_to}
 use Rattle.ffv1_avi.specs.Files.{file_read, found_read, frame_found, frame_read, frames_read, more_frames, movi_or_riff, movi_sought, open_read, riff_begun, sought_on}
 use Rattle.ffv1_reads.specs.Head.{Head}
@@ -20,10 +20,11 @@ use Rattle.ffv1_avi.proofs.FrameLaws.{frame_next, frames_passed, movi_there, pla
 use Rattle.ffv1_avi.proofs.LaterFrames.{Framed, begun_riff, frames_both, frames_in, framed_apart, in_riff, movi_long, riff_long, riff_same, sought_movi, sought_passed}
 use Rattle.ffv1_avi.proofs.LongMovis.{found_moved}
 use Rattle.ffv1_avi.proofs.Moves.{extent_every}
-use Rattle.ffv1_avi.proofs.RiffLaws.{chunks_even}
 use Rattle.ffv1_avi.specs.declared.place.Names.{Names}
 use Rattle.ffv1_avi.specs.Chunks.{barred_in}
 use Rattle.ffv1_avi.specs.Chunks.{frame_in}
+use Rattle.ffv1_avi.proofs.TakenChunks.{IsTaken, fit_first, taken_even, taken_first}
+use Rattle.ffv1_avi.proofs.OpenedLists.{barred_name, frame_chunk}
 
 -- the frames are those of another place if the next one is
 pub then_same : (p q : Place) (text more : List ℕ) (frames : List (List ℕ)) (why : Stop) → frame_read p text ≡ frame_read q more → FramesThen q more frames why → FramesThen p text frames why
@@ -31,17 +32,23 @@ then_same p q text more [] why same h = same ∙ h
 then_same p q text more (f ∷ fs) why same h = (h.0, h.1, same ∙ h.2, h.3)
 
 -- the frames of a movi, and then those after it
-movi_then : (input : ℕ) (names : Names) (riff owed : ℕ) (cs : List Chunk) (rest : List ℕ) (frames : List (List ℕ)) (why : Stop) → Framed names cs → FramesThen (in_riff input names riff (owed - length (frames_in names cs))) rest frames why →
+movi_then : (input : ℕ) (names : Names) (riff owed : ℕ) (cs : List Chunk) (rest : List ℕ) (frames : List (List ℕ)) (why : Stop) → Framed names cs → Fit 0 cs → FramesThen (in_riff input names riff (owed - length (frames_in names cs))) rest frames why →
     FramesThen (placed (in_riff input names riff 0) (length (chunks_text cs)) owed) (chunks_text cs ++ rest) (frames_in names cs ++ frames) why
-movi_then input names riff owed [] rest frames why framed h =
+movi_then input names riff owed [] rest frames why framed fit h =
     let P : ℕ → Type 0 = λ n. FramesThen (in_riff input names riff n) rest frames why in
     let same : owed - 0 ≡ owed = omega arith in
     subst P same h
-movi_then input names riff owed (c ∷ cs) rest frames why framed h =
-    on_names (barred_in names c) (frame_in names c) refl refl h (λ o k. movi_then input names riff o cs rest frames why apart.1 k)
+movi_then input names riff owed (c ∷ cs) rest frames why framed fit h =
+    on_names (barred_in names c) (frame_in names c) refl refl h (λ o k. movi_then input names riff o cs rest frames why apart.1 fit.1 k)
   where
     apart : Framed names (c ∷ []) × Framed names cs
     apart = framed_apart names (c ∷ []) cs framed
+
+    taken : IsTaken (opens names) c
+    taken = (taken_first (opens names) c cs framed.each).0
+
+    fits : 8 + padded (little_number 4 c.size) ≤ length (chunk_text c) + length (chunks_text cs)
+    fits = omega (arith, fit_first 0 c cs fit)
 
     more : ℕ
     more = length (chunks_text cs)
@@ -77,7 +84,7 @@ movi_then input names riff owed (c ∷ cs) rest frames why framed h =
         let P : List (List ℕ) → Type 0 = λ z. FramesThen (in_riff input names riff (owed - length z)) rest frames why in
         let later = again owed (subst P none k) in
         let Q : List (List ℕ) → Type 0 = λ z. Goal (z ++ frames) in
-        subst Q (sym none) (counted (fs ++ frames) (then_same here (placed place more owed) (chunk_text c ++ behind) behind (fs ++ frames) why (ap (λ z. read_on z found_read) (frames_passed here c more behind framed.each.0 p q)) later))
+        subst Q (sym none) (counted (fs ++ frames) (then_same here (placed place more owed) (chunk_text c ++ behind) behind (fs ++ frames) why (ap (λ z. read_on z found_read) (frames_passed here c more behind taken fits p q)) later))
     on_names false true p q k again =
         let one : frames_in names (c ∷ cs) ≡ c.bytes ∷ fs = rw q refl in
         let sizes : AreWithin (least_bytes names) (most_bytes names) (c.bytes ∷ []) = rw q at apart.0.sized in
@@ -86,7 +93,7 @@ movi_then input names riff owed (c ∷ cs) rest frames why framed h =
         let R : ℕ → Type 0 = λ n. FramesThen (in_riff input names riff n) rest frames why in
         let later = again (owed - 1) (subst R owes (subst P one k)) in
         let Q : List (List ℕ) → Type 0 = λ z. Goal (z ++ frames) in
-        subst Q (sym one) (counted (c.bytes ∷ (fs ++ frames)) (placed place more (owed - 1), behind, frame_next here (chunk_text c ++ behind) (c.bytes, more) behind (movi_there names c more behind framed.each.0 p q sizes.1 sizes.0), later))
+        subst Q (sym one) (counted (c.bytes ∷ (fs ++ frames)) (placed place more (owed - 1), behind, frame_next here (chunk_text c ++ behind) (c.bytes, more) behind (movi_there names c more behind (frame_chunk names c taken q) (barred_name names c p) q sizes.1 sizes.0), later))
 
 -- the next frame after a movi, by the next movi of its RIFF
 next_is : (input : ℕ) (names : Names) (riff owed : ℕ) (text : List ℕ) → (input ≡ 0 → ⊥) → frame_read (in_riff input names riff owed) text ≡ read_on (read_on (read_on (movi_sought names riff text) (movi_or_riff (in_riff input names riff owed))) (sought_on frame_found)) found_read
@@ -109,7 +116,7 @@ movi_next input names more owed size cs rest some sized counted framed =
     let left = length (section_text s) + more in
     let n = little_number 4 size in
     let behind = chunks_text cs ++ rest in
-    let even = chunks_even cs framed.each in
+    let even = taken_even (opens names) cs framed.each in
     let long = movi_long size cs sized in
     let found = sought_movi names left size behind sized (omega (arith, counted)) (omega (arith, counted, even, long)) in
     let room : n - 4 ≡ length (chunks_text cs) = omega (arith, counted) in
@@ -163,7 +170,7 @@ sections_then input names more owed (s ∷ ss) rest frames why some are framed h
         let owes : owed - length (frames_in names (cs ++ movis ss)) ≡ owed - length fs - length gs = omega (arith, ap length both, length-append fs gs) in
         let P : ℕ → Type 0 = λ n. FramesThen (in_riff input names more n) rest frames why in
         let later = again (owed - length fs) apart.1 (subst P owes g) in
-        let here = movi_then input names left owed cs behind (gs ++ frames) why apart.0 later in
+        let here = movi_then input names left owed cs behind (gs ++ frames) why apart.0 is.2 later in
         let all : fs ++ (gs ++ frames) ≡ frames_in names (cs ++ movis ss) ++ frames = sym (append_assoc fs gs frames) ∙ ap (λ z. z ++ frames) (sym both) in
         let Q : List (List ℕ) → Type 0 = λ z. FramesThen (in_riff input names (length (section_text (Section.Movi size cs)) + left) owed) (section_text (Section.Movi size cs) ++ behind) z why in
         subst Q all (then_same (in_riff input names (length (section_text (Section.Movi size cs)) + left) owed) (placed (in_riff input names left 0) (length (chunks_text cs)) owed) (section_text (Section.Movi size cs) ++ behind) (chunks_text cs ++ behind) (fs ++ (gs ++ frames)) why (movi_next input names left owed size cs behind some is.0 is.1 apart.0) here)
@@ -215,11 +222,11 @@ riffs_then (r ∷ rs) input names owed rest frames why are fits framed h =
     (then_same (in_riff input names 0 owed) (in_riff (input - length text) names (length (sections_text r.sections) + 0) owed) (text ++ behind) (sections_text r.sections ++ behind) (fs ++ (gs ++ frames)) why (riff_next input names owed r behind are.0 (omega (arith, fits, long))) here))
 
 -- those of a movi, of what is after it in RIFF and of RIFFs
-pub place_then : (input : ℕ) (names : Names) (owed : ℕ) (chunks : List Chunk) (sections : List Section) (riffs : List Riff) (rest : List ℕ) (why : Stop) → AreSections names sections → AreRiffs names riffs → length (riffs_text riffs) < input → Framed names (chunks ++ (movis sections ++ riff_movis riffs)) →
+pub place_then : (input : ℕ) (names : Names) (owed : ℕ) (chunks : List Chunk) (sections : List Section) (riffs : List Riff) (rest : List ℕ) (why : Stop) → AreSections names sections → AreRiffs names riffs → length (riffs_text riffs) < input → Fit 0 chunks → Framed names (chunks ++ (movis sections ++ riff_movis riffs)) →
     riff_begun (in_riff (input - length (riffs_text riffs)) names 0 (owed - length (frames_in names (chunks ++ (movis sections ++ riff_movis riffs))))) rest ≡ Err why →
     FramesThen (placed (in_riff input names (length (sections_text sections)) 0) (length (chunks_text chunks)) owed) (chunks_text chunks ++ (sections_text sections ++ (riffs_text riffs ++ rest))) (frames_in names (chunks ++ (movis sections ++ riff_movis riffs))) why
 unfolding movi_sought walk_up_to
-place_then input names owed chunks sections riffs rest why sections_are riffs_are fits framed refused =
+place_then input names owed chunks sections riffs rest why sections_are riffs_are fits fit framed refused =
     let first = framed_apart names chunks (movis sections ++ riff_movis riffs) framed in
     let second = framed_apart names (movis sections) (riff_movis riffs) first.1 in
     let some : input ≡ 0 → ⊥ = λ e. omega (arith, e, fits) in
@@ -238,7 +245,7 @@ place_then input names owed chunks sections riffs rest why sections_are riffs_ar
     let two = sections_then input names 0 (owed - length fs) sections behind (hs ++ []) why some sections_are second.0 third in
     let Q : ℕ → Type 0 = λ n. FramesThen (in_riff input names n (owed - length fs)) (sections_text sections ++ behind) (gs ++ (hs ++ [])) why in
     let room : left + 0 ≡ left = omega arith in
-    let one = movi_then input names left owed chunks (sections_text sections ++ behind) (gs ++ (hs ++ [])) why first.0 (subst Q room two) in
+    let one = movi_then input names left owed chunks (sections_text sections ++ behind) (gs ++ (hs ++ [])) why first.0 fit (subst Q room two) in
     let same : fs ++ (gs ++ (hs ++ [])) ≡ frames_in names (chunks ++ (movis sections ++ riff_movis riffs)) = ap (λ z. fs ++ (gs ++ z)) (append-nil hs) ∙ sym all in
     let R : List (List ℕ) → Type 0 = λ z. FramesThen (placed (in_riff input names left 0) (length (chunks_text chunks)) owed) (chunks_text chunks ++ (sections_text sections ++ behind)) z why in
     subst R same one
@@ -250,7 +257,7 @@ file_then is before after rest why parted refused =
     let known = file_before is before after parted in
     let behind = chunks_text is.chunks ++ (sections_text is.sections ++ (riffs_text before ++ rest)) in
     let whole = regrouped (codes "RIFF" ++ is.riff_size ++ codes "AVI ") (parts_text is.parts) (codes "LIST" ++ is.movi_size ++ codes "movi") (chunks_text is.chunks) (sections_text is.sections) (riffs_text before ++ rest) in
-    let frames_there = place_then most_input (names_in is) (total is.extended) is.chunks is.sections before rest why is.sections_are known.0 known.1 known.2 refused in
+    let frames_there = place_then most_input (names_in is) (total is.extended) is.chunks is.sections before rest why is.sections_are known.0 known.1 is.fit known.2 refused in
     (first_at is, behind, ap (open_read EveryRiff) whole ∙ file_opened is behind, frames_there)
 
 -- what is refused so has that fault

@@ -4,7 +4,7 @@ use Rattle.std.proofs.lemmas.List.{take-append-drop}
 use Rattle.ffv1_avi.specs.Chunks.{AreChunks, Chunk, chunks_text}
 use Rattle.ffv1_reads.specs.Reads.{Reading, given, passed, read_on, taken, ◌>>=◌}
 use Rattle.ffv1_avi.specs.Padding.{padded}
-use Rattle.ffv1_avi.specs.Walk.{Visit, walk, walk_up_to}
+use Rattle.ffv1_avi.specs.Walk.{Visit, walk, walk_up_to, plain}
 use Rattle.ffv1_avi.proofs.ListWalks.{Complete, Ended, Run, Sound, Taking, walk_complete, walk_sound}
 use Rattle.ffv1_avi.proofs.PassedBytes.{IsContent}
 use Rattle.ffv1_reads.proofs.WantedBytes.{passed_complete, passed_sound, taken_complete}
@@ -66,7 +66,7 @@ list_read_sound {S = S} visit T sound s size text p h =
     (on_end first.0.0.1 first.0.0.0 first.0.1 second.0.1 gone.0 gone.1 gone.2 walked.chunks walked.behind walked.after walked.last walked.text_is walked.each walked.long walked.run walked.end)
   where
     on_end : (o : Option ⊥) (t : S) (more rest padding : List ℕ) → more ≡ padding ++ rest → length padding ≡ size % 2 → (chunks : List Chunk) (behind : List ℕ) (after : ℕ) (last : S) → text ≡ chunks_text chunks ++ behind → AreChunks chunks →
-        length (chunks_text chunks) + after ≡ size - 4 → Run T s chunks last → Ended visit after last behind t o more → IsList T s size text t rest
+        length (chunks_text chunks) + after ≡ size - 4 → Run T s chunks last → Ended plain visit after last behind t o more → IsList T s size text t rest
     on_end (Some y) t more rest padding is odd chunks behind after last whole each long run end = absurd y
     on_end None t more rest padding is odd chunks behind after last whole each long run end =
         let P : S → Type 0 = λ z. Run T s chunks z in

@@ -1,10 +1,10 @@
 -- The frames after a movi: those of the other movis of its RIFF, and of further RIFFs.
 use Rattle.std.proofs.Common.{◌≡◌, ℕ, ◌+◌, ◌-◌, ◌≤◌, ◌<◌, false, Option, Some, None, Result, Ok, Err, List, [], ◌∷◌, ◌++◌, length, codes, map, ap, ◌∙◌, sym, subst, arith, refl, append_assoc, append-nil, length-append}
 use Rattle.byteorder.specs.Endian.{little_number}
-use Rattle.ffv1_avi.specs.Names.{least_bytes, most_bytes}
+use Rattle.ffv1_avi.specs.Names.{least_bytes, most_bytes, opens}
 use Rattle.ffv1_avi.specs.declared.chunk.Entry.{Entry}
 use Rattle.ffv1_avi.specs.declared.place.Place.{Place}
-use Rattle.ffv1_avi.specs.Chunks.{AreChunks, AreFrames, AreWithin, Chunk, IsChunk, chunk_text, chunks_text, is_list, those}
+use Rattle.ffv1_avi.specs.Chunks.{AreFrames, AreWithin, Chunk, IsChunk, chunk_text, chunks_text, is_list, those, Fit}
 use Rattle.ffv1_avi.specs.Behind.{begins_another, looked_past}
 use Rattle.ffv1_avi.specs.Edges.{bytes_framed}
 use Rattle.ffv1_avi.specs.Files.{frames_read, movi_or_riff, movi_sought, riff_begun, riff_list, visit_riff}
@@ -18,11 +18,12 @@ use Rattle.ffv1_avi.proofs.FrameLaws.{frames_after, frames_none, frames_on, movi
 use Rattle.ffv1_avi.proofs.ListWalks.{entry_complete, walk_complete}
 use Rattle.ffv1_avi.proofs.Moves.{moved_every, movi_empty}
 use Rattle.ffv1_reads.proofs.WantedBytes.{taken_complete}
-use Rattle.ffv1_avi.proofs.RiffLaws.{TakesRiff, chunks_even, map_both, riff_complete}
+use Rattle.ffv1_avi.proofs.RiffLaws.{TakesRiff, map_both, riff_complete}
 use Rattle.ffv1_avi.proofs.ChunkByChunk.{walk_step}
 use Rattle.ffv1_avi.specs.declared.place.Names.{Names}
 use Rattle.ffv1_avi.specs.Chunks.{barred_in}
 use Rattle.ffv1_avi.specs.Chunks.{frame_in}
+use Rattle.ffv1_avi.proofs.TakenChunks.{taken_apart, taken_even}
 
 -- after a movi, in an RIFF that has so many bytes left
 abbrev pub in_riff : ℕ → Names → ℕ → ℕ → Place
@@ -49,10 +50,6 @@ preceded_both fs gs (Ok p) = ap (λ x. Ok (x, p.1)) (sym (append_assoc fs gs p.0
 preceded_both fs gs (Err why) = refl
 
 -- parts of chunks that are frames
-chunks_apart : (xs ys : List Chunk) → AreChunks (xs ++ ys) → AreChunks xs × AreChunks ys
-chunks_apart [] ys h = (tt, h)
-chunks_apart (x ∷ xs) ys h = let more = chunks_apart xs ys h.1 in ((h.0, more.0), more.1)
-
 sized_apart : (least most : ℕ) (fs gs : List (List ℕ)) → AreWithin least most (fs ++ gs) → AreWithin least most fs × AreWithin least most gs
 sized_apart least most [] gs h = (tt, h)
 sized_apart least most (f ∷ fs) gs h = let more = sized_apart least most fs gs h.2 in ((h.0, h.1, more.0), more.1)
@@ -66,7 +63,7 @@ frames_both names xs ys = ap (map (λ (c : Chunk). c.bytes)) (those_both (frame_
 
 pub framed_apart : (names : Names) (xs ys : List Chunk) → Framed names (xs ++ ys) → Framed names xs × Framed names ys
 framed_apart names xs ys h =
-    let each = chunks_apart xs ys h.each in
+    let each = taken_apart (opens names) xs ys h.each in
     let lists = none_apart (those (barred_in names) xs) (those (barred_in names) ys) (sym (those_both (barred_in names) xs ys) ∙ h.none_barred) in
     let sized = sized_apart (least_bytes names) (most_bytes names) (frames_in names xs) (frames_in names ys) (subst (AreWithin (least_bytes names) (most_bytes names)) (frames_both names xs ys) h.sized) in
     (record { each = each.0; none_barred = lists.0; those_of = refl; sized = sized.0 }, record { each = each.1; none_barred = lists.1; those_of = refl; sized = sized.1 })
@@ -127,15 +124,15 @@ movi_long size cs sized =
     spelled : (length (codes "LIST") ≡ 4) × (length (codes "movi") ≡ 4)
     spelled = (refl, refl)
 
-pub after_movi : (input : ℕ) (names : Names) (more owed : ℕ) (size : List ℕ) (cs : List Chunk) (rest : List ℕ) → (input ≡ 0 → ⊥) → length size ≡ 4 → little_number 4 size ≡ 4 + length (chunks_text cs) → Framed names cs →
+pub after_movi : (input : ℕ) (names : Names) (more owed : ℕ) (size : List ℕ) (cs : List Chunk) (rest : List ℕ) → (input ≡ 0 → ⊥) → length size ≡ 4 → little_number 4 size ≡ 4 + length (chunks_text cs) → Framed names cs → Fit 0 cs →
     frames_after (in_riff input names (length (section_text (Section.Movi size cs)) + more) owed) (section_text (Section.Movi size cs) ++ rest)
     ≡ preceded (frames_in names cs) (frames_after (in_riff input names more (owed - length (frames_in names cs))) rest)
-after_movi input names more owed size cs rest some sized counted framed =
+after_movi input names more owed size cs rest some sized counted framed fit =
     let s = Section.Movi size cs in
     let left = length (section_text s) + more in
     let n = little_number 4 size in
     let behind = chunks_text cs ++ rest in
-    let even = chunks_even cs framed.each in
+    let even = taken_even (opens names) cs framed.each in
     let long = movi_long size cs sized in
     let found = sought_movi names left size behind sized (omega (arith, counted)) (omega (arith, counted, even, long)) in
     let room : n - 4 ≡ length (chunks_text cs) = omega (arith, counted) in
@@ -146,7 +143,7 @@ after_movi input names more owed size cs rest some sized counted framed =
     ∙ ap (λ z. read_on (read_on z (movi_or_riff (in_riff input names left owed))) frames_on) found
     ∙ ap (λ k. frames_read (movi_at (in_riff input names left owed) (k, left - (8 + padded n))) behind) room
     ∙ ap (λ k. frames_read (movi_at (in_riff input names left owed) (length (chunks_text cs), k)) behind) after
-    ∙ movi_frames here cs owed rest framed.each framed.none_barred framed.sized
+    ∙ movi_frames here cs owed rest framed.each fit framed.none_barred framed.sized
 
 -- the frames of the chunks of RIFF after a movi, and those after them
 pub sections_read : (input : ℕ) (names : Names) (more owed : ℕ) (sections : List Section) (rest : List ℕ) → (input ≡ 0 → ⊥) → AreSections names sections → Framed names (movis sections) →
@@ -192,7 +189,7 @@ sections_read input names more owed (s ∷ ss) rest some are framed = on_section
         let both : fs ++ gs ≡ frames_in names (cs ++ movis ss) = sym (frames_both names cs (movis ss)) in
         let owes : owed - length fs - length gs ≡ owed - length (fs ++ gs) = omega (arith, length-append fs gs) in
         whole (Section.Movi size cs)
-        ∙ after_movi input names left owed size cs behind some is.0 is.1 apart.0
+        ∙ after_movi input names left owed size cs behind some is.0 is.1 apart.0 is.2
         ∙ ap (preceded fs) (again (owed - length fs) apart.1)
         ∙ preceded_both fs gs (frames_after (in_riff input names more (owed - length fs - length gs)) rest)
         ∙ ap (λ n. preceded (fs ++ gs) (frames_after (in_riff input names more n) rest)) owes

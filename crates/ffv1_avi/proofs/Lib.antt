@@ -7,8 +7,11 @@ mod BegunRiffs
 mod Moves
 mod FirstFrames
 pub mod FrameTurns
+pub mod TakenChunks
 pub mod ListWalks
+pub mod OpenedLists
 mod ListedNames
+mod RecLists
 pub mod PassedBytes
 pub mod Fields
 pub mod StreamCounts

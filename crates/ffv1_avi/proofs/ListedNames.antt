@@ -1,15 +1,15 @@
 -- The names that a movi lists, in words.
-use Rattle.std.proofs.Common.{◌≡◌, ◌⊎◌, inl, inr, ℕ, ◌+◌, ◌-◌, ◌/◌, ◌%◌, ◌≤◌, ◌<◌, ◌==◌, ◌&&◌, ◌||◌, nat_lt, nat_le, Bool, true, false, Some, Ok, Err, List, [], ◌∷◌, ◌++◌, length, codes, ap, ◌∙◌, sym, arith, refl}
+use Rattle.std.proofs.Common.{◌≡◌, ◌⊎◌, inl, inr, ℕ, ◌+◌, ◌/◌, ◌%◌, ◌≤◌, ◌<◌, ◌==◌, ◌&&◌, ◌||◌, nat_lt, nat_le, Bool, true, false, Some, Ok, Err, List, [], ◌∷◌, ◌++◌, length, codes, ap, ◌∙◌, sym, arith, refl}
 use Rattle.std.proofs.lemmas.Bool.{leb-true, ltb-true, le-leb, lt-ltb, eq-eqb, eqb-false, ne_eqb}
 use Rattle.std.specs.Cmp.Lexicographic.{same_text}
 use Rattle.byteorder.specs.Endian.{little_number}
 use Rattle.ffv1_reads.specs.declared.fault.FileFault.TheVariants as fault
 use Rattle.ffv1_reads.specs.Reads.{Met, given, read_on}
 use Rattle.ffv1_avi.specs.declared.place.Names.TheVariants.{Closed}
-use Rattle.ffv1_avi.specs.Names.{IsFrameName, bars, IsIndexName, IsListed, IsOfOther, are_digits, bitmap_name, frame_name, is_barred, is_digit, is_frame, is_index, is_of_other, is_stream_frame, number_of, palette_name, stands_beside}
+use Rattle.ffv1_avi.specs.Names.{IsFrameName, bars, IsIndexName, IsListed, IsOfOther, are_digits, bitmap_name, frame_name, is_barred, is_digit, is_frame, is_index, is_of_other, is_stream_frame, number_of, palette_name, stands_beside, rule_of}
 use Rattle.ffv1_avi.specs.Files.{found_or_on, found_read, frame_found, frame_read, movi_found, visit_movi}
 use Rattle.ffv1_avi.specs.Padding.{padded}
-use Rattle.ffv1_avi.specs.Walk.{entry_in, is_name, resumed, visited, walk_in}
+use Rattle.ffv1_avi.specs.Walk.{entry_in, is_name, resumed, visited, walk_in, entry_of, size_in}
 use Rattle.ffv1_avi.specs.declared.chunk.Entry.{Entry}
 use Rattle.ffv1_avi.specs.declared.place.Place.{Place}
 use Rattle.ffv1_avi.proofs.ChunkByChunk.{walk_step_in}
@@ -80,21 +80,23 @@ pub listed_named : (stream streams : ℕ) (name : List ℕ) → stream < 100 →
 unfolding stands_beside
 listed_named stream streams name few long h = on_frame (is_stream_frame stream name) (stands_beside stream streams name) refl refl
   where
-    on_four : (is_name name (palette_name stream) ≡ true) ⊎ ((is_of_other stream streams name ≡ true) ⊎ ((is_index name ≡ true) ⊎ (is_name name (codes "JUNK") ≡ true))) → IsListed stream streams name
-    on_four (inl k) = inr (inl (same_text name (palette_name stream) (sym k)))
-    on_four (inr (inl k)) = inr (inr (inl (other_named stream streams name long k)))
-    on_four (inr (inr (inl k))) = inr (inr (inr (inl (index_named name long k))))
-    on_four (inr (inr (inr k))) = inr (inr (inr (inr (same_text name (codes "JUNK") (sym k)))))
+    on_five : (is_name name (palette_name stream) ≡ true) ⊎ ((is_of_other stream streams name ≡ true) ⊎ ((is_index name ≡ true) ⊎ ((is_name name (codes "JUNK") ≡ true) ⊎ (is_name name (codes "LIST") ≡ true)))) → IsListed stream streams name
+    on_five (inl k) = inr (inl (same_text name (palette_name stream) (sym k)))
+    on_five (inr (inl k)) = inr (inr (inl (other_named stream streams name long k)))
+    on_five (inr (inr (inl k))) = inr (inr (inr (inl (index_named name long k))))
+    on_five (inr (inr (inr (inl k)))) = inr (inr (inr (inr (inl (same_text name (codes "JUNK") (sym k))))))
+    on_five (inr (inr (inr (inr k)))) = inr (inr (inr (inr (inr (same_text name (codes "LIST") (sym k))))))
 
-    four : (a b c d : Bool) → (a || b || c || d) ≡ true → (a ≡ true) ⊎ ((b ≡ true) ⊎ ((c ≡ true) ⊎ (d ≡ true)))
-    four true b c d k = inl refl
-    four false true c d k = inr (inl refl)
-    four false false true d k = inr (inr (inl refl))
-    four false false false d k = inr (inr (inr k))
+    five : (a b c d e : Bool) → (a || b || c || d || e) ≡ true → (a ≡ true) ⊎ ((b ≡ true) ⊎ ((c ≡ true) ⊎ ((d ≡ true) ⊎ (e ≡ true))))
+    five true b c d e k = inl refl
+    five false true c d e k = inr (inl refl)
+    five false false true d e k = inr (inr (inl refl))
+    five false false false true e k = inr (inr (inr (inl refl)))
+    five false false false false e k = inr (inr (inr (inr k)))
 
     on_frame : (a b : Bool) → is_stream_frame stream name ≡ a → stands_beside stream streams name ≡ b → IsListed stream streams name
     on_frame true b p q = inl (frames_named stream streams name few p)
-    on_frame false true p q = on_four (four (is_name name (palette_name stream)) (is_of_other stream streams name) (is_index name) (is_name name (codes "JUNK")) q)
+    on_frame false true p q = on_five (five (is_name name (palette_name stream)) (is_of_other stream streams name) (is_index name) (is_name name (codes "JUNK")) (is_name name (codes "LIST")) q)
     on_frame false false p q = absurd (cc (rw (p, q) at h))
 
 -- a chunk whose name movi bars is refused after its header, whatever size it says
@@ -104,9 +106,9 @@ unfolding movi_found
 unsized_refused place name size rest named sized enough bar =
     let text = (name ++ size) ++ rest in
     let visit = visit_movi place.names in
-    let barred = bars place.names in
+    let barred = rule_of place.names in
     ap (λ z. read_on z found_read) (frame_step place text)
-    ∙ ap (λ z. read_on (read_on (read_on z (λ p. given p.1)) (found_or_on frame_found place)) found_read) (walk_step_in (bars place.names) visit place.movi tt text)
+    ∙ ap (λ z. read_on (read_on (read_on z (λ p. given p.1)) (found_or_on frame_found place)) found_read) (walk_step_in (rule_of place.names) visit place.movi tt text)
     ∙ ap (λ z. read_on (read_on (read_on (read_on z (visited visit (walk_in barred visit) tt)) (λ p. given p.1)) (found_or_on frame_found place)) found_read) (entry_barred barred place.movi name size rest bar named sized enough)
 
 -- a chunk that may not stand in movi is refused after its header
@@ -120,13 +122,13 @@ barred_refused place name size rest named sized fits listed barred = on_bars (ba
     on_bars false p =
         let text = (name ++ size) ++ rest in
         let visit = visit_movi place.names in
-        let walking = walk_in (bars place.names) visit in
+        let walking = walk_in (rule_of place.names) visit in
         let n = little_number 4 size in
-        let e : Entry = record { name = name; size = n; left = place.movi - (8 + padded n) } in
-        let entry : entry_in (bars place.names) place.movi text ≡ Ok (Some e, rest) = entry_complete_in (bars place.names) place.movi name size rest p named sized fits listed in
+        let e : Entry = entry_of place.movi name (size_in (rule_of place.names) name n) in
+        let entry : entry_in (rule_of place.names) place.movi text ≡ Ok (Some e, rest) = entry_complete_in (rule_of place.names) place.movi name size rest p named sized fits listed in
         let stop : visit tt e rest ≡ Err (Met fault.NotAvi rest) = rw barred refl in
         ap (λ z. read_on z found_read) (frame_step place text)
-        ∙ ap (λ z. read_on (read_on (read_on z (λ p. given p.1)) (found_or_on frame_found place)) found_read) (walk_step_in (bars place.names) visit place.movi tt text)
+        ∙ ap (λ z. read_on (read_on (read_on z (λ p. given p.1)) (found_or_on frame_found place)) found_read) (walk_step_in (rule_of place.names) visit place.movi tt text)
         ∙ ap (λ z. read_on (read_on (read_on (read_on z (visited visit walking tt)) (λ p. given p.1)) (found_or_on frame_found place)) found_read) entry
         ∙ ap (λ z. read_on (read_on (read_on (read_on z (λ p. resumed (walking e.left) p.0 p.1)) (λ p. given p.1)) (found_or_on frame_found place)) found_read) stop
 
@@ -163,15 +165,17 @@ index_stands : (name : List ℕ) → IsIndexName name → is_index name ≡ true
 unfolding is_index
 index_stands name is = let said = digits_said is.number is.short in rw (is.named, said.0) refl
 
-any : (a b c d : Bool) → (a ≡ true) ⊎ ((b ≡ true) ⊎ ((c ≡ true) ⊎ (d ≡ true))) → (a || b || c || d) ≡ true
-any true b c d k = refl
-any false true c d k = refl
-any false false true d k = refl
-any false false false true k = refl
-any false false false false (inl k) = k
-any false false false false (inr (inl k)) = k
-any false false false false (inr (inr (inl k))) = k
-any false false false false (inr (inr (inr k))) = k
+any : (a b c d e : Bool) → (a ≡ true) ⊎ ((b ≡ true) ⊎ ((c ≡ true) ⊎ ((d ≡ true) ⊎ (e ≡ true)))) → (a || b || c || d || e) ≡ true
+any true b c d e k = refl
+any false true c d e k = refl
+any false false true d e k = refl
+any false false false true e k = refl
+any false false false false true k = refl
+any false false false false false (inl k) = k
+any false false false false false (inr (inl k)) = k
+any false false false false false (inr (inr (inl k))) = k
+any false false false false false (inr (inr (inr (inl k)))) = k
+any false false false false false (inr (inr (inr (inr k)))) = k
 
 pub named_listed : (stream streams : ℕ) (name : List ℕ) → stream < 100 → IsListed stream streams name → is_barred (Closed stream streams) name ≡ false
 unfolding stands_beside
@@ -189,18 +193,22 @@ named_listed stream streams name few is = on_frame (is_stream_frame stream name)
     d : Bool
     d = is_name name (codes "JUNK")
 
-    stands : (IsFrameName stream name ⊎ ((name ≡ palette_name stream) ⊎ (IsOfOther stream streams name ⊎ (IsIndexName name ⊎ (name ≡ codes "JUNK"))))) → (is_stream_frame stream name ≡ true) ⊎ ((a || b || c || d) ≡ true)
+    e : Bool
+    e = is_name name (codes "LIST")
+
+    stands : (IsFrameName stream name ⊎ ((name ≡ palette_name stream) ⊎ (IsOfOther stream streams name ⊎ (IsIndexName name ⊎ ((name ≡ codes "JUNK") ⊎ (name ≡ codes "LIST")))))) → (is_stream_frame stream name ≡ true) ⊎ ((a || b || c || d || e) ≡ true)
     stands (inl k) = inl (frame_stands stream name k)
-    stands (inr (inl k)) = let self : a ≡ true = rw k (named_self (palette_name stream)) in inr (any a b c d (inl self))
-    stands (inr (inr (inl k))) = inr (any a b c d (inr (inl (other_stands stream streams name k))))
-    stands (inr (inr (inr (inl k)))) = inr (any a b c d (inr (inr (inl (index_stands name k)))))
-    stands (inr (inr (inr (inr k)))) = let self : d ≡ true = rw k refl in inr (any a b c d (inr (inr (inr self))))
+    stands (inr (inl k)) = let self : a ≡ true = rw k (named_self (palette_name stream)) in inr (any a b c d e (inl self))
+    stands (inr (inr (inl k))) = inr (any a b c d e (inr (inl (other_stands stream streams name k))))
+    stands (inr (inr (inr (inl k)))) = inr (any a b c d e (inr (inr (inl (index_stands name k)))))
+    stands (inr (inr (inr (inr (inl k))))) = let self : d ≡ true = rw k refl in inr (any a b c d e (inr (inr (inr (inl self)))))
+    stands (inr (inr (inr (inr (inr k))))) = let self : e ≡ true = rw k refl in inr (any a b c d e (inr (inr (inr (inr self)))))
 
     on_frame : (p q : Bool) → is_stream_frame stream name ≡ p → stands_beside stream streams name ≡ q → is_barred (Closed stream streams) name ≡ false
     on_frame true q s t = rw s refl
     on_frame false true s t = rw (s, t) refl
     on_frame false false s t = on_either (stands is)
       where
-        on_either : (is_stream_frame stream name ≡ true) ⊎ ((a || b || c || d) ≡ true) → is_barred (Closed stream streams) name ≡ false
+        on_either : (is_stream_frame stream name ≡ true) ⊎ ((a || b || c || d || e) ≡ true) → is_barred (Closed stream streams) name ≡ false
         on_either (inl k) = let gone : true ≡ false = sym k ∙ s in absurd (cc)
         on_either (inr k) = let gone : true ≡ false = sym k ∙ t in absurd (cc)

@@ -5,11 +5,11 @@ use Rattle.ffv1_reads.specs.declared.fault.FileFault.TheVariants as fault
 use Rattle.ffv1_avi.specs.declared.place.Extent.TheVariants.{EveryRiff}
 use Rattle.ffv1_avi.specs.declared.place.Extent.{Extent}
 use Rattle.ffv1_avi.specs.declared.place.Place.{Place}
-use Rattle.ffv1_avi.specs.Chunks.{AreChunks, Chunk, Passes, chunks_text, is_list, those}
+use Rattle.ffv1_avi.specs.Chunks.{AreChunks, Chunk, Passes, chunks_text, is_list, those, AreTaken}
 use Rattle.ffv1_avi.specs.Files.{found_or_on, found_read, frame_found, frame_read, moved, moved_by, movi_found, movi_or_riff, movi_sought, riff_begun, sought_on, visit_movi, visit_riff}
 use Rattle.ffv1_avi.specs.Places.{extent_of, riff_at}
 use Rattle.ffv1_reads.specs.Reads.{Met, given, read_on}
-use Rattle.ffv1_avi.specs.Names.{bars}
+use Rattle.ffv1_avi.specs.Names.{bars, opens, rule_of}
 use Rattle.ffv1_avi.specs.Walk.{visited, walk, walk_in, walk_up_to}
 use Rattle.ffv1_avi.proofs.FrameLaws.{TakesMovi, movi_complete, movi_stands}
 use Rattle.ffv1_avi.proofs.LaterFrames.{begun_riff, in_riff}
@@ -21,6 +21,8 @@ use Rattle.ffv1_avi.proofs.ChunkByChunk.{walk_step, walk_step_in}
 use Rattle.ffv1_avi.specs.declared.place.Names.{Names}
 use Rattle.ffv1_avi.specs.Chunks.{barred_in}
 use Rattle.ffv1_avi.specs.Chunks.{frame_in}
+use Rattle.ffv1_avi.proofs.TakenChunks.{chunks_fit, taken_more, taken_none}
+use Rattle.ffv1_avi.proofs.OpenedLists.{barred_name, stands_rec, stands_taken}
 
 -- chunks that are no frames
 movi_run : (names : Names) (cs : List Chunk) → those (barred_in names) cs ≡ [] → those (frame_in names) cs ≡ [] → Run (TakesMovi names) tt cs tt
@@ -30,7 +32,16 @@ movi_run names (c ∷ cs) lists frames = on_names (barred_in names c) (frame_in 
     on_names : (a b : Bool) → barred_in names c ≡ a → frame_in names c ≡ b → (those (barred_in names) cs ≡ [] → those (frame_in names) cs ≡ [] → Run (TakesMovi names) tt cs tt) → Run (TakesMovi names) tt (c ∷ cs) tt
     on_names true b p q again = let gone : c ∷ those (barred_in names) cs ≡ [] = rw p at lists in absurd (cc)
     on_names false true p q again = let gone : c ∷ those (frame_in names) cs ≡ [] = rw q at frames in absurd (cc)
-    on_names false false p q again = (tt, (p, q), again (rw p at lists) (rw q at frames))
+    on_names false false p q again = (tt, (barred_name names c p, q, stands_rec names c p), again (rw p at lists) (rw q at frames))
+
+-- whole chunks that may stand in movi are taken there as they are
+movi_taken : (names : Names) (cs : List Chunk) → AreChunks cs → those (barred_in names) cs ≡ [] → AreTaken (opens names) cs
+movi_taken names [] each lists = taken_none (opens names)
+movi_taken names (c ∷ cs) each lists = on_name (barred_in names c) refl (λ l. movi_taken names cs each.1 l)
+  where
+    on_name : (b : Bool) → barred_in names c ≡ b → (those (barred_in names) cs ≡ [] → AreTaken (opens names) cs) → AreTaken (opens names) (c ∷ cs)
+    on_name true p again = let gone : c ∷ those (barred_in names) cs ≡ [] = rw p at lists in absurd (cc)
+    on_name false p again = taken_more (opens names) c cs (stands_taken names c each.0 p) (again (rw p at lists))
 
 -- chunks that are no movi and no frames
 riff_run : (names : Names) (cs : List Chunk) → those (is_list (codes "movi")) cs ≡ [] → those (frame_in names) cs ≡ [] → Run (TakesRiff names) tt cs tt
@@ -50,9 +61,9 @@ movi_long_at place chunks left name size rest room each lists frames passes stan
     let visit = visit_movi place.names in
     let found : movi_found place.names place.movi (chunks_text chunks ++ text) ≡ Err (Met fault.Truncated rest) =
     ap (λ n. movi_found place.names n (chunks_text chunks ++ text)) room
-    ∙ ap (λ z. read_on z (λ p. given p.1)) (walk_complete_in (bars place.names) visit (TakesMovi place.names) (movi_stands place.names) (movi_complete place.names) chunks tt tt left text each (movi_run place.names chunks lists frames))
-    ∙ ap (λ z. read_on z (λ p. given p.1)) (walk_step_in (bars place.names) visit left tt text)
-    ∙ ap (λ z. read_on (read_on z (visited visit (walk_in (bars place.names) visit) tt)) (λ p. given p.1)) (entry_long_in (bars place.names) left name size rest stands passes.named passes.sized passes.header passes.passes) in
+    ∙ ap (λ z. read_on z (λ p. given p.1)) (walk_complete_in (rule_of place.names) visit (TakesMovi place.names) (movi_stands place.names) (movi_complete place.names) chunks tt tt left text (movi_taken place.names chunks each lists) (chunks_fit left chunks each) (movi_run place.names chunks lists frames))
+    ∙ ap (λ z. read_on z (λ p. given p.1)) (walk_step_in (rule_of place.names) visit left tt text)
+    ∙ ap (λ z. read_on (read_on z (visited visit (walk_in (rule_of place.names) visit) tt)) (λ p. given p.1)) (entry_long_in (rule_of place.names) left name size rest stands passes.named passes.sized passes.header passes.passes) in
     ap (λ z. read_on z found_read) (frame_step place (chunks_text chunks ++ text))
     ∙ ap (λ z. read_on (read_on z (found_or_on frame_found place)) found_read) found
 

@@ -4,17 +4,18 @@ use Rattle.std.proofs.lemmas.Bool.{eqb-false, eqb-true, ne_eqb}
 use Rattle.ffv1_avi.specs.declared.chunk.Entry.{Entry}
 use Rattle.ffv1_avi.specs.declared.place.Extent.TheVariants.{FirstMovi, EveryRiff}
 use Rattle.ffv1_avi.specs.declared.place.Place.{Place}
-use Rattle.ffv1_avi.specs.Files.{found_read, frame_found, frame_found_up_to, frame_read, found_or_on, moved, moved_by, movi_found, movi_or_riff, movi_sought, riff_begun, riff_list, sought_on, visit_movi, visit_riff}
+use Rattle.ffv1_avi.specs.Files.{found_read, frame_found, frame_found_up_to, frame_read, found_or_on, list_opened, moved, moved_by, movi_found, movi_or_riff, movi_sought, riff_begun, riff_list, sought_on, visit_movi, visit_riff}
 use Rattle.ffv1_avi.specs.Places.{amount, extent_of, frame_at, movi_at}
-use Rattle.ffv1_reads.specs.Reads.{Stop, given, passed, read_on, taken, ◌>>=◌}
-use Rattle.ffv1_avi.specs.Padding.{padded}
-use Rattle.ffv1_avi.specs.Walk.{Visit, bars_none, entry_in, is_name, resumed, visited, walk_in, walk_up_to}
+use Rattle.ffv1_reads.specs.Reads.{Looked, Stop, given, passed, read_on, taken, ◌>>=◌}
+use Rattle.ffv1_avi.specs.Padding.{content, padded}
+use Rattle.ffv1_avi.specs.Walk.{Rule, Visit, plain, entry_in, is_name, resumed, visited, walk_in, walk_up_to}
 use Rattle.ffv1_avi.proofs.BegunRiffs.{begun_sound}
 use Rattle.ffv1_avi.proofs.ListWalks.{entry_sound}
+use Rattle.ffv1_avi.proofs.OpenedLists.{opened_sound}
 use Rattle.ffv1_reads.proofs.Results.{read_on_ok}
 use Rattle.ffv1_reads.proofs.Results.{ok_is, some_is}
 use Rattle.ffv1_avi.specs.declared.place.Names.{Names}
-use Rattle.ffv1_avi.specs.Names.{bars, is_barred, least_bytes, most_bytes}
+use Rattle.ffv1_avi.specs.Names.{is_barred, least_bytes, most_bytes, rule_of}
 use Rattle.ffv1_avi.specs.Names.{is_frame}
 
 no_some : {X : Type 0} (x : X) → ◌≡◌ {A = Option X} (Some x) None → ⊥
@@ -28,35 +29,35 @@ pub record StopsAt {S Y : Type 0} (visit : Visit S Y) (left : ℕ) (t : S) (y : 
   pub fits : entry.left + (8 + padded entry.size) ≤ left
   pub is : visit state entry text ≡ Ok ((t, Some y), rest)
 
-stops_up_to : {S Y : Type 0} (barred : List ℕ → Bool) (visit : Visit S Y) (most left : ℕ) (s : S) (text : List ℕ) (t : S) (y : Y) (rest : List ℕ) → walk_up_to barred visit most left s text ≡ Ok ((t, Some y), rest) → StopsAt visit left t y rest
+stops_up_to : {S Y : Type 0} (rule : Rule) (visit : Visit S Y) (most left : ℕ) (s : S) (text : List ℕ) (t : S) (y : Y) (rest : List ℕ) → walk_up_to rule visit most left s text ≡ Ok ((t, Some y), rest) → StopsAt visit left t y rest
 unfolding walk_up_to
-stops_up_to {S = S} {Y = Y} barred visit zero left s text t y rest h = absurd (no_some y (sym (ap (λ (z : (S × Option Y) × List ℕ). z.0.1) (ok_is ((s, None), text) ((t, Some y), rest) h))))
-stops_up_to {S = S} {Y = Y} barred visit (suc most) left s text t y rest h =
-    let first = read_on_ok (entry_in barred left text) (visited visit (walk_up_to barred visit most) s) ((t, Some y), rest) h in
-    on_entry (λ l u after k. stops_up_to barred visit most l u after t y rest k) first.0.0 first.0.1 first.1 first.2
+stops_up_to {S = S} {Y = Y} rule visit zero left s text t y rest h = absurd (no_some y (sym (ap (λ (z : (S × Option Y) × List ℕ). z.0.1) (ok_is ((s, None), text) ((t, Some y), rest) h))))
+stops_up_to {S = S} {Y = Y} rule visit (suc most) left s text t y rest h =
+    let first = read_on_ok (entry_in rule left text) (visited visit (walk_up_to rule visit most) s) ((t, Some y), rest) h in
+    on_entry (λ l u after k. stops_up_to rule visit most l u after t y rest k) first.0.0 first.0.1 first.1 first.2
   where
     Again : Type 0
-    Again = (l : ℕ) (u : S) (after : List ℕ) → walk_up_to barred visit most l u after ≡ Ok ((t, Some y), rest) → StopsAt visit l t y rest
+    Again = (l : ℕ) (u : S) (after : List ℕ) → walk_up_to rule visit most l u after ≡ Ok ((t, Some y), rest) → StopsAt visit l t y rest
 
-    on_visit : Again → (e : Entry) (more : List ℕ) → e.left + (8 + padded e.size) ≤ left → (u : S) (o : Option Y) (after : List ℕ) → visit s e more ≡ Ok ((u, o), after) → resumed (walk_up_to barred visit most e.left) u o after ≡ Ok ((t, Some y), rest) → StopsAt visit left t y rest
+    on_visit : Again → (e : Entry) (more : List ℕ) → e.left + (8 + padded e.size) ≤ left → (u : S) (o : Option Y) (after : List ℕ) → visit s e more ≡ Ok ((u, o), after) → resumed (walk_up_to rule visit most e.left) u o after ≡ Ok ((t, Some y), rest) → StopsAt visit left t y rest
     on_visit again e more fits u (Some x) after is k = record { state = s; entry = e; text = more; fits = fits; is = is ∙ k }
     on_visit again e more fits u None after is k =
         let later = again e.left u after k in
         record { state = later.state; entry = later.entry; text = later.text; fits = omega (arith, later.fits, fits); is = later.is }
 
-    on_entry : Again → (o : Option Entry) (more : List ℕ) → entry_in barred left text ≡ Ok (o, more) → visited visit (walk_up_to barred visit most) s o more ≡ Ok ((t, Some y), rest) → StopsAt visit left t y rest
+    on_entry : Again → (o : Option Entry) (more : List ℕ) → entry_in rule left text ≡ Ok (o, more) → visited visit (walk_up_to rule visit most) s o more ≡ Ok ((t, Some y), rest) → StopsAt visit left t y rest
     on_entry again None more is k = absurd (no_some y (sym (ap (λ (z : (S × Option Y) × List ℕ). z.0.1) (ok_is ((s, None), more) ((t, Some y), rest) k))))
     on_entry again (Some e) more is k =
-        let entry = entry_sound barred left text e more is in
-        let second = read_on_ok (visit s e more) (λ p. resumed (walk_up_to barred visit most e.left) p.0 p.1) ((t, Some y), rest) k in
+        let entry = entry_sound rule left text e more is in
+        let second = read_on_ok (visit s e more) (λ p. resumed (walk_up_to rule visit most e.left) p.0 p.1) ((t, Some y), rest) k in
         on_visit again e more (omega (arith, entry.fits)) second.0.0.0 second.0.0.1 second.0.1 second.1 second.2
 
 -- the state and the outcome of a walk that stops
-walk_given : {S Y : Type 0} (barred : List ℕ → Bool) (visit : Visit S Y) (left : ℕ) (s : S) (text : List ℕ) (y : Y) (rest : List ℕ) → (walk_in barred visit left s >>= λ p. given p.1) text ≡ Ok (Some y, rest) → (t : S) × (walk_in barred visit left s text ≡ Ok ((t, Some y), rest))
-walk_given {S = S} {Y = Y} barred visit left s text y rest h =
-    let first = read_on_ok (walk_in barred visit left s text) (λ p. given p.1) (Some y, rest) h in
+walk_given : {S Y : Type 0} (rule : Rule) (visit : Visit S Y) (left : ℕ) (s : S) (text : List ℕ) (y : Y) (rest : List ℕ) → (walk_in rule visit left s >>= λ p. given p.1) text ≡ Ok (Some y, rest) → (t : S) × (walk_in rule visit left s text ≡ Ok ((t, Some y), rest))
+walk_given {S = S} {Y = Y} rule visit left s text y rest h =
+    let first = read_on_ok (walk_in rule visit left s text) (λ p. given p.1) (Some y, rest) h in
     let same = ok_is (first.0.0.1, first.0.1) (Some y, rest) first.2 in
-    let P : Option Y × List ℕ → Type 0 = λ z. walk_in barred visit left s text ≡ Ok ((first.0.0.0, z.0), z.1) in
+    let P : Option Y × List ℕ → Type 0 = λ z. walk_in rule visit left s text ≡ Ok ((first.0.0.0, z.0), z.1) in
     (first.0.0.0, subst P same first.1)
 
 -- the bytes of a movi, and those that RIFF has after it, are fewer than RIFF had
@@ -91,8 +92,8 @@ riff_stop names s e text t y rest h = on_list (is_name e.name (codes "LIST")) re
 sought_less : (names : Names) (left : ℕ) (text : List ℕ) (y : ℕ × ℕ) (rest : List ℕ) → movi_sought names left text ≡ Ok (Some y, rest) → y.0 + y.1 + 8 ≤ left
 unfolding movi_sought
 sought_less names left text y rest h =
-    let walked = walk_given bars_none (visit_riff names) left tt text y rest h in
-    let stop = stops_up_to bars_none (visit_riff names) left left tt text walked.0 y rest walked.1 in
+    let walked = walk_given plain (visit_riff names) left tt text y rest h in
+    let stop = stops_up_to plain (visit_riff names) left left tt text walked.0 y rest walked.1 in
     let movi = riff_stop names stop.state stop.entry stop.text walked.0 y rest stop.is in
     omega (arith, stop.fits, movi.0, movi.1)
 
@@ -159,15 +160,21 @@ movi_stop_at names s e text t y rest h = on_names (is_barred names e.name) (is_f
         let x : ℕ × ℕ = (e.size, e.left) in
         let same : x ≡ y = some_is x y (ap (λ (m : Z). m.0.1) (ok_is ((tt, Some x), text) ((t, Some y), rest) (rw (p, q, r, z) at h))) in
         (ap (λ (n : ℕ × ℕ). n.0) (sym same), ap (λ (n : ℕ × ℕ). n.1) (sym same))
-    on_names false false c d p q r z h =
-        let first = read_on_ok (passed (padded e.size) text) (λ _. given (tt, None)) ((t, Some y), rest) (rw (p, q) at h) in
-        absurd (no_some y (sym (ap (λ (m : Z). m.0.1) (ok_is ((tt, None), first.0.1) ((t, Some y), rest) first.2))))
+    on_names false false c d p q r z h = on_list (is_name e.name (codes "LIST")) refl p q h
+      where
+        on_list : (l : Bool) → is_name e.name (codes "LIST") ≡ l → is_barred names e.name ≡ false → is_frame names e.name ≡ false → visit_movi names s e text ≡ Ok ((t, Some y), rest) → (y.0 ≡ e.size) × (y.1 ≡ e.left)
+        on_list true l p q h =
+            let first = read_on_ok (content Looked e.size text) list_opened ((t, Some y), rest) (rw (p, q, l) at h) in
+            absurd (no_some y (opened_sound first.0.0 first.0.1 t (Some y) rest first.2).1)
+        on_list false l p q h =
+            let first = read_on_ok (passed (padded e.size) text) (λ _. given (tt, None)) ((t, Some y), rest) (rw (p, q, l) at h) in
+            absurd (no_some y (sym (ap (λ (m : Z). m.0.1) (ok_is ((tt, None), first.0.1) ((t, Some y), rest) first.2))))
 
 found_less : (names : Names) (left : ℕ) (text : List ℕ) (y : ℕ × ℕ) (rest : List ℕ) → movi_found names left text ≡ Ok (Some y, rest) → y.0 + y.1 + 8 ≤ left
 unfolding movi_found
 found_less names left text y rest h =
-    let walked = walk_given (bars names) (visit_movi names) left tt text y rest h in
-    let stop = stops_up_to (bars names) (visit_movi names) left left tt text walked.0 y rest walked.1 in
+    let walked = walk_given (rule_of names) (visit_movi names) left tt text y rest h in
+    let stop = stops_up_to (rule_of names) (visit_movi names) left left tt text walked.0 y rest walked.1 in
     let frame = movi_stop_at names stop.state stop.entry stop.text walked.0 y rest stop.is in
     omega (arith, stop.fits, frame.0, frame.1)
 

@@ -16,7 +16,7 @@ use Rattle.ffv1_avi.specs.declared.place.Extent.TheVariants.{FirstMovi, EveryRif
 use Rattle.ffv1_avi.specs.Places.{first_place}
 use Rattle.ffv1_reads.specs.Reads.{Reading, read_on, refused, taken}
 use Rattle.ffv1_avi.specs.Padding.{padded}
-use Rattle.ffv1_avi.specs.Walk.{entry_read, is_name, resumed, visited, walk}
+use Rattle.ffv1_avi.specs.Walk.{entry_read, is_name, resumed, visited, walk, plain}
 use Rattle.ffv1_avi.proofs.ListWalks.{Ended, Run, entry_complete, walk_complete, walk_sound}
 use Rattle.ffv1_reads.proofs.Results.{cut_back, cut_front}
 use Rattle.ffv1_avi.proofs.Contents.{drop_more, number_taken}
@@ -52,7 +52,7 @@ top_read_sound extent room text w h =
     on_end first.0.0.0 first.0.0.1 first.0.1 walked.chunks walked.behind walked.after walked.last walked.text_is walked.each walked.long walked.run walked.end first.2
   where
     on_end : (t : Headers) (o : Option (Head × Place)) (rest : List ℕ) (chunks : List Chunk) (behind : List ℕ) (after : ℕ) (last : Headers) → text ≡ chunks_text chunks ++ behind → AreChunks chunks → length (chunks_text chunks) + after ≡ room →
-        Run (TakesTop extent) no_headers chunks last → Ended (visit_top extent) after last behind t o rest → opened o rest ≡ Ok w → IsTop extent room text w.0 w.1
+        Run (TakesTop extent) no_headers chunks last → Ended plain (visit_top extent) after last behind t o rest → opened o rest ≡ Ok w → IsTop extent room text w.0 w.1
     on_end t None rest chunks behind after last whole each long run end k = absurd (cc)
     on_end t (Some y) rest chunks behind after last whole each long run end k =
         let e = end.0 in

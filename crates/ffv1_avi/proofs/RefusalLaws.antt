@@ -10,7 +10,7 @@ use Rattle.ffv1_avi.specs.declared.place.Extent.TheVariants.{FirstMovi}
 use Rattle.ffv1_avi.specs.declared.place.Names.TheVariants.{Any}
 use Rattle.ffv1_reads.specs.Reads.{Met, given, read_on, refused, taken}
 use Rattle.ffv1_avi.specs.Padding.{padded}
-use Rattle.ffv1_avi.specs.Walk.{bars_none, entry_in, entry_read, is_name, resumed, visited, walk}
+use Rattle.ffv1_avi.specs.Walk.{plain, entry_in, entry_read, is_name, resumed, visited, walk, Rule}
 use Rattle.ffv1_reads.proofs.Results.{cut_back, cut_front}
 use Rattle.ffv1_avi.proofs.ListWalks.{entry_complete, walk_complete}
 use Rattle.ffv1_avi.proofs.Contents.{number_taken}
@@ -21,6 +21,7 @@ use Rattle.ffv1_avi.proofs.PartLaws.{chunks_of, parts_text}
 use Rattle.ffv1_reads.proofs.WantedBytes.{taken_complete}
 use Rattle.ffv1_avi.proofs.TopLaws.{TakesTop, top_complete}
 use Rattle.ffv1_avi.proofs.ChunkByChunk.{walk_step}
+use Rattle.ffv1_avi.proofs.TakenChunks.{chunk_fits}
 
 top_read_none : (room : ℕ) (parts : List Part) (movi_size : List ℕ) (rest : List ℕ) → length movi_size ≡ 4 → 4 ≤ little_number 4 movi_size →
     length (parts_text parts) + (8 + padded (little_number 4 movi_size)) ≤ room → AreParts parts → streams parts ≡ [] →
@@ -63,9 +64,9 @@ no_stream file parts rest is none =
     spelled_length = refl
 
 -- a header whose chunk does not fit
-pub entry_long_in : (barred : List ℕ → Bool) (left : ℕ) (name size rest : List ℕ) → barred name ≡ false → length name ≡ 4 → length size ≡ 4 → 8 ≤ left → left < 8 + padded (little_number 4 size) → entry_in barred left ((name ++ size) ++ rest) ≡ Err (Met fault.Truncated rest)
+pub entry_long_in : (rule : Rule) (left : ℕ) (name size rest : List ℕ) → rule.bars name ≡ false → length name ≡ 4 → length size ≡ 4 → 8 ≤ left → left < 8 + padded (little_number 4 size) → entry_in rule left ((name ++ size) ++ rest) ≡ Err (Met fault.Truncated rest)
 unfolding entry_in
-entry_long_in barred left name size rest stands named sized enough long =
+entry_long_in rule left name size rest stands named sized enough long =
     let both : length (name ++ size) ≡ 8 = omega (arith, named, sized, length-append name size) in
     let some : (left == 0) ≡ false = ne_eqb _ _ (λ e. omega (arith, enough, e)) in
     let room : nat_lt left 8 ≡ false = le-ltb _ _ enough in
@@ -79,12 +80,12 @@ entry_long_in barred left name size rest stands named sized enough long =
 
 -- the same in a list that bars no name
 pub entry_long : (left : ℕ) (name size rest : List ℕ) → length name ≡ 4 → length size ≡ 4 → 8 ≤ left → left < 8 + padded (little_number 4 size) → entry_read left ((name ++ size) ++ rest) ≡ Err (Met fault.Truncated rest)
-entry_long left name size rest named sized enough long = entry_long_in bars_none left name size rest refl named sized enough long
+entry_long left name size rest named sized enough long = entry_long_in plain left name size rest refl named sized enough long
 
 -- a header whose name the list bars
-pub entry_barred : (barred : List ℕ → Bool) (left : ℕ) (name size rest : List ℕ) → barred name ≡ true → length name ≡ 4 → length size ≡ 4 → 8 ≤ left → entry_in barred left ((name ++ size) ++ rest) ≡ Err (Met fault.NotAvi rest)
+pub entry_barred : (rule : Rule) (left : ℕ) (name size rest : List ℕ) → rule.bars name ≡ true → length name ≡ 4 → length size ≡ 4 → 8 ≤ left → entry_in rule left ((name ++ size) ++ rest) ≡ Err (Met fault.NotAvi rest)
 unfolding entry_in
-entry_barred barred left name size rest bar named sized enough =
+entry_barred rule left name size rest bar named sized enough =
     let both : length (name ++ size) ≡ 8 = omega (arith, named, sized, length-append name size) in
     let some : (left == 0) ≡ false = ne_eqb _ _ (λ e. omega (arith, enough, e)) in
     let room : nat_lt left 8 ≡ false = le-ltb _ _ enough in
@@ -121,5 +122,5 @@ chunk_long (c ∷ cs) left name size rest each lists frames named sized enough l
         let whole : (chunk_text c ++ chunks_text cs) ++ text ≡ chunk_text c ++ (chunks_text cs ++ text) = append_assoc (chunk_text c) (chunks_text cs) text in
         ap (λ n. frame_read (in_movi n) ((chunk_text c ++ chunks_text cs) ++ text)) all
         ∙ ap (frame_read (in_movi (length (chunk_text c) + more))) whole
-        ∙ ap (λ z. read_on z found_read) (frames_passed (in_movi 0) c more (chunks_text cs ++ text) each.0 p q)
+        ∙ ap (λ z. read_on z found_read) (frames_passed (in_movi 0) c more (chunks_text cs ++ text) each.0 (chunk_fits c more each.0) p q)
         ∙ again (rw p at lists) (rw q at frames)

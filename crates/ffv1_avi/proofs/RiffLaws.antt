@@ -1,12 +1,11 @@
 -- The RIFFs of a file after its first movi.
-use Rattle.std.proofs.Common.{◌≡◌, ℕ, suc, zero, ◌+◌, ◌-◌, ◌%◌, ◌≤◌, ◌<◌, ◌/◌, ◌&&◌, ◌||◌, nat_eq, Bool, true, false, Option, Some, None, Ok, List, [], ◌∷◌, ◌++◌, length, take, codes, map, ap, ◌∙◌, sym, subst, arith, refl, append_assoc, length-append}
+use Rattle.std.proofs.Common.{◌≡◌, ℕ, suc, zero, ◌+◌, ◌-◌, ◌%◌, ◌≤◌, ◌<◌, ◌&&◌, Bool, true, false, Option, Some, None, Ok, List, [], ◌∷◌, ◌++◌, length, take, codes, map, ap, ◌∙◌, sym, subst, arith, refl, append_assoc, length-append}
 use Rattle.std.proofs.lemmas.Grind.{flat_map-append}
 use Rattle.std.specs.Cmp.Lexicographic.{same_text}
 use Rattle.byteorder.specs.Endian.{little_number}
 use Rattle.ffv1_avi.specs.declared.chunk.Entry.{Entry}
 use Rattle.ffv1_avi.specs.declared.place.Names.{Names}
-use Rattle.ffv1_avi.specs.declared.place.Names.TheVariants.{Any, Closed}
-use Rattle.ffv1_avi.specs.Names.{bitmap_name, frame_name, is_frame, is_stream_frame, least_bytes, most_bytes}
+use Rattle.ffv1_avi.specs.Names.{is_frame, least_bytes, most_bytes, opens}
 use Rattle.ffv1_avi.specs.declared.place.Place.{Place}
 use Rattle.ffv1_avi.specs.Chunks.{AreChunks, AreFrames, AreWithin, Chunk, chunk_text, chunks_text, those}
 use Rattle.ffv1_avi.specs.Behind.{begins_another, looked_past}
@@ -15,10 +14,10 @@ use Rattle.ffv1_avi.specs.Places.{amount, movi_at, riff_at}
 use Rattle.ffv1_reads.specs.Reads.{given, passed, read_on, taken}
 use Rattle.ffv1_avi.specs.Padding.{padded}
 use Rattle.ffv1_avi.specs.Riffs.{AreRiffs, AreSections, IsRiff, IsSection, Riff, Section, movi_chunks, movis, riff_movis, riff_text, riffs_text, section_text, sections_text}
-use Rattle.ffv1_avi.specs.Walk.{is_name, walk}
+use Rattle.ffv1_avi.specs.Walk.{is_name, walk, plain}
 use Rattle.ffv1_avi.proofs.BegunRiffs.{Begun, begun_sound}
 use Rattle.ffv1_avi.proofs.Fields.{skipped_passed}
-use Rattle.ffv1_avi.proofs.FrameLaws.{MoviPart, chunks_both, frames_after, frames_none, frames_on, movi_part, placed, those_both}
+use Rattle.ffv1_avi.proofs.FrameLaws.{MoviPart, frames_after, frames_none, frames_on, movi_part, placed, those_both}
 use Rattle.ffv1_avi.proofs.InnerLists.{list_skip_complete, list_skip_sound, own_taken}
 use Rattle.ffv1_avi.proofs.ListWalks.{Complete, Ended, IsPassed, Run, Sound, Taking, walk_sound}
 use Rattle.ffv1_reads.proofs.Results.{cut_front}
@@ -29,6 +28,8 @@ use Rattle.ffv1_reads.proofs.WantedBytes.{taken_sound}
 use Rattle.ffv1_reads.proofs.Results.{ok_is, some_is}
 use Rattle.ffv1_avi.specs.Chunks.{barred_in}
 use Rattle.ffv1_avi.specs.Chunks.{frame_in}
+use Rattle.ffv1_avi.proofs.TakenChunks.{taken_both, taken_even, taken_none}
+use Rattle.ffv1_avi.proofs.OpenedLists.{list_no_frame}
 
 no_some : {X : Type 0} (x : X) → ◌≡◌ {A = Option X} (Some x) None → ⊥
 no_some x e = absurd (cc)
@@ -36,25 +37,6 @@ no_some x e = absurd (cc)
 -- a chunk that is no movi and no frame is passed
 abbrev pub TakesRiff : Names → Taking (Unit {0})
 TakesRiff names s name bytes t = ((is_name name (codes "LIST") && is_name (take 4 bytes) (codes "movi")) ≡ false) × (is_frame names name ≡ false)
-
--- a list is no frame, by its name
-pub list_no_frame : (names : Names) (name : List ℕ) → is_name name (codes "LIST") ≡ true → is_frame names name ≡ false
-unfolding is_stream_frame
-list_no_frame Any name list = let named : name ≡ codes "LIST" = same_text name (codes "LIST") (sym list) in rw named refl
-list_no_frame (Closed stream streams) name list =
-    let named : name ≡ codes "LIST" = same_text name (codes "LIST") (sym list) in
-    let first : is_name (codes "LIST") (frame_name stream) ≡ false = both_false (nat_eq 76 (48 + stream / 10)) (nat_eq 73 (48 + stream % 10)) in
-    let second : is_name (codes "LIST") (bitmap_name stream) ≡ false = both_false (nat_eq 76 (48 + stream / 10)) (nat_eq 73 (48 + stream % 10)) in
-    let P : List ℕ → Type 0 = λ z. is_frame (Closed stream streams) z ≡ false in
-    subst P (sym named) (neither (is_name (codes "LIST") (frame_name stream)) (is_name (codes "LIST") (bitmap_name stream)) first second)
-  where
-    neither : (a b : Bool) → a ≡ false → b ≡ false → (a || b) ≡ false
-    neither a b p q = rw (p, q) refl
-
-    both_false : (a b : Bool) → (a && (b && false)) ≡ false
-    both_false true true = refl
-    both_false true false = refl
-    both_false false b = refl
 
 abbrev Z : Type 0
 Z = (Unit {0} × Option (ℕ × ℕ)) × List ℕ
@@ -179,7 +161,7 @@ sought_sound names left text w h =
     let P : Option (ℕ × ℕ) × List ℕ → Type 0 = λ z. Sought names left text z in
     subst P (ok_is (first.0.0.1, first.0.1) w first.2) (on_end first.0.0.1 first.0.1 walked.chunks walked.behind walked.after walked.text_is walked.each walked.long walked.run walked.end)
   where
-    on_end : (o : Option (ℕ × ℕ)) (rest : List ℕ) (chunks : List Chunk) (behind : List ℕ) (after : ℕ) → text ≡ chunks_text chunks ++ behind → AreChunks chunks → length (chunks_text chunks) + after ≡ left → Run (TakesRiff names) tt chunks tt → Ended (visit_riff names) after tt behind tt o rest → Sought names left text (o, rest)
+    on_end : (o : Option (ℕ × ℕ)) (rest : List ℕ) (chunks : List Chunk) (behind : List ℕ) (after : ℕ) → text ≡ chunks_text chunks ++ behind → AreChunks chunks → length (chunks_text chunks) + after ≡ left → Run (TakesRiff names) tt chunks tt → Ended plain (visit_riff names) after tt behind tt o rest → Sought names left text (o, rest)
     on_end None rest chunks behind after whole each long run end =
         record { chunks = chunks; text_is = whole ∙ ap (λ z. chunks_text chunks ++ z) end.2; long = omega (arith, long, end.0); sections = others_are names chunks each run }
     on_end (Some y) rest chunks behind after whole each long run end =
@@ -193,16 +175,6 @@ sought_sound names left text w h =
         let size : little_number 4 entry.size ≡ 4 + y.0 = entry.counted ∙ (omega (arith, movi.size, room)) in
         let all : length (chunks_text chunks) + (8 + padded (little_number 4 entry.size)) + y.1 ≡ left = rw entry.counted (omega (arith, long, entry.fits, movi.left)) in
         record { chunks = chunks; size = entry.size; text_is = here; sized = entry.sized; named = size; long = all; sections = others_are names chunks each run }
-
--- chunks take an even number of bytes
-pub chunks_even : (cs : List Chunk) → AreChunks cs → length (chunks_text cs) % 2 ≡ 0
-chunks_even [] each = refl
-chunks_even (c ∷ cs) each =
-    let is = each.0 in
-    let more = chunks_even cs each.1 in
-    let long : length (chunk_text c) ≡ 8 + padded (length c.bytes) = omega (arith, is.named, is.sized, is.padded, length-append ((c.name ++ c.size) ++ c.bytes) c.padding, length-append (c.name ++ c.size) c.bytes, length-append c.name c.size) in
-    let both : length (chunks_text (c ∷ cs)) ≡ length (chunk_text c) + length (chunks_text cs) = length-append (chunk_text c) (chunks_text cs) in
-    omega (arith, more, long, both)
 
 sized_both : (least most : ℕ) (fs gs : List (List ℕ)) → AreWithin least most fs → AreWithin least most gs → AreWithin least most (fs ++ gs)
 sized_both least most [] gs h k = k
@@ -218,7 +190,7 @@ framed_both names xs ys fs gs h k =
     let lists : those (barred_in names) (xs ++ ys) ≡ [] = those_both (barred_in names) xs ys ∙ ap (λ z. z ++ those (barred_in names) ys) h.none_barred ∙ k.none_barred in
     let all : map (λ (c : Chunk). c.bytes) (those (frame_in names) (xs ++ ys)) ≡ fs ++ gs =
     ap (map (λ (c : Chunk). c.bytes)) (those_both (frame_in names) xs ys) ∙ map_both (those (frame_in names) xs) (those (frame_in names) ys) ∙ ap (λ z. z ++ map (λ (c : Chunk). c.bytes) (those (frame_in names) ys)) h.those_of ∙ ap (λ z. fs ++ z) k.those_of in
-    record { each = chunks_both xs ys h.each k.each; none_barred = lists; those_of = all; sized = sized_both (least_bytes names) (most_bytes names) fs gs h.sized k.sized }
+    record { each = taken_both (opens names) xs ys h.each k.each; none_barred = lists; those_of = all; sized = sized_both (least_bytes names) (most_bytes names) fs gs h.sized k.sized }
 
 -- what RIFF has after a movi, the RIFFs after it, and what stands after the last one
 pub record RiffRest (place : Place) (text : List ℕ) (frames : List (List ℕ)) (rest : List ℕ) : Type 0 where
@@ -238,7 +210,7 @@ pub record RiffRest (place : Place) (text : List ℕ) (frames : List (List ℕ))
 rest_end : (place : Place) (text more rest : List ℕ) → (place.input ≡ 0 → ⊥) → FoundEnd place.names place.riff text more → (place.owed ≡ 0) × (begins_another more ≡ false) × (rest ≡ looked_past more) → RiffRest place text [] rest
 rest_end place text more rest some end (owed, other, left) =
     let whole : text ≡ sections_text (others_of end.chunks) ++ more = end.text_is ∙ ap (λ z. z ++ more) (sym (others_text end.chunks)) in
-    let nothing : AreFrames place.names [] [] = record { each = tt; none_barred = refl; those_of = refl; sized = tt } in
+    let nothing : AreFrames place.names [] [] = record { each = taken_none (opens place.names); none_barred = refl; those_of = refl; sized = tt } in
     let P : List Chunk → Type 0 = λ z. AreFrames place.names (z ++ []) [] in
     record { sections = others_of end.chunks; riffs = []; behind = more; text_is = whole; long = ap length (others_text end.chunks) ∙ end.long; sections_are = end.sections; riffs_are = tt; bounded = above place.input some; framed = subst P (sym (others_movis end.chunks)) nothing; enough = omega (arith, owed); other = other; left = left }
   where
@@ -280,12 +252,12 @@ rest_movi place text more y frames rest found part after =
     ∙ regrouped (chunks_text found.chunks) front (chunks_text part.chunks) (sections_text after.sections) (riffs_text after.riffs ++ after.behind)
     ∙ ap (λ z. z ++ (riffs_text after.riffs ++ after.behind)) (sym apart) in
     let twelve : length front ≡ 12 = length-append (codes "LIST" ++ found.size) (codes "movi") ∙ ap (λ n. n + length (codes "movi")) (length-append (codes "LIST") found.size) ∙ (omega (arith, found.sized, spelled)) in
-    let even : length (chunks_text part.chunks) % 2 ≡ 0 = chunks_even part.chunks part.framed.each in
+    let even : length (chunks_text part.chunks) % 2 ≡ 0 = taken_even (opens place.names) part.chunks part.framed.each in
     let size : length (sections_text sections) ≡ length (chunks_text found.chunks) + (12 + length (chunks_text part.chunks) + length (sections_text after.sections)) =
     ap length apart ∙ length-append (chunks_text found.chunks) ((front ++ chunks_text part.chunks) ++ sections_text after.sections)
     ∙ ap (λ n. length (chunks_text found.chunks) + n) (length-append (front ++ chunks_text part.chunks) (sections_text after.sections) ∙ ap (λ n. n + length (sections_text after.sections)) (length-append front (chunks_text part.chunks) ∙ ap (λ n. n + length (chunks_text part.chunks)) twelve)) in
     let long : length (sections_text sections) ≡ place.riff = omega (arith, size, even, found.long, found.named, part.long, after.long) in
-    let is : IsSection place.names s = (found.sized, omega (arith, found.named, part.long)) in
+    let is : IsSection place.names s = (found.sized, omega (arith, found.named, part.long), part.fit) in
     let all : movis sections ++ riff_movis after.riffs ≡ part.chunks ++ (movis after.sections ++ riff_movis after.riffs) =
     ap (λ z. z ++ riff_movis after.riffs) (flat_map-append movi_chunks (others_of found.chunks) (s ∷ after.sections) ∙ ap (λ z. z ++ (part.chunks ++ movis after.sections)) (others_movis found.chunks)) ∙ append_assoc part.chunks (movis after.sections) (riff_movis after.riffs) in
     let both = framed_both place.names part.chunks (movis after.sections ++ riff_movis after.riffs) part.here part.later part.framed after.framed in

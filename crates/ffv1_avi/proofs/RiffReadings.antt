@@ -24,7 +24,7 @@ use Rattle.ffv1_avi.specs.Internal.Offsets.{FrameBegins, MovesTo, TellsBehind}
 use Rattle.ffv1_avi.specs.Names.{is_frame}
 use Rattle.ffv1_avi.specs.Padding.{padded}
 use Rattle.ffv1_avi.specs.Places.{ended, extent_of, frame_at, movi_at}
-use Rattle.ffv1_avi.specs.Walk.{bars_none, entry_in, entry_read, is_name}
+use Rattle.ffv1_avi.specs.Walk.{plain, entry_in, entry_read, is_name}
 use Rattle.ffv1_avi.proofs.BegunRiffs.{begun_sound}
 use Rattle.ffv1_avi.proofs.ChunkReadings.{chunk_framed, entry_counted}
 use Rattle.ffv1_avi.proofs.Moves.{extent_every}
@@ -64,14 +64,14 @@ module _ (place : Place) (left : ℕ) (more : 0 < place.input) where
   pub riff_passed : (e : Entry) {a b c : Option (List ℕ)} → Listed e → Read (entry_read left) a b (Some e) → Read (visit_riff place.names tt e) b c (tt, None) → ReadsCounted (chunk_taken here) a c (riff_left place e.left) (8 + (padded e.size + 0))
   riff_passed e {c = c} listed header visit =
       counted_same (entry_read left >>= riff_taken here) _ (λ text. sym (riff_chunk place left more text))
-      (counted_then (entry_read left) (riff_taken here) (entry_counted bars_none left e header)
+      (counted_then (entry_read left) (riff_taken here) (entry_counted plain left e header)
       (counted_then (visit_riff place.names tt e) (λ p. movi_entered here e.left p.1) (reads_counted (padded e.size) (visit_takes place.names e listed) (omega arith) visit) (counted_given (riff_left place e.left) c)))
 
   pub riff_movi : (e : Entry) (movi : ℕ × ℕ) {a b c : Option (List ℕ)} → Listed e → Read (entry_read left) a b (Some e) → Read (visit_riff place.names tt e) b c (tt, Some movi) → ReadsCounted (chunk_taken here) a c (movi_at place movi) (8 + (4 + 0))
   riff_movi e movi {c = c} listed header visit =
       let four : 4 ≤ e.size = ((visit_takes place.names e listed).only _ _ _ (visit.is [])).0 in
       counted_same (entry_read left >>= riff_taken here) _ (λ text. sym (riff_chunk place left more text))
-      (counted_then (entry_read left) (riff_taken here) (entry_counted bars_none left e header)
+      (counted_then (entry_read left) (riff_taken here) (entry_counted plain left e header)
       (counted_then (visit_riff place.names tt e) (λ p. movi_entered here e.left p.1) (reads_counted {x = (tt {0}, Some movi)} 4 (visit_takes place.names e listed) (omega (arith, four)) visit) (counted_given (movi_at place movi) c)))
 
   reached : (old : Option (List ℕ)) (before : ℕ) → Goes (chunk_taken here) old before (entry_read left >>= riff_taken here) old before

@@ -20,7 +20,7 @@ use Rattle.ffv1_avi.specs.Files.{Headers, begins, no_headers, visit_top}
 use Rattle.ffv1_avi.specs.Offsets.{BeforeFrames, Counts, InRiff, ReadsTo, Spot, Start, riff_begins, spot_taken, top_left, top_taken}
 use Rattle.ffv1_avi.specs.Internal.Offsets.{OpensFrom, TopFrom}
 use Rattle.ffv1_avi.specs.Padding.{padded}
-use Rattle.ffv1_avi.specs.Walk.{bars_none, entry_read}
+use Rattle.ffv1_avi.specs.Walk.{plain, entry_read}
 use Rattle.ffv1_avi.proofs.ChunkReadings.{entry_counted}
 use Rattle.ffv1_avi.proofs.ListWalks.{IsListed}
 use Rattle.ffv1_avi.proofs.RiffReadings.{counts_more_by, stops_then, up_to_then}
@@ -57,14 +57,14 @@ module _ (extent : Extent) (found : Headers) (left : ℕ) where
   spot_passed : (e : Entry) (more : Headers) {a b c : Option (List ℕ)} → IsListed e → Read (entry_read left) a b (Some e) → Read (visit_top extent found e) b c (more, None) → ReadsCounted (spot_taken extent here) a c (InRiff more e.left) (8 + (padded e.size + 0))
   unfolding spot_taken
   spot_passed e more {c = c} listed header visit =
-      counted_then (entry_read left) (top_taken extent found) (entry_counted bars_none left e header)
+      counted_then (entry_read left) (top_taken extent found) (entry_counted plain left e header)
       (counted_then (visit_top extent found e) (top_left e.left) (reads_counted {x = (more, None)} (padded e.size) (visit_takes extent found e listed) (omega arith) visit) (counted_given (InRiff more e.left) c))
 
   spot_movi : (e : Entry) (more : Headers) (y : Head × Place) {a b c : Option (List ℕ)} → IsListed e → Read (entry_read left) a b (Some e) → Read (visit_top extent found e) b c (more, Some y) → ReadsCounted (spot_taken extent here) a c (BeforeFrames y.0 y.1) (8 + (4 + 0))
   unfolding spot_taken
   spot_movi e more y {c = c} listed header visit =
       let four : 4 ≤ e.size = ((visit_takes extent found e listed).only _ _ _ (visit.is [])).0 in
-      counted_then (entry_read left) (top_taken extent found) (entry_counted bars_none left e header)
+      counted_then (entry_read left) (top_taken extent found) (entry_counted plain left e header)
       (counted_then (visit_top extent found e) (top_left e.left) (reads_counted {x = (more, Some y)} 4 (visit_takes extent found e listed) (omega (arith, four)) visit) (counted_given (BeforeFrames y.0 y.1) c))
 
   pub header_refused : (old new : Option (List ℕ)) (before after : ℕ) (f : FileFault) → Refused (entry_read left) old new before after f → RefusedOrEnds (spot_taken extent here) old new before after f

@@ -9,7 +9,7 @@ use Rattle.ffv1_reads.specs.Reads.{Stop, given, read_on, ◌>>=◌}
 use Rattle.ffv1_avi.specs.Streams.{Format, Known, format_of, head_judged, no_video, nothing_known, rates_of, stream_judged, stream_read, visit_field}
 use Rattle.ffv1_avi.specs.declared.place.Extent.{Extent}
 use Rattle.ffv1_avi.specs.declared.place.Extent.TheVariants.{FirstMovi, EveryRiff}
-use Rattle.ffv1_avi.specs.Walk.{is_name, walk, walk_up_to}
+use Rattle.ffv1_avi.specs.Walk.{is_name, walk, walk_up_to, plain}
 use Rattle.ffv1_avi.proofs.ListWalks.{Ended, Run, walk_complete, walk_sound}
 use Rattle.ffv1_avi.proofs.Fields.{IsShort, TakesField, field_complete, field_sound, format_next, rates_next}
 use Rattle.ffv1_reads.proofs.Results.{read_on_ok}
@@ -266,7 +266,7 @@ stream_sound extent room text w h =
         (known.0, record { short = short; other = elim known.1 [ inl none ↦ inl (sym (ap spoken rates ∙ spoken_says rates_of (header_of chunks)) ∙ none) | inr none ↦ inr (sym (ap spoken format ∙ spoken_says (format_of extent) (format_chunk chunks)) ∙ none) ] })
 
     on_end : (o : Option ⊥) (chunks : List Chunk) (behind : List ℕ) (after : ℕ) (last : Known) → text ≡ chunks_text chunks ++ behind → AreChunks chunks → length (chunks_text chunks) + after ≡ room → Run (TakesField extent) nothing_known chunks last →
-        (t : Known) (rest : List ℕ) → Ended (visit_field extent) after last behind t o rest → stream_judged extent t.rates t.format rest ≡ Ok w → Goal
+        (t : Known) (rest : List ℕ) → Ended plain (visit_field extent) after last behind t o rest → stream_judged extent t.rates t.format rest ≡ Ok w → Goal
     on_end (Some y) chunks behind after last whole each long run t rest end judged = absurd y
     on_end None chunks behind after last whole each long run t rest end judged =
         let known = judged_sound extent t.rates t.format rest w judged in

@@ -21,11 +21,12 @@ use Rattle.ffv1_avi.proofs.ListWalks.{Run}
 use Rattle.ffv1_avi.proofs.OpenLaws.{open_sound}
 use Rattle.ffv1_avi.proofs.PartLaws.{parts_text}
 use Rattle.ffv1_reads.proofs.Results.{read_on_ok}
-use Rattle.ffv1_avi.proofs.RiffLaws.{after_sound, chunks_even, framed_both}
+use Rattle.ffv1_avi.proofs.RiffLaws.{after_sound, framed_both}
 use Rattle.ffv1_avi.proofs.StreamCounts.{run_counted}
 use Rattle.ffv1_avi.proofs.StreamLaws.{one_name}
 use Rattle.ffv1_avi.proofs.TotalLaws.{TakesTotal}
 use Rattle.ffv1_reads.proofs.Results.{ok_is}
+use Rattle.ffv1_avi.proofs.TakenChunks.{taken_even}
 
 -- the number of frames after a chunk that may say it
 abbrev pub total_after : Option ℕ → Option Chunk → Option ℕ
@@ -145,7 +146,7 @@ whole_sound file w h =
     let text : file ≡ all ++ after.behind =
     opening.text_is ∙ ap (λ z. (codes "RIFF" ++ opening.riff_size ++ codes "AVI ") ++ z) (top.text_is ∙ ap (λ z. parts_text top.parts ++ ((codes "LIST" ++ top.movi_size ++ codes "movi") ++ z)) (part.text_is ∙ ap (λ z. chunks_text part.chunks ++ z) after.text_is))
     ∙ regrouped front (parts_text top.parts) movi (chunks_text part.chunks) (sections_text after.sections) (riffs_text after.riffs) after.behind in
-    let even : length (chunks_text part.chunks) % 2 ≡ 0 = chunks_even part.chunks part.framed.each in
+    let even : length (chunks_text part.chunks) % 2 ≡ 0 = taken_even true part.chunks part.framed.each in
     let counted : size ≡ 4 + length (chunks_text part.chunks) = omega (arith, part.long, top.movi_named) in
     let filled : little_number 4 opening.riff_size ≡ 4 + length (parts_text top.parts) + (8 + size) + length (sections_text after.sections) = omega (arith, top.counted, opening.riff_named, counted, even, after.long) in
     let both = framed_both (Closed known.passed known.streams) part.chunks (movis after.sections ++ riff_movis after.riffs) part.here part.later part.framed after.framed in
@@ -158,7 +159,7 @@ whole_sound file w h =
     let S : Names → Type 0 = λ z. AreSections z after.sections in
     let T : Names → Type 0 = λ z. AreRiffs z after.riffs in
     let count : length frames ≡ length part.here + length part.later = ap length part.parted ∙ length-append part.here part.later in
-    let here : RiffFile all head frames = record { riff_size = opening.riff_size; parts = top.parts; movi_size = top.movi_size; chunks = part.chunks; sections = after.sections; riffs = after.riffs; before = found.before; stream = found.stream; after = found.after; extended = extended.inners; bytes = refl; riff_sized = opening.riff_sized; movi_sized = top.movi_sized; counted = counted; filled = filled; each = top.each; sections_are = subst S names after.sections_are; riffs_are = subst T names after.riffs_are; bounded = after.bounded; streams_are = found.parted; others = found.others; few = omega (arith, found.few, number); says = found.is; extended_are = extended.are; framed = subst Q names (subst P (sym part.parted) both); enough = omega (arith, after.enough, owes, count) } in
+    let here : RiffFile all head frames = record { riff_size = opening.riff_size; parts = top.parts; movi_size = top.movi_size; chunks = part.chunks; sections = after.sections; riffs = after.riffs; before = found.before; stream = found.stream; after = found.after; extended = extended.inners; bytes = refl; riff_sized = opening.riff_sized; movi_sized = top.movi_sized; counted = counted; fit = part.fit; filled = filled; each = top.each; sections_are = subst S names after.sections_are; riffs_are = subst T names after.riffs_are; bounded = after.bounded; streams_are = found.parted; others = found.others; few = omega (arith, found.few, number); says = found.is; extended_are = extended.are; framed = subst Q names (subst P (sym part.parted) both); enough = omega (arith, after.enough, owes, count) } in
     let R : (Head × List (List ℕ)) × List ℕ → Type 0 = λ z. RiffFileThen file z.0.0 z.0.1 z.1 in
     let pair : Head × List (List ℕ) = (head, frames) in
     subst R (ok_is (pair, second.0.1) w second.2) (record { whole = all; behind = after.behind; bytes = text; is = here; other = after.other; left = after.left })

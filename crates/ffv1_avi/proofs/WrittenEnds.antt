@@ -1,12 +1,11 @@
 -- Nothing stands after a written file: it has one RIFF and in that one movi, and its chunks lead to
 -- where the bytes end.
-use Rattle.std.proofs.Common.{◌≡◌, ◌+◌, ◌-◌, ◌%◌, ◌≤◌, ◌==◌, ℕ, Bool, true, false, Option, Some, None, Result, Ok, Err, List, [], ◌∷◌, ◌++◌, length, length-append, drop, refl, sym, ap, subst, ◌∙◌, append-nil, append_assoc, arith}
+use Rattle.std.proofs.Common.{◌≡◌, ◌+◌, ◌-◌, ◌≤◌, ◌==◌, ℕ, Bool, true, false, Option, Some, None, Result, Ok, Err, List, [], ◌∷◌, ◌++◌, length, length-append, drop, refl, sym, ap, subst, ◌∙◌, append-nil, append_assoc, arith}
 use Rattle.byteorder.specs.Endian.{little_number}
 use Rattle.ffv1_reads.specs.Head.{Head}
 use Rattle.ffv1_reads.specs.Offsets.{Leads, ReadsWhole, all_bytes}
-use Rattle.ffv1_reads.specs.Reads.{Kept, Stop, given, passed, taken, wanted, ◌>>=◌}
+use Rattle.ffv1_reads.specs.Reads.{Kept, Stop, given, taken, ◌>>=◌}
 use Rattle.ffv1_reads.proofs.Results.{ok_is, read_on_ok}
-use Rattle.ffv1_reads.proofs.Taking.{Takes, takes_given, takes_passed, takes_same, takes_then, takes_wanted}
 use Rattle.ffv1_avi.specs.declared.chunk.Entry.{Entry}
 use Rattle.ffv1_avi.specs.declared.place.Extent.TheVariants.{EveryRiff}
 use Rattle.ffv1_avi.specs.declared.place.Extent.{Extent}
@@ -17,11 +16,11 @@ use Rattle.ffv1_avi.specs.Offsets.{BeforeFrames, InRiff, Spot, Start, chunk_take
 use Rattle.ffv1_avi.specs.Padding.{content, padded}
 use Rattle.ffv1_avi.specs.Places.{ended, frame_at}
 use Rattle.ffv1_avi.specs.Walk.{entry_in, entry_read, walk}
-use Rattle.ffv1_avi.specs.Names.{bars}
+use Rattle.ffv1_avi.specs.Names.{rule_of}
 use Rattle.ffv1_avi.specs.Riffs.{riffs_text, sections_text}
 use Rattle.ffv1_avi.specs.Written.{file_of}
 use Rattle.ffv1_avi.proofs.ChunkByChunk.{walk_step}
-use Rattle.ffv1_avi.proofs.ChunkReadings.{entry_takes, visit_takes}
+use Rattle.ffv1_avi.proofs.ChunkReadings.{content_takes, entry_takes, visit_takes}
 use Rattle.ffv1_avi.proofs.EveryRiffLaws.{file_opened}
 use Rattle.ffv1_avi.proofs.WrittenRiffs.{written_once, written_riff}
 
@@ -111,9 +110,6 @@ empty [] h = refl
 empty (b ∷ bs) h = absurd (omega (arith, h))
 
 -- a chunk that is read leaves it so
-content_takes : (size : ℕ) → Takes (λ (bytes : List ℕ). Unit {0}) (padded size) (λ _. 0) (content Kept size)
-content_takes size = takes_then (wanted Kept size) _ (takes_same (size + size % 2) (padded size) (wanted Kept size) refl (takes_wanted Kept size (size % 2))) (λ bytes _. takes_then (passed (size % 2)) _ (takes_same _ _ (passed (size % 2)) (omega arith) (takes_passed (size % 2) 0)) (λ _ _. takes_given bytes tt refl))
-
 -- at the end of the bytes nothing more is read, or more is wanted
 end_keeps : (place next : Place) (rest : List ℕ) (b : Bool) → (place.owed == 0) ≡ b → (entry_read 0 >>= riff_taken place) [] ≡ Ok (next, rest) → HasAll next rest
 unfolding riff_begun entry_in taken_or_end
@@ -124,7 +120,7 @@ end_keeps place next rest true is h =
 
 chunk_keeps : (place next : Place) (text rest : List ℕ) → HasAll place text → chunk_taken place text ≡ Ok (next, rest) → HasAll next rest
 unfolding chunk_taken
-chunk_keeps place next text rest has h = on_entry (read_on_ok (entry_in (bars place.names) place.movi text) (movi_taken place) (next, rest) h)
+chunk_keeps place next text rest has h = on_entry (read_on_ok (entry_in (rule_of place.names) place.movi text) (movi_taken place) (next, rest) h)
   where
     moved : (left : ℕ) (to : Place) (r : List ℕ) → to.riff ≡ place.riff → to.movi ≡ left → length r ≤ left → given to r ≡ Ok (next, rest) → HasAll next rest
     moved left to r riff movi fits is =
@@ -143,7 +139,7 @@ chunk_keeps place next text rest has h = on_entry (read_on_ok (entry_in (bars pl
       where
         on_bytes : (e : Entry) (p : ℕ × ℕ) → p.0 ≡ e.size → p.1 ≡ e.left → (s : List ℕ) → length s ≤ padded e.size + e.left → (w : List ℕ × List ℕ) × (content Kept p.0 s ≡ Ok w) × (given (frame_at place p.1) w.1 ≡ Ok (next, rest)) → HasAll next rest
         on_bytes e p size left s fits (w, five, six) =
-            let takes = ((content_takes p.0).only s w.1 w.0 five).1 in
+            let takes = ((content_takes Kept p.0).only s w.1 w.0 five).1 in
             let long : padded p.0 ≡ padded e.size = ap padded size in
             moved e.left _ w.1 refl left (omega (arith, fits, takes, long)) six
 
@@ -151,12 +147,12 @@ chunk_keeps place next text rest has h = on_entry (read_on_ok (entry_in (bars pl
     on_end r movi none true is two = moved 0 place r refl movi (omega (arith, ap length none)) (rw is at two)
     on_end r movi none false is two = end_keeps (record place { riff = 0 }) next rest (place.owed == 0) refl (rw (is, has.0, none) at two)
 
-    on_entry : (p : Option Entry × List ℕ) × (entry_in (bars place.names) place.movi text ≡ Ok p) × (movi_taken place p.0 p.1 ≡ Ok (next, rest)) → HasAll next rest
+    on_entry : (p : Option Entry × List ℕ) × (entry_in (rule_of place.names) place.movi text ≡ Ok p) × (movi_taken place p.0 p.1 ≡ Ok (next, rest)) → HasAll next rest
     on_entry ((Some e, r), one, two) =
-        let both = (entry_takes (bars place.names) place.movi).only text r (Some e) one in
+        let both = (entry_takes (rule_of place.names) place.movi).only text r (Some e) one in
         on_found e r (omega (arith, has.1, both.0, both.1)) (read_on_ok (visit_movi place.names tt e r) _ (next, rest) two)
     on_entry ((None, r), one, two) =
-        let both = (entry_takes (bars place.names) place.movi).only text r None one in
+        let both = (entry_takes (rule_of place.names) place.movi).only text r None one in
         on_end r both.0 (empty r (omega (arith, has.1, both.0, both.1))) (place.input == 0) refl two
 
 all_led : (els : List (List ℕ)) (place to : Place) (rest : List ℕ) → HasAll place (all_bytes els ++ rest) → Leads chunk_taken place els to → HasAll to rest

@@ -6,10 +6,10 @@ use Rattle.std.proofs.lemmas.List.Sums.{sum_by-cons}
 use Rattle.byteorder.specs.Endian.{little_number}
 use Rattle.byteorder.specs.Numbers.{little_number-reads_back}
 use Rattle.ffv1_reads.specs.Bitmap.{number}
-use Rattle.ffv1_avi.specs.Chunks.{AreFrames, AreSized, AreWithin, AviFile, Chunk, IsChunk, IsPart, IsStream, IsWritable, Part, Says, chunk_text, chunks_text, part_chunk}
+use Rattle.ffv1_avi.specs.Chunks.{AreFrames, AreSized, AreWithin, AviFile, Chunk, IsChunk, IsPart, IsStream, IsWritable, Part, Says, chunk_text, chunks_text, part_chunk, Fit, barred_in}
 use Rattle.ffv1_reads.specs.Reads.{Stop}
 use Rattle.ffv1_avi.specs.declared.place.Names.{Names}
-use Rattle.ffv1_avi.specs.Names.{is_barred, is_frame, least_bytes, most_bytes}
+use Rattle.ffv1_avi.specs.Names.{is_barred, is_frame, least_bytes, most_bytes, opens}
 use Rattle.ffv1_avi.specs.declared.place.Names.TheVariants.{Any, Closed}
 use Rattle.ffv1_avi.specs.declared.place.Extent.{Extent}
 use Rattle.ffv1_avi.specs.declared.place.Extent.TheVariants.{FirstMovi, EveryRiff}
@@ -19,6 +19,8 @@ use Rattle.ffv1_reads.specs.Bitmap.{is_ffv1}
 use Rattle.ffv1_avi.specs.Streams.{is_format, record_end}
 use Rattle.ffv1_avi.specs.Written.{avih, file_of, format_size, frame_chunk, frame_size, front, head_text, movi, movi_size, padding, riff_size, spelled, strf, strh}
 use Rattle.ffv1_avi.proofs.PartLaws.{parts_text}
+use Rattle.ffv1_avi.proofs.TakenChunks.{chunk_fits, taken_more, taken_none}
+use Rattle.ffv1_avi.proofs.OpenedLists.{chunk_beside, frame_no_list, name_stands}
 
 -- a number of 32 bits is read back
 pub back : (n : ℕ) → n < 2 ^ 32 → little_number 4 (number n) ≡ n
@@ -48,11 +50,22 @@ sized_within least most few [] sized = tt
 sized_within least most few (f ∷ fs) sized = (omega (arith, few, sized.0), sized.1, sized_within least most few fs sized.2)
 
 pub frames_are : (names : Names) → is_barred names (codes "00dc") ≡ false → is_frame names (codes "00dc") ≡ true → (frames : List (List ℕ)) → AreSized (most_bytes names) frames → AreFrames names (map frame_of frames) frames
-frames_are names stands named [] sized = record { each = tt; none_barred = refl; those_of = refl; sized = tt }
+frames_are names stands named [] sized = record { each = taken_none (opens names); none_barred = refl; those_of = refl; sized = tt }
 frames_are names stands named (f ∷ fs) sized =
     let more = frames_are names stands named fs sized.2 in
     let fits : length f < 2 ^ 32 = omega (arith, sized.1, most_fits names) in
-    record { each = (frame_is f fits, more.each); none_barred = rw stands more.none_barred; those_of = rw named (ap (λ z. f ∷ z) more.those_of); sized = sized_within (least_bytes names) (most_bytes names) (least_fits names) (f ∷ fs) sized }
+    let other = frame_no_list names (codes "00dc") named in
+    let here : barred_in names (frame_of f) ≡ false = name_stands names (frame_of f) stands other in
+    let taken = chunk_beside names (frame_of f) (frame_is f fits) other in
+    record { each = taken_more (opens names) (frame_of f) (map frame_of fs) taken more.each; none_barred = rw here more.none_barred; those_of = rw named (ap (λ z. f ∷ z) more.those_of); sized = sized_within (least_bytes names) (most_bytes names) (least_fits names) (f ∷ fs) sized }
+
+-- and each fits
+pub frames_fit : (names : Names) (frames : List (List ℕ)) → AreSized (most_bytes names) frames → Fit 0 (map frame_of frames)
+frames_fit names [] sized = tt
+frames_fit names (f ∷ fs) sized =
+    let fits : length f < 2 ^ 32 = omega (arith, sized.1, most_fits names) in
+    let first = chunk_fits (frame_of f) 0 (frame_is f fits) in
+    (omega (arith, first, length-append (chunk_text (frame_of f)) (chunks_text (map frame_of fs))), frames_fit names fs sized.2)
 
 pub frames_long : (most : ℕ) (frames : List (List ℕ)) → AreSized most frames → (4 + length (chunks_text (map frame_of frames)) ≡ movi_size frames) × (movi_size frames % 2 ≡ 0)
 frames_long most [] sized = (refl, refl)

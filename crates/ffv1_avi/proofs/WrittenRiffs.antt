@@ -10,7 +10,7 @@ use Rattle.ffv1_reads.specs.Head.{Head, frame_limit, without_colour}
 use Rattle.ffv1_avi.specs.Riffs.{RiffFile, riffs_text, sections_text}
 use Rattle.ffv1_avi.specs.Written.{file_of, frame_chunk, front, head_text, movi, movi_size, padding, riff_size, spelled}
 use Rattle.ffv1_avi.proofs.PartLaws.{parts_text}
-use Rattle.ffv1_avi.proofs.WrittenLaws.{back, frame_of, frames_are, frames_long, frames_text, header_is, header_of, parts_long, stream_of, tail_same, written_stream}
+use Rattle.ffv1_avi.proofs.WrittenLaws.{back, frame_of, frames_are, frames_fit, frames_long, frames_text, header_is, header_of, parts_long, stream_of, tail_same, written_stream}
 
 -- 00dc is the name of a frame of the first stream
 first_named : is_frame (Closed 0 1) (codes "00dc") ≡ true
@@ -38,7 +38,7 @@ written_riff head frames is =
     ∙ ap (λ z. front head count (riff_size head frames) ++ z) (tail_same head.config_record (padding (40 + length head.config_record)) (spelled (movi size) ++ (chunks_text chunks ++ []))) in
     let P : List Chunk → Type 0 = λ z. AreFrames (Closed 0 1) z frames in
     let framed : AreFrames (Closed 0 1) (chunks ++ []) frames = subst P (sym (append-nil chunks)) (frames_are (Closed 0 1) first_stands first_named frames is.sized) in
-    record { riff_size = number (riff_size head frames); parts = header_of head count ∷ []; movi_size = number size; chunks = chunks; sections = []; riffs = []; before = []; stream = stream_of head count; after = []; extended = []; bytes = whole; riff_sized = refl; movi_sized = refl; counted = counted; filled = filled; each = (header_is head count is.short, tt); sections_are = tt; riffs_are = tt; bounded = omega arith; streams_are = refl; others = tt; few = omega arith; says = written_stream EveryRiff EveryRiff head frames count is; extended_are = tt; framed = framed; enough = omega arith }
+    record { riff_size = number (riff_size head frames); parts = header_of head count ∷ []; movi_size = number size; chunks = chunks; sections = []; riffs = []; before = []; stream = stream_of head count; after = []; extended = []; bytes = whole; riff_sized = refl; movi_sized = refl; counted = counted; fit = frames_fit (Closed 0 1) frames is.sized; filled = filled; each = (header_is head count is.short, tt); sections_are = tt; riffs_are = tt; bounded = omega arith; streams_are = refl; others = tt; few = omega arith; says = written_stream EveryRiff EveryRiff head frames count is; extended_are = tt; framed = framed; enough = omega arith }
 
 -- its movi is the last of it
 pub written_once : (head : Head) (frames : List (List ℕ)) (is : IsWritable EveryRiff head frames) → sections_text (written_riff head frames is).sections ++ riffs_text (written_riff head frames is).riffs ≡ []

@@ -1,13 +1,13 @@
 -- A file as lists of chunks, apart from how it is walked.
 use Rattle.std.specs.Prelude.{◌≡◌, ◌⊎◌, ℕ, ◌+◌, ◌≤◌, ◌<◌, ◌%◌, ◌^◌, ◌&&◌, ◌==◌, Bool, true, false}
 use Rattle.std.specs.Prelude.{if◌then◌else◌, List, [], ◌∷◌, ◌++◌, length, take, codes, flat_map}
-use Rattle.std.specs.Prelude.{map, nat_lt, Option, Some, None}
+use Rattle.std.specs.Prelude.{◌||◌, map, nat_lt, Option, Some, None}
 use Rattle.byteorder.specs.Endian.{little_number}
 use Rattle.ffv1_avi.specs.declared.place.Extent.{Extent}
 use Rattle.ffv1_avi.specs.declared.place.Extent.TheVariants.{FirstMovi, EveryRiff}
 use Rattle.ffv1_avi.specs.declared.place.Names.{Names}
-use Rattle.ffv1_avi.specs.declared.place.Names.TheVariants.{Any}
-use Rattle.ffv1_avi.specs.Names.{is_barred, is_frame, least_bytes, most_bytes, most_in}
+use Rattle.ffv1_avi.specs.declared.place.Names.TheVariants.{Any, Closed}
+use Rattle.ffv1_avi.specs.Names.{is_barred, is_frame, least_bytes, most_bytes, most_in, opens}
 use Rattle.ffv1_reads.specs.Colour.{unsaid}
 use Rattle.ffv1_reads.specs.Head.{Head, limit}
 use Rattle.ffv1_avi.specs.Padding.{padded}
@@ -35,6 +35,14 @@ abbrev pub AreChunks : List Chunk → Type 0
 AreChunks [] = Unit {0}
 AreChunks (c ∷ cs) = IsChunk c × AreChunks cs
 
+-- a list that is opened, up to its own name: its size counts the chunks after that
+pub record IsOpened (c : Chunk) : Type 0 where
+  pub named : c.name ≡ codes "LIST"
+  pub sized : length c.size ≡ 4
+  pub room : 4 ≤ little_number 4 c.size
+  pub own : length c.bytes ≡ 4
+  pub none_padded : length c.padding ≡ 0
+
 abbrev pub chunk_text : Chunk → List ℕ
 chunk_text c = c.name ++ c.size ++ c.bytes ++ c.padding
 
@@ -48,6 +56,26 @@ is_named name c = is_name c.name name
 -- whether a chunk is a list of this own name
 abbrev pub is_list : List ℕ → Chunk → Bool
 is_list own c = is_named (codes "LIST") c && is_name (take 4 c.bytes) own
+
+-- a chunk of a list that opens the lists in it: no list, or one up to its own name
+abbrev pub IsBeside : Chunk → Type 0
+IsBeside c = (IsChunk c × (is_named (codes "LIST") c ≡ false)) ⊎ IsOpened c
+
+abbrev pub AreBeside : List Chunk → Type 0
+AreBeside [] = Unit {0}
+AreBeside (c ∷ cs) = IsBeside c × AreBeside cs
+
+-- the chunks of a list, by whether it opens the lists in it
+abbrev pub AreTaken : Bool → List Chunk → Type 0
+AreTaken false cs = AreChunks cs
+AreTaken true cs = AreBeside cs
+
+-- each fits by the size that it says, a list that is opened too, in a list with so many bytes after
+-- them
+abbrev pub Fit : ℕ → List Chunk → Type 0
+Fit more [] = Unit {0}
+Fit more (c ∷ cs) =
+    (8 + padded (little_number 4 c.size) ≤ length (chunks_text (c ∷ cs)) + more) × Fit more cs
 
 -- the chunks that pass a test
 abbrev pub those : (Chunk → Bool) → List Chunk → List Chunk
@@ -161,19 +189,28 @@ AreWithin least bound [] = Unit {0}
 AreWithin least bound (f ∷ fs) =
     (least ≤ length f) × (length f ≤ bound) × AreWithin least bound fs
 
--- a chunk that may not stand in movi
+-- whether a chunk is a list that is taken as more than this own name, or as another one
+abbrev pub is_other_list : List ℕ → Chunk → Bool
+is_other_list own c =
+    if is_named (codes "LIST") c then (if is_name c.bytes own then false else true) else false
+
+-- a chunk that may not stand in movi, by its name or, if every RIFF is read, as a list other than
+-- the beginning of a list `rec `
 abbrev pub barred_in : Names → Chunk → Bool
-barred_in names c = is_barred names c.name
+barred_in Any c = is_barred Any c.name
+barred_in (Closed stream streams) c =
+    is_barred (Closed stream streams) c.name || is_other_list (codes "rec ") c
 
 -- a chunk that is a frame
 abbrev pub frame_in : Names → Chunk → Bool
 frame_in names c = is_frame names c.name
 
 -- the frames are those chunks of movi that are frames by their name, and it has none that may not
--- stand there; if every RIFF is read, one of no bytes repeats the frame before it
+-- stand there; if every RIFF is read, one of no bytes repeats the frame before it, and the chunks
+-- of a list `rec ` are those of movi
 pub record AreFrames (names : Names) (chunks : List Chunk) (frames : List (List ℕ))
     : Type 0 where
-  pub each : AreChunks chunks
+  pub each : AreTaken (opens names) chunks
   pub none_barred : those (barred_in names) chunks ≡ []
   pub those_of : map (λ (c : Chunk). c.bytes) (those (frame_in names) chunks) ≡ frames
   pub sized : AreWithin (least_bytes names) (most_bytes names) frames

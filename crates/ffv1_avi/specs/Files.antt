@@ -12,8 +12,8 @@ use Rattle.ffv1_avi.specs.declared.place.Place.{Place}
 use Rattle.ffv1_reads.specs.Behind.{begins_file}
 use Rattle.ffv1_reads.specs.Head.{Head}
 use Rattle.ffv1_avi.specs.Places.{amount, extent_of, first_place, frame_at, movi_at, riff_at}
-use Rattle.ffv1_reads.specs.Reads.{Kept, Reading, given, refused, taken, passed}
-use Rattle.ffv1_avi.specs.Names.{bars, is_barred, is_frame, least_bytes, most_bytes}
+use Rattle.ffv1_reads.specs.Reads.{Kept, Looked, Reading, given, refused, taken, passed}
+use Rattle.ffv1_avi.specs.Names.{is_barred, is_frame, least_bytes, most_bytes, rule_of}
 use Rattle.ffv1_avi.specs.Padding.{padded, content}
 use Rattle.ffv1_reads.specs.Reads.{◌>>=◌}
 use Rattle.ffv1_avi.specs.Walk.{is_name, Visit, walk, walk_in}
@@ -234,18 +234,28 @@ frame_judged least most size left =
     else if nat_lt size least then refused fault.EmptyFrame
     else given (tt, Some (size, left))
 
+-- a list of movi, by its own name: the chunks of a list `rec ` are those of movi
+abbrev pub list_opened : List ℕ → Reading (Unit {0} × Option (ℕ × ℕ))
+list_opened own =
+    if is_name own (codes "rec ") then given (tt, None) else refused fault.NotAvi
+
+abbrev pub list_entered : ℕ → Reading (Unit {0} × Option (ℕ × ℕ))
+list_entered size = content Looked size >>= list_opened
+
 -- a chunk of movi: one that may not stand there is refused
 unfoldable pub visit_movi : Names → Visit (Unit {0}) (ℕ × ℕ)
 visit_movi names s e =
     if is_barred names e.name then refused fault.NotAvi
     else if is_frame names e.name
     then frame_judged (least_bytes names) (most_bytes names) e.size e.left
+    else if is_name e.name (codes "LIST") then list_entered e.size
     else skipped s e.size
 
 -- the size of the next frame, and what movi has left after it, if it has so many bytes left;
 -- none at its end
 unfoldable pub movi_found : Names → ℕ → Reading (Option (ℕ × ℕ))
-movi_found names left = walk_in (bars names) (visit_movi names) left tt >>= λ p. given p.1
+movi_found names left =
+    walk_in (rule_of names) (visit_movi names) left tt >>= λ p. given p.1
 
 -- a list of RIFF after a movi, by its own name
 abbrev pub riff_list : ℕ → ℕ → List ℕ → Reading (Unit {0} × Option (ℕ × ℕ))

@@ -10,7 +10,7 @@ use Rattle.ffv1_avi.specs.declared.place.Extent.{Extent}
 use Rattle.ffv1_avi.specs.declared.place.Extent.TheVariants.{FirstMovi, EveryRiff}
 use Rattle.ffv1_avi.specs.declared.place.Names.{Names}
 use Rattle.ffv1_avi.specs.declared.place.Names.TheVariants.{Any, Closed}
-use Rattle.ffv1_avi.specs.Walk.{is_name, bars_none}
+use Rattle.ffv1_avi.specs.Walk.{Rule, is_name, bars_none}
 
 -- the names of a stream's frames: compressed, NNdc, or not, NNdb. Both have FFV1
 abbrev pub frame_name : ℕ → List ℕ
@@ -51,12 +51,12 @@ unfoldable pub is_stream_frame : ℕ → List ℕ → Bool
 is_stream_frame stream name =
     is_name name (frame_name stream) || is_name name (bitmap_name stream)
 
--- what may stand beside them: its changes of palette, chunks of the other streams, indexes, and
--- JUNK, which pads
+-- what may stand beside them: its changes of palette, chunks of the other streams, indexes, JUNK,
+-- which pads, and lists, whose own name is judged next
 unfoldable pub stands_beside : ℕ → ℕ → List ℕ → Bool
 stands_beside stream streams name =
     is_name name (palette_name stream) || is_of_other stream streams name || is_index name
-    || is_name name (codes "JUNK")
+    || is_name name (codes "JUNK") || is_name name (codes "LIST")
 
 -- a chunk of this name is a frame
 abbrev pub is_frame : Names → List ℕ → Bool
@@ -73,8 +73,16 @@ is_barred (Closed stream streams) name =
 -- before, and that of every chunk if the first movi is read alone
 abbrev pub bars : Names → List ℕ → Bool
 bars Any = bars_none
-bars (Closed stream streams) = λ name. if is_name name (codes "LIST") then false
-    else is_barred (Closed stream streams) name
+bars (Closed stream streams) = λ name. is_barred (Closed stream streams) name
+
+-- whether movi opens the lists in it: if every RIFF is read
+abbrev pub opens : Names → Bool
+opens Any = false
+opens (Closed stream streams) = true
+
+-- how movi takes its chunks
+abbrev pub rule_of : Names → Rule
+rule_of names = record { bars = bars names; opens = opens names }
 
 -- the most bytes of a frame that are read, by how far is read
 abbrev pub most_in : Extent → ℕ
@@ -120,4 +128,4 @@ pub record IsIndexName (name : List ℕ) : Type 0 where
 abbrev pub IsListed : ℕ → ℕ → List ℕ → Type 0
 IsListed stream streams name =
     IsFrameName stream name ⊎ ((name ≡ palette_name stream) ⊎ (IsOfOther stream streams name
-    ⊎ (IsIndexName name ⊎ (name ≡ codes "JUNK"))))
+    ⊎ (IsIndexName name ⊎ ((name ≡ codes "JUNK") ⊎ (name ≡ codes "LIST")))))

@@ -19,7 +19,7 @@ use Rattle.ffv1_avi.specs.Files.{visit_top}
 use Rattle.ffv1_avi.specs.Padding.{content}
 use Rattle.ffv1_avi.specs.Places.{ended, frame_at, movi_at}
 use Rattle.ffv1_avi.specs.Readers.{Standing}
-use Rattle.ffv1_avi.specs.Names.{bars}
+use Rattle.ffv1_avi.specs.Names.{rule_of}
 use Rattle.ffv1_avi.specs.Walk.{entry_in, entry_read}
 
 -- after a chunk of movi that is no frame of the stream
@@ -72,7 +72,7 @@ movi_taken place None =
 -- a chunk from its first byte on, from the first movi on: one of movi, with its frame; if that
 -- has none left, one of RIFF. At the end nothing is read
 unfoldable pub chunk_taken : Place → Reading Place
-chunk_taken place = entry_in (bars place.names) place.movi >>= movi_taken place
+chunk_taken place = entry_in (rule_of place.names) place.movi >>= movi_taken place
 
 -- an offset counts so many bytes more, as far as 8 bytes hold it
 abbrev pub Counts : ℕ → ℕ → ℕ → Type 0

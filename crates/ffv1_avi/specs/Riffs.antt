@@ -7,7 +7,7 @@ use Rattle.ffv1_avi.specs.declared.place.Extent.TheVariants.{EveryRiff}
 use Rattle.ffv1_avi.specs.declared.place.Names.{Names}
 use Rattle.ffv1_avi.specs.declared.place.Names.TheVariants.{Closed}
 use Rattle.ffv1_avi.specs.Begun.{parts_text}
-use Rattle.ffv1_avi.specs.Chunks.{AreChunks, AreFrames, AreOthers, AreParts, Chunk, IsChunk}
+use Rattle.ffv1_avi.specs.Chunks.{AreChunks, AreFrames, AreOthers, AreParts, Chunk, Fit, IsChunk}
 use Rattle.ffv1_avi.specs.Chunks.{IsStream, Part, chunk_text, chunks_text, first_of, frame_in}
 use Rattle.ffv1_avi.specs.Chunks.{header_chunks, is_list, is_named, streams, those}
 use Rattle.ffv1_reads.specs.Head.{Head}
@@ -26,7 +26,7 @@ section_text (Other c) = chunk_text c
 -- another one is no frame, by its name
 abbrev pub IsSection : Names → Section → Type 0
 IsSection names (Movi size cs) =
-    (length size ≡ 4) × (little_number 4 size ≡ 4 + length (chunks_text cs))
+    (length size ≡ 4) × (little_number 4 size ≡ 4 + length (chunks_text cs)) × Fit 0 cs
 IsSection names (Other c) =
     IsChunk c × (is_list (codes "movi") c ≡ false) × (frame_in names c ≡ false)
 
@@ -115,6 +115,7 @@ pub record RiffFile (file : List ℕ) (head : Head) (frames : List (List ℕ)) :
   pub riff_sized : length riff_size ≡ 4
   pub movi_sized : length movi_size ≡ 4
   pub counted : little_number 4 movi_size ≡ 4 + length (chunks_text chunks)
+  pub fit : Fit 0 chunks
   pub filled : little_number 4 riff_size
       ≡ 4 + length (parts_text parts) + (8 + little_number 4 movi_size)
       + length (sections_text sections)

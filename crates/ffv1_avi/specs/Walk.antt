@@ -17,27 +17,46 @@ is_name bytes name = pointwise nat_eq bytes name
 abbrev pub bars_none : List ℕ → Bool
 bars_none name = false
 
+-- how a list takes the chunks in it: which names it bars, and whether it opens lists
+pub record Rule : Type 0 where
+  pub bars : List ℕ → Bool
+  pub opens : Bool
+
+-- it bars no name, and takes lists whole
+abbrev pub plain : Rule
+plain = record { bars = bars_none; opens = false }
+
+-- how many bytes of a chunk of this size are taken as one: all; of a list that is opened its own
+-- name alone, since its chunks come next
+abbrev pub size_in : Rule → List ℕ → ℕ → ℕ
+size_in rule name size =
+    if rule.opens then (if is_name name (codes "LIST") then 4 else size) else size
+
+-- so many bytes of a chunk, in a list with so many bytes left, and what that has left after them
+abbrev pub entry_of : ℕ → List ℕ → ℕ → Entry
+entry_of left name size = record { name = name; size = size; left = left - (8 + padded size) }
+
 -- a header that was read in a list with so many bytes left: the list does not bar its name; then
 -- its chunk fits with its padding, and a list has room for its own name
-abbrev pub entry_judged : (List ℕ → Bool) → ℕ → List ℕ → ℕ → Reading (Option Entry)
-entry_judged barred left name size =
-    if barred name then refused fault.NotAvi
+abbrev pub entry_judged : Rule → ℕ → List ℕ → ℕ → Reading (Option Entry)
+entry_judged rule left name size =
+    if rule.bars name then refused fault.NotAvi
     else if nat_lt left (8 + padded size) then refused fault.Truncated
     else if is_name name (codes "LIST") && nat_lt size 4 then refused fault.NotAvi
-    else given (Some (record { name = name; size = size; left = left - (8 + padded size) }))
+    else given (Some (entry_of left name (size_in rule name size)))
 
--- the next header of a list that bars some names and has so many bytes left, and what the list has
--- left after its chunk; none at the list's end
-unfoldable pub entry_in : (List ℕ → Bool) → ℕ → Reading (Option Entry)
-entry_in barred left =
+-- the next header of a list that takes its chunks so and has so many bytes left, and what the list
+-- has left after its chunk; none at the list's end
+unfoldable pub entry_in : Rule → ℕ → Reading (Option Entry)
+entry_in rule left =
     if left == 0 then given None
     else if nat_lt left 8 then refused fault.Truncated
     else (taken 8 >>= λ head.
-    entry_judged barred left (take 4 head) (little_number 4 (drop 4 head)))
+    entry_judged rule left (take 4 head) (little_number 4 (drop 4 head)))
 
--- the same of a list that bars none
+-- the same of a list that bars none and opens none
 abbrev pub entry_read : ℕ → Reading (Option Entry)
-entry_read left = entry_in bars_none left
+entry_read left = entry_in plain left
 
 -- what is made of a chunk after its header: the state that it leads to, and, if the walk stops,
 -- an outcome
@@ -56,19 +75,17 @@ abbrev pub visited : {S Y : Type 0} → Visit S Y → (ℕ → S → Reading (S 
 visited visit on s None = given (s, None)
 visited visit on s (Some e) = visit s e >>= λ p. resumed (on e.left) p.0 p.1
 
--- at most so many chunks of a list that bars some names and has so many bytes left are walked
-unfoldable pub walk_up_to : {S Y : Type 0} → (List ℕ → Bool) → Visit S Y → ℕ → ℕ → S →
-    Reading (S × Option Y)
-walk_up_to barred visit zero left s = given (s, None)
-walk_up_to barred visit (suc most) left s =
-    entry_in barred left >>= visited visit (walk_up_to barred visit most) s
+-- at most so many chunks of a list that takes them so and has so many bytes left are walked
+unfoldable pub walk_up_to : {S Y : Type 0} → Rule → Visit S Y → ℕ → ℕ → S → Reading (S × Option Y)
+walk_up_to rule visit zero left s = given (s, None)
+walk_up_to rule visit (suc most) left s =
+    entry_in rule left >>= visited visit (walk_up_to rule visit most) s
 
 -- the chunks of a list of that size are walked, to its end or to where a visit stops; each takes at
 -- least 8 bytes
-abbrev pub walk_in : {S Y : Type 0} → (List ℕ → Bool) → Visit S Y → ℕ → S →
-    Reading (S × Option Y)
-walk_in barred visit left s = walk_up_to barred visit left left s
+abbrev pub walk_in : {S Y : Type 0} → Rule → Visit S Y → ℕ → S → Reading (S × Option Y)
+walk_in rule visit left s = walk_up_to rule visit left left s
 
--- the same of a list that bars none
+-- the same of a list that bars none and opens none
 abbrev pub walk : {S Y : Type 0} → Visit S Y → ℕ → S → Reading (S × Option Y)
-walk visit left s = walk_in bars_none visit left s
+walk visit left s = walk_in plain visit left s

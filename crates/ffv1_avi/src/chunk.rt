@@ -1,14 +1,14 @@
 //! Chunks, header by header.
 
-ghost use Rattle.std.specs.Prelude.{◌≡◌, ◌+◌, ◌≤◌, IfOk, IfSome, Option, codes, true};
+ghost use Rattle.std.specs.Prelude.{◌≡◌, ◌+◌, ◌≤◌, IfOk, IfSome, Option, codes, false, true};
 ghost use Rattle.ffv1_wire.specs.Passage.{passage};
 ghost use Rattle.ffv1_reads.specs.Reads.{Answers};
 ghost use Rattle.ffv1_avi.specs.Padding.{padded};
-ghost use Rattle.ffv1_avi.specs.Names.{bars};
+ghost use Rattle.ffv1_avi.specs.Names.{is_barred, rule_of};
 ghost use Rattle.ffv1_avi.specs.Walk.{entry_in, entry_read, is_name};
 ghost use Rattle.ffv1_avi.specs.declared.chunk.Entry.{Entry};
 
-use crate::names::bars;
+use crate::names::{bars, size_in};
 use crate::place::Names;
 use byteorder::{ByteOrder, LittleEndian};
 use ffv1_reads::{FileFault, take};
@@ -36,7 +36,8 @@ pub(crate) fn padded(size: u32) -> u64
     u64::from(size) + u64::from(size % 2)
 }
 
-/// The header of the next chunk of a list that has so many bytes left, or None at its end.
+/// The header of the next chunk of a list that has so many bytes left, or None at its end. Of a
+/// list that movi opens the chunk is its header and its own name.
 ///
 /// `Truncated` if the input ends before that; then `NotAvi` if the list bars the chunk's name;
 /// `Truncated` if the chunk does not fit in the list; `NotAvi` if it is a list without room for its
@@ -47,11 +48,13 @@ pub(crate) fn next_entry_in<R: ByteIn>(
     names: Names,
     left: u32,
 ) -> Result<Option<Entry>, FileFault>
-    ensures answer { Answers (λ (e : Option Entry). e) (entry_in (bars names) left)
+    ensures answer { Answers (λ (e : Option Entry). e) (entry_in (rule_of names) left)
         (passage R.remaining R.failures input.old input.new) result }
     ensures less { IfOk result (λ o. IfSome o (λ e. e.left + 8 ≤ left)) }
     ensures listed { IfOk result (λ o. IfSome o (λ e. is_name e.name (codes "LIST") ≡ true →
         4 ≤ e.size)) }
+    ensures opened { IfOk result (λ o. IfSome o (λ e. is_barred names e.name ≡ false →
+        is_name e.name (codes "LIST") ≡ true → e.size ≡ 4)) }
 {
     if left == 0 {
         return Ok(None);
@@ -74,10 +77,12 @@ pub(crate) fn next_entry_in<R: ByteIn>(
     if is_name(&name, b"LIST") && size < 4 {
         return Err(FileFault::NotAvi);
     }
+    let size = size_in(names, name, size);
+    let taken = 8 + padded(size);
     Ok(Some(Entry {
         name,
         size,
-        left: left - whole as u32,
+        left: left - taken as u32,
     }))
 }
 

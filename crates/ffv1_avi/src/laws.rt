@@ -18,7 +18,8 @@ ghost use Rattle.ffv1_reads.specs.Ends.{Ends, Stops};
 ghost use Rattle.ffv1_reads.specs.Head.{Head, without_colour};
 ghost use Rattle.ffv1_reads.specs.Offsets.{ReadsWhole};
 ghost use Rattle.ffv1_avi.specs.Names.{IsFrameName, IsListed, bars, is_barred, is_frame};
-ghost use Rattle.ffv1_avi.specs.Offsets.{BeforeFrames, ReadsUpTo, Start, chunk_taken, spot_taken};
+ghost use Rattle.ffv1_avi.specs.Offsets.{BeforeFrames, ReadsUpTo, Start, chunk_taken, movi_left};
+ghost use Rattle.ffv1_avi.specs.Offsets.{spot_taken};
 ghost use Rattle.ffv1_avi.specs.Padding.{padded};
 ghost use Rattle.ffv1_avi.specs.Places.{ended, extent_of, first_place, frame_at};
 ghost use Rattle.ffv1_reads.specs.Reads.{EndsEarly, Faults, Lacks, Met, Read, Reading, Short, Want};
@@ -271,8 +272,8 @@ pub fn empty_chunk_repeats_a_frame()
 
 /// If every RIFF is read, a movi holds only what a name lists: a name of four bytes may stand there
 /// exactly if it is that of a frame of the stream, compressed or not, of its palette, of another
-/// one of the streams, of an index, or JUNK. Any other is refused after its header, and nothing
-/// after that is read. Its size is not looked at, unless it is a list.
+/// one of the streams, of an index, JUNK, or that of a list. Any other is refused after its header,
+/// whatever its size, and nothing after that is read.
 pub fn movi_holds_listed_chunks()
     ensures frames { (stream streams : ℕ) (name : List ℕ) → stream < 100 →
         is_frame (Closed stream streams) name ≡ true → IsFrameName stream name }
@@ -288,6 +289,22 @@ pub fn movi_holds_listed_chunks()
     ensures any_size { (place : Place) (name size rest : List ℕ) → length name ≡ 4 →
         length size ≡ 4 → 8 ≤ place.movi → bars place.names name ≡ true →
         frame_read place ((name ++ size) ++ rest) ≡ Err (Met fault.NotAvi rest) }
+{}
+
+/// If every RIFF is read, the chunks of a list `rec ` in a movi are those of movi: its header and
+/// its own name are passed, and its size only has to fit in movi. A list of another own name is
+/// refused after that, and nothing after it is read.
+pub fn movi_opens_its_lists()
+    ensures opened { (place : Place) (stream streams : ℕ) (size rest : List ℕ) →
+        place.names ≡ Closed stream streams → length size ≡ 4 → 4 ≤ little_number 4 size →
+        8 + padded (little_number 4 size) ≤ place.movi →
+        frame_read place ((codes "LIST" ++ size ++ codes "rec ") ++ rest)
+        ≡ frame_read (movi_left place (place.movi - 12)) rest }
+    ensures other { (place : Place) (stream streams : ℕ) (size own rest : List ℕ) →
+        place.names ≡ Closed stream streams → length size ≡ 4 → 4 ≤ little_number 4 size →
+        8 + padded (little_number 4 size) ≤ place.movi → length own ≡ 4 →
+        is_name own (codes "rec ") ≡ false →
+        frame_read place ((codes "LIST" ++ size ++ own) ++ rest) ≡ Err (Met fault.NotAvi rest) }
 {}
 
 /// What is written is a file of its head and frames, by its chunks, of one RIFF, and is read back,

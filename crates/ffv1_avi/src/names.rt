@@ -1,10 +1,11 @@
 //! Which chunks a movi has, by their names.
 
-ghost use Rattle.std.specs.Prelude.{◌≡◌, ◌+◌, ◌/◌, ◌%◌, ◌∷◌, []};
+ghost use Rattle.std.specs.Prelude.{◌≡◌, ◌+◌, ◌/◌, ◌%◌, ◌∷◌, [], codes, false, true};
 ghost use Rattle.ffv1_avi.specs.Names.{are_digits, bars, bitmap_name, frame_name, is_barred};
 ghost use Rattle.ffv1_avi.specs.Names.{is_digit, least_bytes, most_bytes};
 ghost use Rattle.ffv1_avi.specs.Names.{is_frame, is_index, is_of_other, is_stream_frame};
-ghost use Rattle.ffv1_avi.specs.Names.{palette_name, stands_beside};
+ghost use Rattle.ffv1_avi.specs.Names.{opens, palette_name, rule_of, stands_beside};
+ghost use Rattle.ffv1_avi.specs.Walk.{is_name, size_in};
 
 use crate::chunk::is_name;
 use crate::place::Names;
@@ -69,6 +70,7 @@ fn stands_beside(stream: u8, streams: u8, name: [u8; 4]) -> bool
         || is_of_other(stream, streams, name)
         || is_index(name)
         || is_name(&name, b"JUNK")
+        || is_name(&name, b"LIST")
 }
 
 /// Whether a chunk of this name is a frame.
@@ -119,6 +121,29 @@ pub(crate) fn bars(names: Names, name: [u8; 4]) -> bool
 {
     match names {
         Names::Any => false,
-        Names::Closed(_, _) => !is_name(&name, b"LIST") && is_barred(names, name),
+        Names::Closed(_, _) => is_barred(names, name),
     }
+}
+
+/// Whether movi opens the lists in it.
+fn opens(names: Names) -> bool
+    ensures { result ≡ opens names }
+{
+    match names {
+        Names::Any => false,
+        Names::Closed(_, _) => true,
+    }
+}
+
+/// How many bytes of a chunk of this size are taken as one: of a list that movi opens four, which
+/// are its own name.
+pub(crate) fn size_in(names: Names, name: [u8; 4], size: u32) -> u32
+    ensures value { result ≡ size_in (rule_of names) name size }
+    ensures opened { is_barred names name ≡ false → is_name name (codes "LIST") ≡ true →
+        result ≡ 4 }
+{
+    if opens(names) && is_name(&name, b"LIST") {
+        return 4;
+    }
+    size
 }

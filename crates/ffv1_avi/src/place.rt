@@ -2,6 +2,7 @@
 
 ghost use Rattle.std.specs.Prelude.{◌≡◌};
 ghost use Rattle.ffv1_avi.specs.Places.{ended};
+ghost use Rattle.ffv1_avi.specs.Readers.{others_in};
 
 /// How far a file is read.
 #[derive(Clone, Copy, Debug, PartialEq, Eq)]
@@ -49,5 +50,15 @@ pub(crate) fn ended() -> Place
         movi: 0,
         names: Names::Any,
         owed: 0,
+    }
+}
+
+/// How many further streams are told: none if the first `movi` alone is read.
+pub(crate) fn others_in(extent: Extent, others: u64) -> u64
+    ensures { result ≡ others_in extent others }
+{
+    match extent {
+        Extent::FirstMovi => 0,
+        Extent::EveryRiff => others,
     }
 }

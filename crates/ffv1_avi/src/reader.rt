@@ -2,20 +2,21 @@
 
 ghost use Rattle.std.specs.Prelude.{◌≡◌, ◌<◌, length, true, IfSome, OnSome, ◌+◌, ◌≤◌, ℕ, Bool};
 ghost use Rattle.std.specs.Prelude.{List, [], false, Option, None, Some, IfErr, IfOk, OnErr, Ok};
-ghost use Rattle.std.specs.Prelude.{Err};
+ghost use Rattle.std.specs.Prelude.{Err, codes};
 ghost use Rattle.std.specs.Vec.{vec_capacity};
 ghost use Rattle.ffv1_avi.specs.Behind.{BehindAfter};
 ghost use Rattle.ffv1_avi.specs.Extents.{AnswersFrom};
-ghost use Rattle.ffv1_avi.specs.Files.{frame_found, frame_read, movi_found};
-ghost use Rattle.ffv1_avi.specs.Files.{open_read, visit_movi};
-ghost use Rattle.ffv1_avi.specs.Readers.{CountsOthers, others_in};
+ghost use Rattle.ffv1_avi.specs.Files.{frame_found, frame_judged, frame_read, list_entered};
+ghost use Rattle.ffv1_avi.specs.Files.{movi_found, open_read, visit_movi};
+ghost use Rattle.ffv1_avi.specs.Readers.{CountsOthers};
 ghost use Rattle.ffv1_reads.specs.First.{bytes_with, passage_with};
 ghost use Rattle.ffv1_reads.specs.Head.{Head, head_of};
-ghost use Rattle.ffv1_wire.specs.Passage.{passage};
+ghost use Rattle.ffv1_wire.specs.Passage.{at_rest, passage};
 ghost use Rattle.ffv1_avi.specs.Internal.Ending.{AnswersOrNone};
 ghost use Rattle.ffv1_avi.specs.Offsets.{OffsetAfter};
 ghost use Rattle.ffv1_avi.specs.Internal.Offsets.{FindsFrom, FindsInMovi, MovesTo, TellsBehind};
-ghost use Rattle.ffv1_avi.specs.Names.{least_bytes, least_in, most_bytes, most_in};
+ghost use Rattle.ffv1_avi.specs.Names.{is_barred, least_bytes, least_in, most_bytes, most_in};
+ghost use Rattle.ffv1_avi.specs.Walk.{is_name};
 ghost use Rattle.ffv1_avi.specs.Offsets.{OffsetOpened};
 ghost use Rattle.ffv1_avi.specs.Places.{amount, ended, extent_of, frame_at};
 ghost use Rattle.ffv1_reads.specs.Reads.{Answers};
@@ -29,22 +30,55 @@ ghost use Rattle.ffv1_avi.specs.declared.place.Place.{Place};
 
 use crate::chunk::{Entry, is_name, next_entry_in, padded};
 use crate::names::{is_barred, is_frame, least_bytes, most_bytes};
-use crate::open::read_opening;
-use crate::place::{Extent, Names, Place, ended};
+use crate::open::{own_name, read_opening};
+use crate::place::{Extent, Names, Place, ended, others_in};
 use crate::riff::move_on;
 use ffv1_reads::{Colour, FileFault, FileHead, fill, pass};
 use ffv1_wire::ByteIn;
 use std::alloc::{Allocator, Global};
 use std::marker::Model;
 
+/// The size of a frame: `ChunkTooLong` if it is too great, `EmptyFrame` if it is too small.
+fn judge_frame(names: Names, size: u32) -> Result<Option<u32>, FileFault>
+    ensures sized { IfOk result
+        (λ o. IfSome o (λ n. (least_bytes names ≤ n) × (n ≤ most_bytes names))) }
+    ensures answer { (left : ℕ) (text : Option (List ℕ)) (failures : ℕ) →
+        Answers (λ (size : Option ℕ). (tt, frame_with size left))
+        (frame_judged (least_bytes names) (most_bytes names) size left) (at_rest text failures)
+        result }
+{
+    if size > most_bytes(names) {
+        return Err(FileFault::ChunkTooLong);
+    }
+    if size < least_bytes(names) {
+        return Err(FileFault::EmptyFrame);
+    }
+    Ok(Some(size))
+}
+
+/// The own name of a list of movi: `NotAvi` if it is not `rec `.
+fn open_list<R: ByteIn>(input: &mut R) -> Result<Option<u32>, FileFault>
+    ensures sized { IfOk result (λ o. o ≡ None) }
+    ensures answer { (left : ℕ) → Answers (λ (size : Option ℕ). (tt, frame_with size left))
+        (list_entered 4) (passage R.remaining R.failures input.old input.new) result }
+{
+    let own = own_name(input)?;
+    if !is_name(&own, b"rec ") {
+        return Err(FileFault::NotAvi);
+    }
+    Ok(None)
+}
+
 /// A chunk of movi: the size of a frame, or None if it was passed. If every RIFF is read, a frame
-/// of no bytes repeats the one before it.
+/// of no bytes repeats the one before it, and of a list `rec ` its own name is passed.
 #[tactic(auto, unfolding(crate::specs::Files::visit_movi))]
 fn visit_movi<R: ByteIn>(
     input: &mut R,
     names: Names,
     entry: Entry,
 ) -> Result<Option<u32>, FileFault>
+    requires { is_barred names entry.name ≡ false → is_name entry.name (codes "LIST") ≡ true →
+        entry.size ≡ 4 }
     ensures sized { IfOk result
         (λ o. IfSome o (λ n. (least_bytes names ≤ n) × (n ≤ most_bytes names))) }
     ensures answer { Answers (λ (size : Option ℕ). (tt, frame_with size entry.left))
@@ -53,17 +87,14 @@ fn visit_movi<R: ByteIn>(
     if is_barred(names, entry.name) {
         return Err(FileFault::NotAvi);
     }
-    if !is_frame(names, entry.name) {
-        pass(input, padded(entry.size))?;
-        return Ok(None);
+    if is_frame(names, entry.name) {
+        return judge_frame(names, entry.size);
     }
-    if entry.size > most_bytes(names) {
-        return Err(FileFault::ChunkTooLong);
+    if is_name(&entry.name, b"LIST") {
+        return open_list(input);
     }
-    if entry.size < least_bytes(names) {
-        return Err(FileFault::EmptyFrame);
-    }
-    Ok(Some(entry.size))
+    pass(input, padded(entry.size))?;
+    Ok(None)
 }
 
 /// The size of a stream's next frame, and what movi has left after it; None at its end. The chunks
@@ -181,16 +212,6 @@ fn with_repeated(repeated: u64, frame: &[u8]) -> u64
         return repeated.saturating_add(1);
     }
     repeated
-}
-
-/// How many further streams are told: none if the first `movi` alone is read.
-fn others_in(extent: Extent, others: u64) -> u64
-    ensures { result ≡ others_in extent others }
-{
-    match extent {
-        Extent::FirstMovi => 0,
-        Extent::EveryRiff => others,
-    }
 }
 
 /// A reader of the frames of a file.
@@ -383,10 +404,12 @@ impl<A: Allocator> AviReader<A> {
     /// fit in its list or the input ends inside it, or before as many frames as `dmlh` says: then
     /// also if other bytes stand after the last RIFF. `NotAvi` if a list stands in `movi`, a list
     /// has no room for its own name, or an RIFF `AVIX` has none for its form. If `open_all` made
-    /// the reader, `Another` if another file begins after the last RIFF, with the ID of EBML or as
-    /// an RIFF of another form; and `NotAvi` also, after its header, if a chunk stands in `movi`
-    /// that is no frame `NNdc` or `NNdb` of the stream, its `NNpc`, a chunk of another of the
-    /// streams, `ixNN` or `JUNK`, whatever its size; or a frame in RIFF after a `movi`.
+    /// the reader, the chunks of a list `rec ` are those of `movi`, and any other list there is
+    /// `NotAvi` after its own name; `Another` if another file begins after the last RIFF, with the
+    /// ID of EBML or as an RIFF of another form; and `NotAvi` also, after its header, if a chunk
+    /// stands in `movi` that is no frame `NNdc` or `NNdb` of the stream, its `NNpc`, a chunk of
+    /// another of the streams, `ixNN` or `JUNK`, whatever its size; or a frame in RIFF after a
+    /// `movi`.
     /// `ChunkTooLong` for a frame above 1073741824 bytes, or 67108864 of a reader that `open` made,
     /// of which no byte is read; `EmptyFrame` for a frame of no bytes, of a reader that `open`
     /// made; `Read` if a read failed, `OutOfMemory`. After a fault the vector holds a beginning of

@@ -13,7 +13,7 @@ use Rattle.ffv1_avi.specs.Chunks.{IsWritable}
 use Rattle.ffv1_files.specs.Behind.{notes_of}
 use Rattle.ffv1_files.specs.Files.{file_read, frame_read, once_read, open_read}
 use Rattle.ffv1_files.specs.Noted.{IsNotedOf, NotedOf}
-use Rattle.ffv1_files.specs.Readers.{Standing}
+use Rattle.ffv1_files.specs.Readers.{Standing, others_at}
 use Rattle.ffv1_files.specs.declared.notes.Notes.{Notes}
 use Rattle.ffv1_files.proofs.Behinds.{nothing_behind}
 use Rattle.ffv1_reads.specs.Head.{Head}
@@ -396,5 +396,5 @@ module _ (profile : Profile) (files : FileLaws profile) (frame_laws : FrameLaws)
       show_refused false f h = stream_refused f h
       show_refused true f (inl h) = stream_refused f h
       show_refused true f (inr h) =
-          let lines = cost_text (container_of h.comes.place) h.stream in
+          let lines = cost_text (container_of h.comes.place) (others_at h.comes.place h.comes.counted) h.stream in
           no_content f (λ e. no_play_fault h.stream lines f h.is (subst (λ why. PlayStopsBy (FileThen profile h.stream.head) h.stream.accepted lines input output f why) e h.stops))

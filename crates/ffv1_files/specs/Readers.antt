@@ -35,6 +35,12 @@ pub record Standing : Type 0 where
 abbrev pub opened_at : Standing → Head × Place
 opened_at r = (r.head, r.place)
 
+-- how many further tracks of its file, or streams of an AVI if its reader counts so many, are FFV1
+-- video
+abbrev pub others_at : Place → ℕ → ℕ
+others_at (InAvi place) others = others
+others_at (InMatroska segment track place) others = track.others
+
 -- what a call that answers so has read: a frame, with the place after it; none at the end
 abbrev pub next_of : Bool → List ℕ → Place → Option (List ℕ × Place)
 next_of true bytes place = Some (bytes, place)

@@ -28,7 +28,7 @@ ghost use Rattle.ffv1_files.specs.Endings.{endings_from};
 ghost use Rattle.ffv1_files.specs.Places.{InMatroska, amount, container_of, least_bytes, least_in};
 ghost use Rattle.ffv1_files.specs.Places.{most_bytes, most_in};
 ghost use Rattle.ffv1_files.specs.Readers.{StandsAfter, is_frame_fault, is_opening_fault, next_of};
-ghost use Rattle.ffv1_files.specs.Readers.{Leaves};
+ghost use Rattle.ffv1_files.specs.Readers.{Leaves, others_at};
 
 use crate::container::{Container, Scope};
 use crate::notes::Notes;
@@ -166,6 +166,17 @@ impl<A: Allocator> FileReader<A> {
         match &self.inner {
             Inner::Avi(_) => Container::Avi,
             Inner::Matroska(reader) => Container::Matroska(reader.segment()),
+        }
+    }
+
+    /// How many further entries of Tracks, or further streams of an AVI, are FFV1 video, which is
+    /// not read. Of an AVI whose first `movi` alone is read none is looked at, and this is 0.
+    pub fn others(&self) -> u64
+        ensures { result ≡ others_at self.now.place self.now.others }
+    {
+        match &self.inner {
+            Inner::Avi(reader) => reader.others(),
+            Inner::Matroska(reader) => reader.others(),
         }
     }
 

@@ -7,7 +7,8 @@ use Rattle.ffv1_wire.specs.Passage.{Passage, between}
 use Rattle.ffv1_record.specs.Accepted.{Accepted}
 use Rattle.ffv1_files.specs.Places.{InAvi, InMatroska, Place, container_of}
 use Rattle.ffv1_files.specs.declared.notes.Notes.{Notes}
-use Rattle.ffv1_files.specs.Readers.{Standing}
+use Rattle.ffv1_files.specs.Noted.{StreamsReached}
+use Rattle.ffv1_files.specs.Readers.{Standing, others_at}
 use Rattle.ffv1_reads.specs.Known.{Known}
 use Rattle.ffv1_video.specs.declared.profile.Profile.{Profile}
 use Rattle.ffv1_video.specs.declared.fault.Fault.{Fault}
@@ -26,9 +27,8 @@ use Rattle.ffv1_unpack.specs.Play.End.{File, Payload}
 use Rattle.ffv1_unpack.specs.Plays.{FileThen, FramesThen, GoesFrom, GoesThen, HasThen, NextEnds, NextLacks, NextReadFails, NextStays, PlayStops, PlayStopsBy, ReadsFile, RefusedFrom, TextFails}
 use Rattle.ffv1_unpack.specs.Internal.Plays.{PlaysAll}
 use Rattle.ffv1_unpack.specs.Show.{ComesFrom, CostStops, ShowStops, ShowsCosts, ShowsStream, StreamStopsBy, cost_text}
-use Rattle.ffv1_unpack.specs.Internal.Show.{NoDecoder}
+use Rattle.ffv1_unpack.specs.Internal.Show.{NoDecoder, lines_of}
 use Rattle.ffv1_unpack.specs.Stream.{Frame, IsFrame, frame_payload, payloads}
-use Rattle.ffv1_unpack.specs.StreamLines.{show_text}
 use Rattle.ffv1_unpack.specs.Ranges.{all_frames, number_in}
 use Rattle.ffv1_unpack.specs.Told.{PayloadStopsFrom}
 use Rattle.ffv1_unpack.specs.Internal.Told.{IsToldFault, TellingStops, WritesFrame}
@@ -36,6 +36,7 @@ use Rattle.ffv1_unpack.proofs.FaultsLocated.{nothing_behind}
 use Rattle.ffv1_unpack.proofs.FilePlayed.{file_has}
 use Rattle.ffv1_unpack.proofs.FramesPlayed.{has_stays}
 use Rattle.ffv1_unpack.proofs.FramesInTurn.{reads_none}
+use Rattle.ffv1_video.specs.Profiles.{scope_in}
 use Rattle.ffv1_video.proofs.Output.{take_past}
 
 -- if the lines of the stream were not written, it does not matter whether costs were asked for
@@ -62,20 +63,22 @@ module _ (profile : Profile) (i0 i1 o0 o1 : Option (List ℕ)) (ib im ob om : �
   lacks_stream f Memory h = (record { kept = Keeps-refl o0; same = refl }, h)
   lacks_stream f Content h = (record { kept = Keeps-refl o0; same = refl }, h)
 
-  module _ (r : Standing) (a : Accepted) (opens : OpensStream profile r a (between i0 i1 ib im)) where
+  module _ (r : Standing) (a : Accepted) (opens : OpensStream profile r a (between i0 i1 ib im)) (streams : StreamsReached (scope_in profile) i0 i1 r) where
     -- its lines are written, or not
-    pub shows : om ≡ ob → Appends o0 o1 (show_text (container_of r.place) (stream_of r a)) → ShowsStream profile (between i0 i1 ib im) (between o0 o1 ob om)
+    pub shows : om ≡ ob → Appends o0 o1 (lines_of r a) → ShowsStream profile (between i0 i1 ib im) (between o0 o1 ob om)
     shows same writes = record {
       stream = stream_of r a;
       is = opens.stream;
       place = r.place;
       opens = opens.known;
+      counted = r.others;
+      counts = streams;
       kept = opens.kept;
       written = same;
       writes = writes;
     }
 
-    pub text_stops : (f : Fault) → WritesFrame (show_text (container_of r.place) (stream_of r a)) (between o0 o1 ob om) (Err f) → StreamStopsBy profile (between i0 i1 ib im) (between o0 o1 ob om) f (cause_of f)
+    pub text_stops : (f : Fault) → WritesFrame (lines_of r a) (between o0 o1 ob om) (Err f) → StreamStopsBy profile (between i0 i1 ib im) (between o0 o1 ob om) f (cause_of f)
     text_stops f h = elim h [
       | inl write ↦
           subst (λ z. StreamStopsBy profile (between i0 i1 ib im) (between o0 o1 ob om) z (cause_of z)) (sym write.0) (record {
@@ -83,6 +86,8 @@ module _ (profile : Profile) (i0 i1 o0 o1 : Option (List ℕ)) (ib im ob om : �
             is = opens.stream;
             place = r.place;
             opens = opens.known;
+            counted = r.others;
+            counts = streams;
             kept = opens.kept;
             written = write.1;
             writes = write.2;
@@ -91,16 +96,16 @@ module _ (profile : Profile) (i0 i1 o0 o1 : Option (List ℕ)) (ib im ob om : �
           (record { kept = none.2; same = none.1 }, (opens.kept, inr (inr (record { stream = stream_of r a; is = opens.stream; place = r.place; known = opens.known }))))
     ]
 
-module _ (profile : Profile) (i0 i1 i2 o0 o1 o2 : Option (List ℕ)) (ib im ia ob om oa : ℕ) (r : Standing) (a : Accepted) (opens : OpensStream profile r a (between i0 i1 ib im)) (same : om ≡ ob)
-    (writes : Appends o0 o1 (show_text (container_of r.place) (stream_of r a))) where
+module _ (profile : Profile) (i0 i1 i2 o0 o1 o2 : Option (List ℕ)) (ib im ia ob om oa : ℕ) (r : Standing) (a : Accepted) (opens : OpensStream profile r a (between i0 i1 ib im)) (streams : StreamsReached (scope_in profile) i0 i1 r) (same : om ≡ ob)
+    (writes : Appends o0 o1 (lines_of r a)) where
   abbrev from : ComesFrom profile i0 r.head
-  from = record { place = r.place; rest = i1; opens = opens.known }
+  from = record { place = r.place; rest = i1; opens = opens.known; counted = r.others; counts = streams }
 
-  behind : (bytes : List ℕ) → Appends o1 o2 bytes → Appends o0 o2 (show_text (container_of r.place) (stream_of r a) ++ bytes)
-  behind bytes more = Appends-trans o0 o1 o2 (show_text (container_of r.place) (stream_of r a)) bytes writes more
+  behind : (bytes : List ℕ) → Appends o1 o2 bytes → Appends o0 o2 (lines_of r a ++ bytes)
+  behind bytes more = Appends-trans o0 o1 o2 (lines_of r a) bytes writes more
 
   abbrev text : List Frame → List ℕ
-  text frames = cost_text (container_of r.place) (stream_of r a) frames
+  text frames = cost_text (container_of r.place) (others_at r.place r.others) (stream_of r a) frames
 
   abbrev lines : List Frame → List ℕ
   lines frames = frame_lines line.Cost a.configuration frames
@@ -131,7 +136,7 @@ module _ (profile : Profile) (i0 i1 i2 o0 o1 o2 : Option (List ℕ)) (ib im ia o
   line_fails : (frames : List Frame) → TextFails (IsFrame a) frame_payload (HasThen r.place) lines (between i1 i2 im ia) (between o1 o2 om oa) frames →
       TextFails (IsFrame a) frame_payload (FileThen profile r.head) text (between i0 i2 ib ia) (between o0 o2 ob oa) frames
   line_fails frames h =
-      let head = show_text (container_of r.place) (stream_of r a) in
+      let head = lines_of r a in
       let fewer = lines (but_last frames) in
       let long : length (head ++ lines frames) ≡ length head + length (lines frames) = length-append head (lines frames) in
       let short : length (head ++ fewer) ≡ length head + length fewer = length-append head fewer in
@@ -165,7 +170,7 @@ module _ (profile : Profile) (i0 i1 i2 o0 o1 o2 : Option (List ℕ)) (ib im ia o
   -- the decoder was refused its memory
   pub no_decoder : (f : Fault) → NoDecoder (between i1 i2 im ia) (between o1 o2 om oa) f → CostStops profile (between i0 i2 ib ia) (between o0 o2 ob oa) f
   no_decoder f h =
-      let head = show_text (container_of r.place) (stream_of r a) in
+      let head = lines_of r a in
       subst (CostStops profile (between i0 i2 ib ia) (between o0 o2 ob oa)) (sym h.is) (stops fault.OutOfMemory (λ e. cc) (
         h.unread ∙ opens.kept,
         inr (record {

@@ -7,7 +7,7 @@ use Rattle.ffv1_reads.specs.declared.fault.FileFault.{FileFault}
 use Rattle.ffv1_reads.specs.declared.fault.FileFault.TheVariants as fault
 use Rattle.ffv1_reads.proofs.Results.{ok_is, read_on_ok}
 use Rattle.ffv1_avi.specs.Files.{Headers, begins, header_read, list_visited, movi_reached, no_headers, visit_movi, visit_top}
-use Rattle.ffv1_avi.specs.Names.{bars}
+use Rattle.ffv1_avi.specs.Names.{rule_of}
 use Rattle.ffv1_avi.specs.Offsets.{BeforeFrames, InRiff, Spot, Start, chunk_taken, frame_taken, movi_left, movi_taken, riff_begins, riff_taken, spot_taken, top_left, top_taken}
 use Rattle.ffv1_avi.specs.Padding.{content}
 use Rattle.ffv1_avi.specs.Places.{extent_of, frame_at}
@@ -88,7 +88,7 @@ frames place left (Some p) holds = onward Alone (content Kept p.0) (λ bytes. gi
 
 chunks : (place : Place) → Alone place → Yields Alone (chunk_taken place)
 unfolding chunk_taken
-chunks place holds = onward Alone (entry_in (bars place.names) place.movi) (movi_taken place) on_entry
+chunks place holds = onward Alone (entry_in (rule_of place.names) place.movi) (movi_taken place) on_entry
   where
     on_entry : (o : _) → Yields Alone (movi_taken place o)
     on_entry (Some e) = onward Alone (visit_movi place.names tt e) (λ p. frame_taken place e.left p.1) (λ p. frames place e.left p.1 holds)

@@ -12,7 +12,9 @@ use Rattle.ffv1_video.specs.declared.profile.Profile.{Profile}
 use Rattle.ffv1_video.specs.declared.fault.Fault.{Fault}
 use Rattle.ffv1_video.specs.declared.fault.Fault.TheVariants as fault
 use Rattle.ffv1_unpack.specs.declared.frame_line.FrameLine.TheVariants as line
-use Rattle.ffv1_files.specs.Noted.{no_notes}
+use Rattle.ffv1_files.specs.Noted.{no_notes, streams_reached}
+use Rattle.ffv1_files.specs.Readers.{others_at}
+use Rattle.ffv1_reads.specs.Known.{Known}
 use Rattle.ffv1_unpack.specs.Behind.{NotedIn}
 use Rattle.ffv1_unpack.specs.Containers.{is_profile_fault}
 use Rattle.ffv1_video.specs.Faults.{Cause, cause_of}
@@ -25,17 +27,25 @@ use Rattle.ffv1_unpack.specs.Stream.{Frame, IsStream, Stream}
 use Rattle.ffv1_unpack.specs.StreamLines.{show_text}
 use Rattle.ffv1_unpack.specs.Told.{is_telling_fault}
 use Rattle.ffv1_video.specs.Output.{Silent}
+use Rattle.ffv1_video.specs.Profiles.{scope_in}
 
 -- the lines of a stream, and after them what each frame cost
-abbrev pub cost_text : Container → Stream → List Frame → List ℕ
-cost_text container s frames =
-    show_text container s ++ frame_lines line.Cost s.accepted.configuration frames
+abbrev pub cost_text : Container → ℕ → Stream → List Frame → List ℕ
+cost_text container others s frames =
+    show_text container others s ++ frame_lines line.Cost s.accepted.configuration frames
 
--- if the file is known, its frames come from this place, in its container
+-- if the file is known, so many further streams of an AVI are counted
+abbrev pub CountsStreams : Profile → Option (List ℕ) → Option (List ℕ) → Place → ℕ → Type 0
+CountsStreams profile old rest place counted =
+    Known old rest (λ file left. streams_reached (scope_in profile) place counted file)
+
+-- if the file is known, its frames come from this place, in its container, beside so many streams
 pub record ComesFrom (profile : Profile) (old : Option (List ℕ)) (head : Head) : Type 0 where
   pub place : Place
   pub rest : Option (List ℕ)
   pub opens : OpensKnown profile old rest head place
+  pub counted : ℕ
+  pub counts : CountsStreams profile old rest place counted
 
 module _ (profile : Profile) (input output : Passage) where
   -- the file begins with the head of a stream, and the lines of that were written
@@ -44,9 +54,12 @@ module _ (profile : Profile) (input output : Passage) where
     pub is : IsStream profile stream
     pub place : Place
     pub opens : OpensKnown profile input.old input.new stream.head place
+    pub counted : ℕ
+    pub counts : CountsStreams profile input.old input.new place counted
     pub kept : input.after ≡ input.before
     pub written : output.after ≡ output.before
-    pub writes : Appends output.old output.new (show_text (container_of place) stream)
+    pub writes : Appends output.old output.new
+        (show_text (container_of place) (others_at place counted) stream)
 
   -- all frames of the file were decoded, and what each cost was written after those lines; this is
   -- noted of the end, and it is what is noted of the bytes of the file
@@ -60,7 +73,8 @@ module _ (profile : Profile) (input output : Passage) where
     pub written : output.after ≡ output.before
     pub comes : ComesFrom profile input.old stream.head
     pub writes : Appends output.old output.new
-        (cost_text (container_of comes.place) stream frames)
+        (cost_text (container_of comes.place) (others_at comes.place comes.counted) stream
+        frames)
 
   -- by whether the costs are asked for, and by what is noted of the end: nothing, if it is not read
   abbrev pub ShowDone : Bool → Notes → Type 0
@@ -73,9 +87,12 @@ module _ (profile : Profile) (input output : Passage) where
     pub is : IsStream profile stream
     pub place : Place
     pub opens : OpensKnown profile input.old input.new stream.head place
+    pub counted : ℕ
+    pub counts : CountsStreams profile input.old input.new place counted
     pub kept : input.after ≡ input.before
     pub written : output.after ≡ one_more output.before
-    pub writes : AppendsBeginning output.old output.new (show_text (container_of place) stream)
+    pub writes : AppendsBeginning output.old output.new
+        (show_text (container_of place) (others_at place counted) stream)
 
   -- why the lines of the stream were not written: a write failed, which was counted; or the file
   -- was not opened, or memory for them was refused, and nothing was written
@@ -91,7 +108,8 @@ module _ (profile : Profile) (input output : Passage) where
     pub comes : ComesFrom profile input.old stream.head
     pub some : f ≡ fault.NoFrames → ⊥
     pub stops : PlayStops (FileThen profile stream.head) stream.accepted
-        (cost_text (container_of comes.place) stream) input output f
+        (cost_text (container_of comes.place) (others_at comes.place comes.counted) stream)
+        input output f
 
   -- why it is refused, by whether the costs are asked for
   abbrev pub ShowStops : Bool → Fault → Type 0

@@ -74,9 +74,14 @@ segment_line container.Avi = []
 segment_line (container.Matroska (Some size)) = number_line (codes "segment ") size
 segment_line (container.Matroska None) = codes "segment open\n"
 
--- the lines of a stream in its container
-abbrev pub show_text : Container → Stream → List ℕ
-show_text container s =
+-- how many further tracks or streams are FFV1 video, if there are any
+abbrev pub others_line : ℕ → List ℕ
+others_line others =
+    if nat_lt 0 others then number_line (codes "note 91 OtherVideo ") others else []
+
+-- the lines of a stream in its container, beside so many others
+abbrev pub show_text : Container → ℕ → Stream → List ℕ
+show_text container others s =
     let c = s.accepted.configuration in
     pair_line (codes "size ") c.width (codes "x") c.height
     ++ number_line (codes "coder ") (coder_type c.coder)
@@ -90,5 +95,6 @@ show_text container s =
     ++ number_line (codes "ec ") (one_if c.ec)
     ++ number_line (codes "intra ") (one_if c.intra)
     ++ pair_line (codes "rate ") s.head.rate (codes "/") s.head.scale
+    ++ others_line others
     ++ segment_line container
     ++ held_line (held_of c)

@@ -2,7 +2,6 @@
 
 ghost use Rattle.std.specs.Prelude.{◌≡◌, ◌⊎◌, IfErr, IfOk, List, None, false, true};
 ghost use Rattle.ffv1_wire.specs.Passage.{passage};
-ghost use Rattle.ffv1_reads.specs.Head.{head_of};
 ghost use Rattle.ffv1_record.specs.Accepted.{IsAccepted};
 ghost use Rattle.ffv1_unpack.specs.declared.frame_line.FrameLine.TheVariants as line;
 ghost use Rattle.ffv1_unpack.specs.FrameLines.{frame_lines};
@@ -12,17 +11,15 @@ ghost use Rattle.ffv1_unpack.specs.Plays.{HasThen};
 ghost use Rattle.ffv1_unpack.specs.Ranges.{all_frames};
 ghost use Rattle.ffv1_unpack.specs.Internal.Plays.{PlaysAll};
 ghost use Rattle.ffv1_unpack.specs.Show.{IsShowFault, ShowDone, ShowStops};
-ghost use Rattle.ffv1_unpack.specs.Internal.Show.{NoDecoder};
+ghost use Rattle.ffv1_unpack.specs.Internal.Show.{NoDecoder, lines_of};
 ghost use Rattle.ffv1_unpack.specs.Stream.{Frame, IsFrame, frame_payload};
-ghost use Rattle.ffv1_unpack.specs.StreamLines.{show_text};
 ghost use Rattle.ffv1_unpack.specs.Internal.Told.{IsToldFault, TellingStops, WritesFrame};
 
 use crate::frame_line::FrameLine;
 use crate::player::{open_stream, player_of};
 use crate::stream_lines::show_text;
 use crate::telling::{Places, Telling, tell_frames};
-use ffv1_files::{Container, FileReader, Notes, laws as files_laws};
-use ffv1_reads::FileHead;
+use ffv1_files::{FileReader, Notes, laws as files_laws};
 use ffv1_record::Checked;
 use ffv1_video::{Fault, Profile};
 use ffv1_wire::{AgainIn, ByteIn, ByteOut, write_all};
@@ -33,15 +30,19 @@ use std::alloc::Allocator;
 fn write_stream<W: ByteOut, A: Allocator + Copy>(
     alloc: A,
     output: &mut W,
-    container: Container,
-    head: &FileHead<A>,
+    reader: &FileReader<A>,
     checked: &Checked<A>,
 ) -> Result<(), Fault>
-    ensures { WritesFrame
-        (show_text container (record { head = head_of head.now; accepted = checked.now }))
+    ensures { WritesFrame (lines_of reader.now checked.now)
         (passage W.contents W.failures output.old output.new) result }
 {
-    let text = show_text(alloc, container, head, checked)?;
+    let text = show_text(
+        alloc,
+        reader.container(),
+        reader.others(),
+        reader.head(),
+        checked,
+    )?;
     if write_all(output, &text).is_err() {
         return Err(Fault::Write);
     }
@@ -101,17 +102,19 @@ fn tell_costs<R: ByteIn, W: ByteOut, A: Allocator + Copy>(
 /// ec {0 or 1}
 /// intra {0 or 1}
 /// rate {rate}/{scale}
+/// note 91 OtherVideo {n}
 /// segment {size, or open}
 /// held states {n} samples {n} output {n} columns {n} offsets {n}
 /// ```
 ///
 /// The line `extra 1` is there if there is a plane of transparency, the line `depth` if a
-/// sample has more than 8 bits, and the line `segment` of Matroska: it has the bytes of the
-/// Segment, or says that their number is not known, so that the file may be cut where a Cluster
-/// ends. The decoder holds what `Checked::held` says. Which stream of the file counts, and
-/// where its record ends, is by the profile. A file without frames is no fault. With `cost`
-/// all frames that the profile reads are then decoded, and a line of each is written as soon as it
-/// is decoded:
+/// sample has more than 8 bits, the line `note 91` if n further tracks, or streams of an AVI, are
+/// FFV1 video, which is not read (at `Strict` none is looked at), and the line `segment` of
+/// Matroska: it has the bytes of the Segment, or says that their number is not known, so that the
+/// file may be cut where a Cluster ends. The decoder holds what `Checked::held` says. Which stream
+/// of the file counts, and where its record ends, is by the profile. A file without frames is no
+/// fault. With `cost` all frames that the profile reads are then decoded, and a line of each is
+/// written as soon as it is decoded:
 ///
 /// ```text
 /// cost frame {i}: ones {n} zeros {n} renormalisations {n}
@@ -157,7 +160,7 @@ pub fn show<R: AgainIn, W: ByteOut, A: Allocator + Copy>(
     files_laws::frames_come_in_turn();
     files_laws::what_is_read_is_a_file();
     let (reader, checked) = open_stream(alloc, profile, input)?;
-    write_stream(alloc, output, reader.container(), reader.head(), &checked)?;
+    write_stream(alloc, output, &reader, &checked)?;
     if cost {
         let notes = tell_costs(alloc, reader, checked, input, output)?;
         return Ok(notes);

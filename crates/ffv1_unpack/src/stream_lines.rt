@@ -7,7 +7,7 @@ ghost use Rattle.ffv1_reads.specs.Head.{head_of};
 ghost use Rattle.ffv1_unpack.specs.StreamLines.{chroma_line, coder_type, colour_line};
 ghost use Rattle.ffv1_unpack.specs.StreamLines.{contexts_line, depth_line, extra_line, held_line};
 ghost use Rattle.ffv1_unpack.specs.StreamLines.{number_line};
-ghost use Rattle.ffv1_unpack.specs.StreamLines.{is_wide, note_line, segment_line};
+ghost use Rattle.ffv1_unpack.specs.StreamLines.{is_wide, note_line, others_line, segment_line};
 ghost use Rattle.ffv1_unpack.specs.StreamLines.{show_text};
 
 use ffv1_files::Container;
@@ -151,6 +151,16 @@ fn push_held<A: Allocator>(text: &mut Vec<u8, A>, held: Held) -> Result<(), Allo
     Ok(())
 }
 
+/// Appends the line of further FFV1 video, if there is any.
+fn push_others<A: Allocator>(text: &mut Vec<u8, A>, others: u64) -> Result<(), AllocError>
+    ensures { OnOk result (text.new.items ≡ text.old.items ++ others_line others) }
+{
+    if others > 0 {
+        return push_line(text, b"note 91 OtherVideo ", others);
+    }
+    Ok(())
+}
+
 /// Appends the line of a Segment: how many bytes it has, or that this is not known; nothing of AVI.
 fn push_segment<A: Allocator>(text: &mut Vec<u8, A>, container: Container) -> Result<(), AllocError>
     ensures { OnOk result (text.new.items ≡ text.old.items ++ segment_line container) }
@@ -165,15 +175,17 @@ fn push_segment<A: Allocator>(text: &mut Vec<u8, A>, container: Container) -> Re
     }
 }
 
-/// The lines of a file's head, of its container and of the configuration of its frames.
+/// The lines of a file's head, of its container, of further FFV1 video beside its frames, and of
+/// the configuration of these.
 pub(crate) fn show_text<A: Allocator>(
     alloc: A,
     container: Container,
+    others: u64,
     head: &FileHead<A>,
     checked: &Checked<A>,
 ) -> Result<Vec<u8, A>, AllocError>
     ensures { IfOk result (λ text. text.items
-        ≡ show_text container (record { head = head_of head.now; accepted = checked.now })) }
+        ≡ show_text container others (record { head = head_of head.now; accepted = checked.now })) }
 {
     let config = checked.config();
     let mut text = Vec::new(alloc);
@@ -194,6 +206,7 @@ pub(crate) fn show_text<A: Allocator>(
     push_line(&mut text, b"ec ", u64::from(config.ec))?;
     push_line(&mut text, b"intra ", u64::from(config.intra))?;
     push_pair(&mut text, b"rate ", head.rate, b"/", head.scale)?;
+    push_others(&mut text, others)?;
     push_segment(&mut text, container)?;
     push_held(&mut text, checked.held())?;
     Ok(text)

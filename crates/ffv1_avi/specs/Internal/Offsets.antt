@@ -14,7 +14,7 @@ use Rattle.ffv1_avi.specs.Behind.{EndsBehind}
 use Rattle.ffv1_avi.specs.Files.{no_headers, visit_movi}
 use Rattle.ffv1_avi.specs.Internal.Views.{head_with}
 use Rattle.ffv1_avi.specs.Places.{frame_at, movi_at}
-use Rattle.ffv1_avi.specs.Names.{bars}
+use Rattle.ffv1_avi.specs.Names.{rule_of}
 use Rattle.ffv1_avi.specs.Walk.{entry_in}
 use Rattle.ffv1_avi.specs.Offsets.{ReadsTo, ReadsUpTo, StopsAt, StopsIn}
 use Rattle.ffv1_avi.specs.Offsets.{Start, InRiff, BeforeFrames}
@@ -24,7 +24,7 @@ use Rattle.ffv1_avi.specs.Offsets.{movi_left, riff_left, spot_taken}
 pub record FrameBegins (to : Place) (old new : Option (List ℕ)) (found : ℕ × ℕ) : Type 0 where
   pub between : Option (List ℕ)
   pub entry : Entry
-  pub header : Read (entry_in (bars to.names) to.movi) old between (Some entry)
+  pub header : Read (entry_in (rule_of to.names) to.movi) old between (Some entry)
   pub visit : Read (visit_movi to.names tt entry) between new (tt, Some found)
 
 -- up to the chunk of the frame that was found in movi; or to the end of that

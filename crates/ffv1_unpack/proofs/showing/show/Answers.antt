@@ -1,19 +1,14 @@
 -- Writes what a file's head and its record say, and how much a decoder of its frames holds.
-use Rattle.std.proofs.Common.{◌≡◌, Err, Ok, Result, inl, inr, refl, subst, sym}
-use Rattle.ffv1_wire.specs.Passage.{Passage}
-use Rattle.ffv1_record.specs.Accepted.{Accepted}
-use Rattle.ffv1_files.specs.declared.container.Container.{Container}
-use Rattle.ffv1_video.specs.declared.fault.Fault.{Fault}
+use Rattle.std.proofs.Common.{◌≡◌, inl, inr, refl, subst, sym}
 use Rattle.ffv1_video.specs.declared.fault.Fault.TheVariants as fault
 use Rattle.std.proofs.lemmas.Result.{err_from_is_err_and}
 use Rattle.ffv1_wire.specs.Passage.{passage}
-use Rattle.ffv1_reads.specs.Head.{Head, head_of}
 use Rattle.ffv1_video.specs.Faults.{cause_of}
 use Rattle.ffv1_unpack.specs.Internal.Opens.{stream_of}
 use Rattle.ffv1_files.specs.Noted.{no_notes}
 use Rattle.ffv1_unpack.specs.Show.{IsShowFault, ShowDone, ShowStops}
-use Rattle.ffv1_unpack.specs.StreamLines.{show_text}
-use Rattle.ffv1_unpack.specs.Internal.Told.{IsToldFault, WritesFrame}
+use Rattle.ffv1_unpack.specs.Internal.Show.{lines_of}
+use Rattle.ffv1_unpack.specs.Internal.Told.{IsToldFault}
 use Rattle.ffv1_unpack.proofs.FileRead.{reads_file}
 use Rattle.ffv1_unpack.proofs.FileShown.{before_costs, costs_stop, lacks_stream, no_decoder, shows}
 use Rattle.ffv1_unpack.proofs.FileShown.{shows_costs, text_stops, told_some}
@@ -21,16 +16,6 @@ use Rattle.ffv1_unpack.proofs.OwnFaults.{line_shows, opened_shows, told_shows}
 use Rattle.ffv1_video.specs.Profiles.{scope_in}
 use Rattle.ffv1_unpack.proofs.ReadAgain.{line_again, told_again}
 use Rattle.ffv1_unpack.proofs.showing.show.Goals as goal
-
--- the lines that were written are those of the reader's head and container
-lines_told : (a : Accepted) (p : Passage) (r : Result (Unit {0}) Fault) {h k : Head}
-    {d e : Container} → h ≡ k → d ≡ e → WritesFrame
-    (show_text d (record { head = h; accepted = a })) p r →
-    WritesFrame (show_text e (record { head = k; accepted = a })) p r
-lines_told a p r {h = h} {e = e} head same writes =
-    subst (λ (j : Head). WritesFrame (show_text e (record { head = j; accepted = a })) p r) head
-    (subst (λ (g : Container). WritesFrame (show_text g (record { head = h; accepted = a })) p
-    r) same writes)
 
 pub returns-in_err-reader-clause-err : goal.returns-in_err-reader-clause-err
 returns-in_err-reader-clause-err g c =
@@ -55,10 +40,10 @@ returns-in_err-write_stream-clause-err g c =
     let f = c.in_err-write_stream.field-0.0 in
     let r = c.in_ok-reader.reader in
     let a = c.in_ok-reader.checked in
-    let writes = lines_told a output (Err f) c.head.ensures.value c.container.ensures
-    c.in_err-write_stream.ensures in
+    let streams = c.in_ok-reader.ensures.located.noted.streams in
     rw (p.1, p.2) (before_costs c.args.profile input output c.args.cost f
-    (text_stops _ _ _ _ _ _ _ _ _ r a c.in_ok-reader.ensures.ok f writes))
+    (text_stops _ _ _ _ _ _ _ _ _ r a c.in_ok-reader.ensures.ok streams f
+    c.in_err-write_stream.ensures))
 
 pub returns-in_err-notes-clause-err : goal.returns-in_err-notes-clause-err
 returns-in_err-notes-clause-err g c =
@@ -73,18 +58,18 @@ returns-in_err-notes-clause-err g c =
     let f = c.in_err-notes.field-0.0 in
     let r = c.in_ok-reader.reader in
     let a = c.in_ok-reader.checked in
-    let writes = lines_told a between (Ok c.in_ok-write_stream.field-0) c.head.ensures.value
-    c.container.ensures c.in_ok-write_stream.ensures in
+    let streams = c.in_ok-reader.ensures.located.noted.streams in
+    let writes = c.in_ok-write_stream.ensures in
     let some : f ≡ fault.NoFrames → ⊥ = λ e. told_some r
     (g.R.ByteIn.remaining c.open_stream.new.input)
     (subst (IsToldFault r (g.R.ByteIn.remaining c.open_stream.new.input)) e
     c.in_err-notes.ensures.own) in
     rw (p.1, p.2) (subst (λ b. ShowStops c.args.profile input output b f) (sym c.if-cost.true)
     (inr (elim c.in_err-notes.ensures.err [
-      | inl none ↦ no_decoder _ _ _ _ _ _ _ _ _ _ _ _ _ r a c.in_ok-reader.ensures.ok writes.0
-          writes.1 f none
-      | inr stops ↦ costs_stop _ _ _ _ _ _ _ _ _ _ _ _ _ r a c.in_ok-reader.ensures.ok writes.0
-          writes.1 f some stops
+      | inl none ↦ no_decoder _ _ _ _ _ _ _ _ _ _ _ _ _ r a c.in_ok-reader.ensures.ok streams
+          writes.0 writes.1 f none
+      | inr stops ↦ costs_stop _ _ _ _ _ _ _ _ _ _ _ _ _ r a c.in_ok-reader.ensures.ok streams
+          writes.0 writes.1 f some stops
     ])))
 
 pub returns-then-cost-clause-ok : goal.returns-then-cost-clause-ok
@@ -97,16 +82,16 @@ returns-then-cost-clause-ok g c =
     c.tell_costs.new.output in
     let r = c.in_ok-reader.reader in
     let a = c.in_ok-reader.checked in
+    let streams = c.in_ok-reader.ensures.located.noted.streams in
     let opens = c.in_ok-reader.ensures.ok in
     let told = c.in_ok-notes.ensures.ok in
-    let writes = lines_told a between (Ok c.in_ok-write_stream.field-0) c.head.ensures.value
-    c.container.ensures c.in_ok-write_stream.ensures in
+    let writes = c.in_ok-write_stream.ensures in
     let reads = reads_file c.frames_come_in_turn.ensures c.what_is_read_is_a_file.ensures.first
     c.what_is_read_is_a_file.ensures.whole c.args.profile c.in_ok-notes.notes _ _ _
     (stream_of r a) r.place told.0
     opens.known told.1.plays.goes.has in
     subst (λ b. ShowDone c.args.profile input output b c.in_ok-notes.notes) (sym c.if-cost.true)
-    (shows_costs _ _ _ _ _ _ _ _ _ _ _ _ _ r a opens writes.0 writes.1 c.in_ok-notes.notes
+    (shows_costs _ _ _ _ _ _ _ _ _ _ _ _ _ r a opens streams writes.0 writes.1 c.in_ok-notes.notes
     told.0 told.1 reads (c.in_ok-notes.ensures.noted (scope_in c.args.profile)
     (g.R.ByteIn.remaining c.args.input.now) c.in_ok-reader.ensures.located))
 
@@ -116,11 +101,7 @@ returns-in_err-write_stream-clause-own g c =
     c.from_residual-in_err-write_stream.ensures.1 in
     let output = passage g.W.ByteOut.contents g.W.ByteOut.failures c.args.output.now
     c.write_stream.new.output in
-    let text = show_text c.container.result (record {
-      head = head_of c.head.result.now;
-      accepted =
-          c.in_ok-reader.checked;
-    }) in
+    let text = lines_of c.in_ok-reader.reader c.in_ok-reader.checked in
     rw (p.1, p.2) (inl (line_shows c.args.cost text output c.in_err-write_stream.field-0.0
     c.in_err-write_stream.ensures))
 
@@ -142,10 +123,13 @@ returns-clause-ok g c =
     c.write_stream.new.output in
     let r = c.in_ok-reader.reader in
     let a = c.in_ok-reader.checked in
-    let writes = lines_told a output (Ok c.in_ok-write_stream.field-0) c.head.ensures.value
-    c.container.ensures c.in_ok-write_stream.ensures in
-    subst (λ b. ShowDone c.args.profile input output b no_notes) (sym c.if-cost.false)
-    (shows c.args.profile _ _ _ _ _ _ _ _ r a c.in_ok-reader.ensures.ok writes.0 writes.1, refl)
+    let streams = c.in_ok-reader.ensures.located.noted.streams in
+    let writes = c.in_ok-write_stream.ensures in
+    subst (λ b. ShowDone c.args.profile input output b no_notes) (sym c.if-cost.false) (
+      shows c.args.profile _ _ _ _ _ _ _ _ r a c.in_ok-reader.ensures.ok streams writes.0
+          writes.1,
+      refl,
+    )
 
 pub returns-in_err-reader-clause-own : goal.returns-in_err-reader-clause-own
 returns-in_err-reader-clause-own g c =
