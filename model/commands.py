@@ -99,12 +99,14 @@ OF_FILE = {50, 51, 52, 53, 54, 56, 80, 81, 82, 83, 84, 85, 88}  # a file's own f
 def check(source, out, place, every, choice=ALL):
     """The lines of a check; own: where places are asked for, a fault of the file itself has a line
     more, with the frame that would come next, and the bytes before the element or chunk at fault,
-    whether or not it can be written. Only all frames of a damaged file of Matroska are read on."""
+    whether or not it can be written. Only all frames of a damaged file of Matroska are read on, and
+    what is damaged before them is told."""
     judged, begun = [], lambda: 0
     try:
         data, is_matroska = input_of(source)
         begun = lambda: data.begun
-        config, frames = opened_in(data, is_matroska, every and is_all(choice))[1:3]
+        damaged = every and is_all(choice)
+        config, frames = opened_in(data, is_matroska, damaged, damaged)[1:3]
         first = check_frames(config, ranged(frames, choice, judged), out, place, every)
         if first:
             first.notes = source.notes

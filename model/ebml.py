@@ -183,16 +183,25 @@ def find_text(content, wanted):
 
 # --------------------------------------------------------------------------- the EBML header (11.2)
 
-def open_ebml(source):
-    """The header of a file. Own: one of Matroska that is read, each of its fields judged before the
-    next is looked for."""
+def header_content(source):
+    """The content of the header of a file."""
     if source.exactly(4, 52) != EBML.to_bytes(4, "big"):
         raise Fault(80)
-    content = source.exactly(limited(get_size(source, 8)[0]), 52)
+    return source.exactly(limited(get_size(source, 8)[0]), 52)
+
+
+def judge_header(content):
+    """What the header says. Own: one of Matroska that is read, each of its fields judged before the
+    next is looked for."""
     judge(content)
     if find_text(content, DOC_TYPE) != b"matroska" or find_number(content, READ_VERSION, 1) > 1 \
             or find_number(content, DOC_TYPE_READ_VERSION, 1) > 4:
         raise Fault(80)
+
+
+def open_ebml(source):
+    """The header of a file."""
+    judge_header(header_content(source))
 
 
 def limited(size):

@@ -2,6 +2,7 @@
 """Files of AVI and Matroska, opened by their first byte."""
 import avi_format
 import damaged_files
+import damaged_openings
 import ebml
 import ffv1
 import files
@@ -55,8 +56,19 @@ def opened(source):
     return opened_in(*input_of(source))
 
 
-def opened_in(data, is_matroska, damaged=False):
-    """The same of bytes; where they may be damaged, what is told stands among the frames."""
+def opened_in(data, is_matroska, damaged=False, again=False):
+    """The same of bytes; where they may be damaged, what is told stands among the frames. One of
+    Matroska that is refused before its frames may be read again."""
+    try:
+        return opened_once(data, is_matroska, damaged)
+    except ffv1.Fault as fault:
+        if not again or not is_matroska:
+            raise
+        return damaged_openings.open_again(data, fault)
+
+
+def opened_once(data, is_matroska, damaged):
+    """The same, read plainly up to the frames."""
     if is_matroska:
         read = damaged_files.items if damaged else matroska.Segment.frames
         head, size, frames = matroska.open_again(data, read)

@@ -4,7 +4,8 @@ are told, each with the bytes before its element. Counted by hand from the forma
 the first Cluster begins at 131, the second at 157, its Timestamp at 169 and its block at 172.
 """
 from known_answers.case import Case, Step
-from known_answers.matroska import C, H, T, block, cluster, element, size, spell, summed, whole
+from known_answers.matroska import C, H, T, block, cluster, element, segment, size, spell, summed
+from known_answers.matroska import whole
 from known_answers.riffs import lines
 
 FRAME = None
@@ -103,4 +104,54 @@ def damaged():
                  fault)], {"in": file})
 
 
-CASES = [damaged]
+# ------------------------------------------------------------------------- before the first frame
+
+INFO = element("1549A966", summed("2AD7B1 83 0F4240", crc=1))      # 18 bytes
+NONE = element("4DBB", "00")                                       # an element that no Segment has
+TRACKS = element("1654AE6B", summed(T[12:], crc=1), length=8)      # 85 bytes
+HEADER = element("1A45DFA3", summed(H[5:], crc=1))                 # 46 bytes
+
+OPENED = [
+    ("Info", H + segment(INFO, T, C), [(52, SUM), FRAME]),
+    ("Tracks", H + segment(TRACKS, C), [(52, SUM), FRAME]),
+    ("the header of EBML", HEADER + segment(T, C), [(0, SUM), FRAME]),
+    ("an element that no Segment has", H + segment(NONE, T, C), [(52, BAD), FRAME]),
+    ("all of these", HEADER + segment(INFO, NONE, TRACKS, C),
+     [(0, SUM), (58, SUM), (76, BAD), (80, SUM), FRAME]),
+    ("and a Cluster", H + segment(INFO, T, cluster(summed("E78100", block(), crc=1)), C),
+     [(52, SUM), FRAME, (170, SUM), FRAME]),
+    ("sixteen", H + segment(*[NONE] * 16, T, C), [*[(52 + 4 * k, BAD) for k in range(16)], FRAME]),
+]
+REFUSED = [
+    ("seventeen", H + segment(*[NONE] * 17, T, C), BAD),
+    ("Tracks behind the Cluster", H + segment(INFO, C, T), SUM),
+    ("no Tracks", H + segment(INFO, C), SUM),
+    ("another DocType", HEADER.replace(b"matroska", b"matroskb") + segment(T, C), SUM),
+    ("an element of unknown size", H + segment(INFO, "1254C367FF", T, C), SUM),
+]
+
+
+def before_the_first_frame():
+    """Each file of which the faults there are told, by `check --all`, and each that is refused all the
+    same: then the fault is the one that it has plainly."""
+    for name, file, items in OPENED:
+        text, frames = told(items)
+        faults = [item for item in items if item is not FRAME]
+        byte, fault = faults[0]
+        ends = f"frames {frames} faults {len(faults)}\n"
+        yield Case(f"damaged before the first frame: {name}", {"in": file}, [
+            Step(["check", "in"], "", fault), Step(["unpack", "in", "out"], "", fault),
+            Step(["check", "--all", "in"], text + ends, fault),
+            Step(["check", "--all", "--place", "in"], text + ends, fault),
+            Step(["check", "--all", "--quiet", "in"],
+                 f"in: {len(faults)} faults in {frames} frames, the first {fault} at byte {byte}\n",
+                 fault)], {"in": file})
+    for name, file, fault in REFUSED:
+        byte = 0 if file.startswith(HEADER[:13]) else 52
+        yield Case(f"refused before the first frame: {name}", {"in": file}, [
+            Step(["check", "in"], "", fault), Step(["check", "--all", "in"], "", fault),
+            Step(["check", "--all", "--place", "in"], f"fault frame 0 byte {byte}\n", fault)],
+            {"in": file})
+
+
+CASES = [damaged, before_the_first_frame]

@@ -14,4 +14,5 @@ mod NotedLaws
 mod NotedOnce
 mod NotedSegments
 pub mod AgainOpenings
+mod SalvagedOpenings
 mod WrittenNotes

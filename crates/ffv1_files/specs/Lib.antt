@@ -9,3 +9,4 @@ pub mod Whole
 pub mod Offsets
 pub mod Items
 pub mod Again
+pub mod Salvaged

@@ -21,8 +21,9 @@ pub mod laws;
 mod notes;
 mod opening;
 mod reader;
+mod salvaging;
 
 pub use container::{Container, Scope};
-pub use ffv1_matroska::{Course, Item};
+pub use ffv1_matroska::{Course, Item, ToldFault, ToldFaults};
 pub use notes::Notes;
 pub use reader::FileReader;

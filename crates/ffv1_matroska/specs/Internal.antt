@@ -6,7 +6,9 @@ use Rattle.ffv1_reads.specs.declared.fault.FileFault.{FileFault}
 use Rattle.ffv1_matroska.specs.Rates.{Rate}
 use Rattle.ffv1_matroska.specs.Opened.{Opened}
 use Rattle.ffv1_matroska.specs.Tracks.{Track}
+use Rattle.ffv1_matroska.specs.Salvaged.{Begun, Salvaged}
 use Rattle.ffv1_matroska.specs.declared.place.Place.{Place}
+use Rattle.ffv1_matroska.specs.declared.told.ToldFault.{ToldFault}
 use Rattle.ffv1_matroska.specs.declared.track.Numbers.{Numbers}
 use Rattle.ffv1_matroska.specs.declared.track.Track.{Track as LentTrack}
 
@@ -68,3 +70,22 @@ found_kept (Some n) bytes = Some (track_kept n bytes)
 -- a file whose frames begin at a position
 abbrev pub opened_kept : Option ℕ × Numbers × Place → List ℕ → Opened
 opened_kept p bytes = record { track = track_kept p.1 bytes; segment = p.0; place = p.2 }
+
+-- a vector after a call that answers so
+abbrev pub items_after : {X : Type 0} → Result (Unit {0}) FileFault → List X →
+    Result (List X) FileFault
+items_after (Ok u) items = Ok items
+items_after (Err f) items = Err f
+
+-- where frames begin whose track's record is kept
+abbrev pub begun_kept : Numbers × Place → List ℕ → Place → List ToldFault → Begun
+begun_kept p bytes here faults = record {
+  track = track_kept p.0 bytes;
+  place = p.1;
+  here = here;
+  told = faults;
+}
+
+-- a file that is read so
+abbrev pub salvaged_kept : Opened → ℕ → List ToldFault → Salvaged
+salvaged_kept o begun faults = record { opened = o; begun = begun; told = faults }

@@ -13,6 +13,7 @@ pub mod Readers
 pub mod Internal
 pub mod Offsets
 pub mod Again
+pub mod Salvaged
 pub mod Scales
 pub mod Carried
 pub mod Cues

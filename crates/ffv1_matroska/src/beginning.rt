@@ -67,7 +67,7 @@ fn fill_with_room<R: ByteIn, A: Allocator>(
 /// `BadElement` if the size is unknown. `ChunkTooLong` if it is above 67108864 bytes, of which no
 /// byte is read. `Truncated` if the input ends before that, `Read`, `OutOfMemory`.
 #[tactic(auto, unfolding(crate::specs::Opening::content_kept))]
-fn keep_tracks<R: ByteIn, A: Allocator>(
+pub(crate) fn keep_tracks<R: ByteIn, A: Allocator>(
     input: &mut R,
     size: Option<u64>,
     content: &mut Vec<u8, A>,
@@ -194,7 +194,7 @@ fn visit<R: ByteIn, A: Allocator>(
 }
 
 /// The place after the header of a Cluster, in that.
-fn in_cluster(place: Place, size: Option<u64>) -> Place
+pub(crate) fn in_cluster(place: Place, size: Option<u64>) -> Place
     ensures { result ≡ in_cluster place size }
 {
     match size {

@@ -27,7 +27,7 @@ use std::alloc::Allocator;
 /// The most bytes of the header of EBML and of Tracks.
 pub(crate) const LIMIT: u64 = ffv1_reads::LIMIT as u64;
 
-const EBML: u32 = 0x1A45_DFA3;
+pub(crate) const EBML: u32 = 0x1A45_DFA3;
 
 const SEGMENT: u32 = 0x1853_8067;
 
@@ -72,7 +72,7 @@ fn size_with(len: u64, value: u64) -> Option<u64>
 /// is above those that are read: 1 of EBML and 4 of Matroska. `Truncated` and `BadElement` if an
 /// element that is looked at can't be read.
 #[tactic(auto, unfolding(crate::specs::Opening::header_in))]
-fn judge_header(content: &[u8]) -> Result<(), FileFault>
+pub(crate) fn judge_header(content: &[u8]) -> Result<(), FileFault>
     ensures { result ≡ header_in content.now }
 {
     judge(content)?;
@@ -94,7 +94,11 @@ fn judge_header(content: &[u8]) -> Result<(), FileFault>
 /// Four bytes that are this ID, of which the first may have been read. `NotMatroska` if they are
 /// not.
 #[tactic(auto, unfolding(crate::specs::Opening::ident_read))]
-fn read_ident<R: ByteIn>(first: Option<u8>, input: &mut R, ident: u32) -> Result<(), FileFault>
+pub(crate) fn read_ident<R: ByteIn>(
+    first: Option<u8>,
+    input: &mut R,
+    ident: u32,
+) -> Result<(), FileFault>
     ensures { Answers (λ (_ : Unit {0}). tt) (ident_read ident)
         (passage_with first R.remaining R.failures input.old input.new) result }
 {
@@ -109,7 +113,10 @@ fn read_ident<R: ByteIn>(first: Option<u8>, input: &mut R, ident: u32) -> Result
 /// A size, or None if it is unknown, whose bytes are counted. `BadElement` if it has more
 /// than 8 bytes.
 #[tactic(auto, unfolding(crate::specs::Opening::top_size))]
-fn read_top_size<R: ByteIn>(input: &mut R, offset: &mut u64) -> Result<Option<u64>, FileFault>
+pub(crate) fn read_top_size<R: ByteIn>(
+    input: &mut R,
+    offset: &mut u64,
+) -> Result<Option<u64>, FileFault>
     ensures answer { Answers (λ (s : Option ℕ). s) top_size
         (passage R.remaining R.failures input.old input.new) result }
     ensures counted { IfOk result (λ s. ReadsOn top_size (R.remaining input.old)
@@ -126,7 +133,7 @@ fn read_top_size<R: ByteIn>(input: &mut R, offset: &mut u64) -> Result<Option<u6
 /// `BadElement` if its size is unknown, `ChunkTooLong` if it is above 67108864 bytes, of
 /// which no byte is read; then as `fill`.
 #[tactic(auto, unfolding(crate::specs::Opening::content_kept))]
-fn keep_content<R: ByteIn, A: Allocator>(
+pub(crate) fn keep_content<R: ByteIn, A: Allocator>(
     input: &mut R,
     size: Option<u64>,
     content: &mut Vec<u8, A>,

@@ -13,6 +13,7 @@ ghost use Rattle.ffv1_reads.specs.declared.fault.FileFault.{FileFault};
 ghost use Rattle.ffv1_reads.specs.declared.fault.FileFault.TheVariants as fault;
 ghost use Rattle.ffv1_matroska.specs.Again.{AnswersAgain, RoomTwice, TwiceOpened};
 ghost use Rattle.ffv1_matroska.specs.Files.{frame_read};
+ghost use Rattle.ffv1_matroska.specs.Internal.{opened_kept};
 ghost use Rattle.ffv1_matroska.specs.Items.{ItemAnswers, course_at, item_read};
 ghost use Rattle.ffv1_matroska.specs.declared.items.Item.TheVariants as item;
 ghost use Rattle.ffv1_matroska.specs.Opened.{open_read};
@@ -34,7 +35,7 @@ use crate::items::{Item, read_item};
 use crate::late::read_twice;
 use crate::place::{Place, ended, passed};
 use crate::times::{Seen, Times, times_begun};
-use crate::track::TrackNumbers;
+use crate::track::{Numbers, TrackNumbers};
 use ffv1_reads::{FileFault, FileHead, look_behind};
 use ffv1_wire::{AgainIn, ByteIn};
 use std::alloc::{Allocator, Global};
@@ -138,24 +139,8 @@ impl<A: Allocator + Copy> MatroskaReader<A> {
             offset,
             &mut tick,
         )?;
-        Ok(MatroskaReader {
-            head: FileHead {
-                width: numbers.width,
-                height: numbers.height,
-                rate: numbers.rate,
-                scale: numbers.scale,
-                colour: numbers.colour,
-                config_record,
-            },
-            track: numbers.numbers,
-            segment,
-            place,
-            fault: None,
-            offset: *offset,
-            end: offset.saturating_add(passed(place, ended())),
-            cued: false,
-            times: times_begun(tick),
-        })
+        let times = times_begun(tick);
+        Ok(MatroskaReader::before_frames(segment, numbers, place, config_record, *offset, times))
     }
 }
 
@@ -200,7 +185,32 @@ impl<A: Allocator + Copy> MatroskaReader<A> {
             offset,
             &mut tick,
         )?;
-        Ok(MatroskaReader {
+        let times = times_begun(tick);
+        Ok(MatroskaReader::before_frames(segment, numbers, place, config_record, *offset, times))
+    }
+}
+
+impl<A: Allocator> MatroskaReader<A> {
+    /// A reader before the frames of a track with this record, where so many bytes of the file come
+    /// before, with what is known there of when frames come.
+    pub(crate) fn before_frames(
+        segment: Option<u64>,
+        numbers: Numbers,
+        place: Place,
+        config_record: Vec<u8, A>,
+        offset: u64,
+        times: Times,
+    ) -> MatroskaReader<A>
+        ensures opened { opened_at result
+            ≡ opened_kept (segment, numbers, place) config_record.items }
+        ensures sound { result.fault ≡ None }
+        ensures room { result.room ≡ vec_capacity config_record }
+        ensures offset { result.offset ≡ offset }
+        ensures end { EndsThere result }
+        ensures uncued { result.cued ≡ false }
+        ensures times { result.times ≡ times }
+    {
+        MatroskaReader {
             head: FileHead {
                 width: numbers.width,
                 height: numbers.height,
@@ -213,15 +223,13 @@ impl<A: Allocator + Copy> MatroskaReader<A> {
             segment,
             place,
             fault: None,
-            offset: *offset,
+            offset,
             end: offset.saturating_add(passed(place, ended())),
             cued: false,
-            times: times_begun(tick),
-        })
+            times,
+        }
     }
-}
 
-impl<A: Allocator> MatroskaReader<A> {
     /// The head of the file.
     pub fn head(&self) -> &FileHead<A>
         ensures value { head_of result.now ≡ self.now.track.head }

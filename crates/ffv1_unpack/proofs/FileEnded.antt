@@ -1,13 +1,9 @@
 -- What stands behind the items of a file is told.
-use Rattle.std.proofs.Common.{◌≡◌, refl, ℕ, Bool, true, false, Option, Some, None, Ok, List, [], ◌∷◌, ◌++◌, length, map, inl, inr, ap, sym, subst, ◌∙◌, append-nil}
+use Rattle.std.proofs.Common.{◌≡◌, ℕ, Bool, true, false, Option, Some, None, Ok, List, length, map, inl, inr, sym, subst, ◌∙◌}
 use Rattle.std.proofs.lemmas.List.{length-map}
-use Rattle.std.specs.Io.KnownBytes.{Appends}
-use Rattle.std.proofs.KnownBytes.{Appends-trans, Appends-kept}
-use Rattle.ffv1_wire.specs.Failures.{one_more}
 use Rattle.ffv1_wire.specs.Passage.{between}
 use Rattle.ffv1_record.specs.Accepted.{Accepted}
 use Rattle.ffv1_reads.specs.Known.{Known}
-use Rattle.ffv1_reads.specs.declared.fault.FileFault.TheVariants as file_fault
 use Rattle.ffv1_matroska.specs.CuedItems.{CuedBy}
 use Rattle.ffv1_matroska.specs.Items.{Given}
 use Rattle.ffv1_files.specs.Behind.{ends_there, items_noted, notes_read}
@@ -19,25 +15,22 @@ use Rattle.ffv1_files.specs.Readers.{Standing}
 use Rattle.ffv1_files.specs.declared.notes.Notes.{Notes}
 use Rattle.ffv1_video.specs.declared.profile.Profile.{Profile}
 use Rattle.ffv1_video.specs.declared.fault.Fault.{Fault}
-use Rattle.ffv1_video.specs.Faults.{Cause, cause_of}
-use Rattle.ffv1_video.specs.Faults.Cause.{Reading, Writing, Memory, Content}
+use Rattle.ffv1_video.specs.Faults.{cause_of}
 use Rattle.ffv1_video.specs.Profiles.{scope_in}
-use Rattle.ffv1_video.proofs.KnownTexts.{known_map}
-use Rattle.ffv1_unpack.specs.AllItems.{EndFailsBy, ItemsCame, ItemsEnded, ItemsFault}
+use Rattle.ffv1_unpack.specs.AllItems.{ItemsCame, ItemsEnded, ItemsFault}
+use Rattle.ffv1_unpack.proofs.ItemsEnding.{ToldBehind, end_fails_by, ended, told_behind}
 use Rattle.ffv1_unpack.specs.Behind.{Looks}
-use Rattle.ffv1_unpack.specs.ItemsEnd.{BeginsAnother, EndTold, ItemsEnd, cued_left, ends_at}
-use Rattle.ffv1_unpack.specs.JudgedItems.{ItemsAll, ItemsFrom, ItemsOver, JudgedItem, ToldAt, given_as, item_lines, told_line}
+use Rattle.ffv1_unpack.specs.ItemsEnd.{ItemsEnd, cued_left, ends_at}
+use Rattle.ffv1_unpack.specs.JudgedItems.{ItemsAll, ItemsFrom, ItemsOver, ItemsThen, JudgedItem, given_as, item_lines}
 use Rattle.ffv1_unpack.specs.Located.{Stands}
-use Rattle.ffv1_unpack.specs.Plays.{BehindReadFails}
 use Rattle.ffv1_unpack.specs.declared.judging.JudgedCounts.{JudgedCounts}
 use Rattle.ffv1_unpack.specs.Internal.Containers.{is_segment}
 use Rattle.ffv1_unpack.specs.Internal.ItemsEnd.{BehindAnswers, BehindFailsBy}
 use Rattle.ffv1_unpack.specs.Internal.JudgedItems.{AreItemCounts}
 use Rattle.ffv1_unpack.specs.Internal.Opens.{OpensStream, stream_of}
-use Rattle.ffv1_unpack.proofs.ItemsJudged.{counts_more, lines_more, up_to}
 
 -- where the Segment ends
-end_at : (place : Place) (offset end : ℕ) → is_segment (container_of place) ≡ true → ends_there place offset end → end ≡ ends_at place offset
+pub end_at : (place : Place) (offset end : ℕ) → is_segment (container_of place) ≡ true → ends_there place offset end → end ≡ ends_at place offset
 end_at (InAvi p) offset end segment there = absurd (let no : false ≡ true = segment in cc)
 end_at (InMatroska size track p) offset end segment there = there
 
@@ -62,7 +55,7 @@ module _ (profile : Profile) (i0 i1 i2 i3 : Option (List ℕ)) (ib im ia ic : �
     abbrev lines : List JudgedItem → List ℕ
     lines ys = item_lines place a.configuration ys
 
-    came : (o : Option (List ℕ)) (n : ℕ) (Looked : ℕ → Looks) → Known i2 i3 (λ text rest. Looked r.end (items_noted r cued) text rest) → ItemsCame profile place (between i0 i3 ib ic) (between o0 o ob n) (stream_of r a) xs Looked
+    pub came : (o : Option (List ℕ)) (n : ℕ) (Looked : ℕ → Looks) → Known i2 i3 (λ text rest. Looked r.end (items_noted r cued) text rest) → ItemsCame profile place (between i0 i3 ib ic) (between o0 o ob n) (stream_of r a) xs Looked
     came o n Looked looked = record {
       is = opens.stream;
       are = all.go.are;
@@ -71,63 +64,12 @@ module _ (profile : Profile) (i0 i1 i2 i3 : Option (List ℕ)) (ib im ia ic : �
     }
 
     -- what was told
-    pub record ToldBehind (new : JudgedCounts) (notes : Notes) : Type 0 where
-      pub behind : List JudgedItem
-      pub looked : Known i2 i3 (λ text rest. EndTold behind notes r.end (items_noted r cued) text rest)
-      pub kept : ic ≡ ia
-      pub counted : AreItemCounts new (xs ++ behind)
-      pub written : oa ≡ om
-      pub writes : Appends o0 o2 (lines (xs ++ behind))
+    pub behind_told : (new : JudgedCounts) (notes : Notes) → BehindAnswers r cued (between i2 i3 ia ic) (between o1 o2 om oa) counts new (Ok notes) → ToldBehind (ItemsThen profile) (ItemsEnd profile) profile place i0 i2 i3 ib ia ic r a cued o0 o1 o2 ob om oa xs counts were came all.wrote.writes all.wrote.written (all.kept ∙ opens.kept) new notes
+    behind_told new notes h = told_behind (ItemsThen profile) (ItemsEnd profile) profile place i0 i2 i3 ib ia ic r a cued o0 o1 o2 ob om oa xs counts were came all.wrote.writes all.wrote.written (all.kept ∙ opens.kept) new notes h
 
-    pub behind_told : (new : JudgedCounts) (notes : Notes) → BehindAnswers r cued (between i2 i3 ia ic) (between o1 o2 om oa) counts new (Ok notes) → ToldBehind new notes
-    behind_told new notes (inl (read, none, same)) = record {
-      behind = [];
-      looked = known_map i2 i3 _ (λ text rest. EndTold [] notes r.end (items_noted r cued) text rest) (λ text rest is. inl (refl, is)) read.1;
-      kept = read.0;
-      counted = rw same (subst (AreItemCounts counts) (sym (append-nil xs)) were);
-      written = none.same;
-      writes = subst (λ ys. Appends o0 o2 (lines ys)) (sym (append-nil xs)) (Appends-kept o0 o1 o2 (lines xs) all.wrote.writes none.kept);
-    }
-    behind_told new notes (inr (another, none, same, writes, is)) = record {
-      behind = ToldAt file_fault.Another r.end ∷ [];
-      looked = known_map i2 i3 _ (λ text rest. EndTold (ToldAt file_fault.Another r.end ∷ []) notes r.end (items_noted r cued) text rest) (λ text rest is. inr (refl, none, is)) another.is;
-      kept = another.kept;
-      counted = rw is (counts_more counts xs (ToldAt file_fault.Another r.end) were);
-      written = same;
-      writes = subst (Appends o0 o2) (sym (lines_more place a.configuration xs counts.frames were.frames (ToldAt file_fault.Another r.end)))
-          (Appends-trans o0 o1 o2 (lines xs) (told_line r.end file_fault.Another) all.wrote.writes writes);
-    }
-
-    pub all_ended : (new : JudgedCounts) (notes : Notes) (told : ToldBehind new notes) (o : Option (List ℕ)) (n : ℕ) → ItemsEnded profile place (between i0 i3 ib ic) (between o0 o ob n) (stream_of r a) xs told.behind notes
-    all_ended new notes told o n = record { came = came o n (EndTold told.behind notes) told.looked; kept = told.kept ∙ all.kept ∙ opens.kept }
+    pub all_ended : (new : JudgedCounts) (notes : Notes) (told : ToldBehind (ItemsThen profile) (ItemsEnd profile) profile place i0 i2 i3 ib ia ic r a cued o0 o1 o2 ob om oa xs counts were came all.wrote.writes all.wrote.written (all.kept ∙ opens.kept) new notes) (o : Option (List ℕ)) (n : ℕ) → ItemsEnded profile place (between i0 i3 ib ic) (between o0 o ob n) (stream_of r a) xs told.behind notes
+    all_ended new notes told o n = ended (ItemsThen profile) (ItemsEnd profile) profile place i0 i2 i3 ib ia ic r a cued o0 o1 o2 ob om oa xs counts were came all.wrote.writes all.wrote.written (all.kept ∙ opens.kept) new notes told o n
 
     -- what stands there was not told
-    fails_by : (why : Cause) → BehindFailsBy r cued (between i2 i3 ia ic) (between o1 o2 om oa) why → EndFailsBy profile place (between i0 i3 ib ic) (between o0 o2 ob oa) why
-    fails_by Writing (another, failed, (k, short, writes)) = (
-      stream_of r a,
-      xs,
-      r.end,
-      came o2 oa (λ at reading text rest. (at ≡ r.end) × BeginsAnother reading text rest) (known_map i2 i3 _ (λ text rest. (r.end ≡ r.end) × BeginsAnother (items_noted r cued) text rest) (λ text rest is. (refl, is)) another.is),
-      another.kept ∙ all.kept ∙ opens.kept,
-      failed ∙ ap one_more all.wrote.written,
-      up_to o0 o1 o2 (length (lines xs)) (lines xs) (told_line r.end file_fault.Another) (lines (xs ++ (ToldAt file_fault.Another r.end ∷ []))) refl
-          (lines_more place a.configuration xs counts.frames were.frames (ToldAt file_fault.Another r.end)) all.wrote.writes k short writes,
-    )
-    fails_by Reading (none, failed, wants) = (
-      stream_of r a,
-      xs,
-      came o2 oa (λ at. BehindReadFails) wants,
-      failed ∙ ap one_more (all.kept ∙ opens.kept),
-      record { written = none.same ∙ all.wrote.written; writes = Appends-kept o0 o1 o2 (lines xs) all.wrote.writes none.kept },
-    )
-    fails_by Memory (none, another) = (
-      stream_of r a,
-      xs,
-      came o2 oa (λ at. BeginsAnother) another.is,
-      another.kept ∙ all.kept ∙ opens.kept,
-      record { written = none.same ∙ all.wrote.written; writes = Appends-kept o0 o1 o2 (lines xs) all.wrote.writes none.kept },
-    )
-    fails_by Content h = absurd h
-
     pub behind_fails : (f : Fault) → BehindFailsBy r cued (between i2 i3 ia ic) (between o1 o2 om oa) (cause_of f) → ItemsFault profile place (between i0 i3 ib ic) (between o0 o2 ob oa) f
-    behind_fails f h = inr (inr (inl (fails_by (cause_of f) h)))
+    behind_fails f h = inr (inr (inl (end_fails_by (ItemsThen profile) (ItemsEnd profile) profile place i0 i2 i3 ib ia ic r a cued o0 o1 o2 ob om oa xs counts were came all.wrote.writes all.wrote.written (all.kept ∙ opens.kept) (cause_of f) h)))

@@ -1,8 +1,6 @@
 -- All items of a file are judged.
-use Rattle.std.proofs.Common.{◌≡◌, refl, ℕ, Bool, Option, Some, None, Ok, Err, List, [], ◌∷◌, ◌++◌, length, inl, inr, ap, sym, subst, ◌∙◌, arith}
+use Rattle.std.proofs.Common.{◌≡◌, ℕ, Bool, Option, Some, None, Ok, Err, List, [], ◌++◌, inl, inr, ap, ◌∙◌}
 use Rattle.std.specs.Io.KnownBytes.{Appends}
-use Rattle.std.proofs.KnownBytes.{Appends-trans, Appends-kept}
-use Rattle.ffv1_range.specs.Counts.{saturated}
 use Rattle.ffv1_wire.specs.Failures.{one_more}
 use Rattle.ffv1_wire.specs.Passage.{Passage, between}
 use Rattle.ffv1_record.specs.Accepted.{Accepted}
@@ -22,27 +20,16 @@ use Rattle.ffv1_video.proofs.KnownTexts.{known_map, known_then}
 use Rattle.ffv1_files.specs.declared.notes.Notes.{Notes}
 use Rattle.ffv1_unpack.specs.declared.judging.JudgedCounts.{JudgedCounts}
 use Rattle.ffv1_unpack.specs.Judged.{counts_line}
-use Rattle.ffv1_unpack.specs.AllItems.{CountFailsBy, ItemsDone, ItemsEnded, ItemsFault}
-use Rattle.ffv1_unpack.specs.JudgedItems.{ItemsFrom, ItemsGo, ItemsLack, ItemsNext, ItemsStay, ItemsStopBy, ItemsThen, ItemsWant, ItemsWritten, JudgedItem, OfFrame, ToldAt, faults_of, frames_of, item_count, item_lines}
+use Rattle.ffv1_unpack.specs.AllItems.{ItemsDone, ItemsEnded, ItemsFault}
+use Rattle.ffv1_unpack.specs.ItemsEnd.{ItemsEnd}
+use Rattle.ffv1_unpack.proofs.ItemsEnding.{all_done, count_stops, none_judged}
+use Rattle.ffv1_unpack.specs.JudgedItems.{ItemsFrom, ItemsGo, ItemsLack, ItemsNext, ItemsStay, ItemsStopBy, ItemsThen, ItemsWant, ItemsWritten, JudgedItem, item_lines}
 use Rattle.ffv1_unpack.specs.Located.{LocatedFault, WritesLine, located_text}
 use Rattle.ffv1_unpack.specs.Opens.{LacksOpening}
 use Rattle.ffv1_unpack.specs.Internal.JudgedItems.{AreItemCounts}
 use Rattle.ffv1_unpack.specs.Internal.Opens.{OpensStream, stream_of}
 use Rattle.ffv1_unpack.specs.Internal.Told.{WritesFrame}
-use Rattle.ffv1_unpack.proofs.FaultsLocated.{none_appended}
-use Rattle.ffv1_unpack.proofs.FileRead.{no_items as nothing_in, positive}
 use Rattle.ffv1_unpack.specs.Stream.{Stream}
-use Rattle.ffv1_unpack.proofs.ItemsJudged.{up_to}
-
--- neither a frame nor a fault: no item
-none_came : (xs : List JudgedItem) → length (frames_of xs) ≡ 0 → length (faults_of xs) ≡ 0 → xs ≡ []
-none_came [] no_frame no_fault = refl
-none_came (OfFrame j ∷ xs) no_frame no_fault = absurd (omega (arith, no_frame))
-none_came (ToldAt f offset ∷ xs) no_frame no_fault = absurd (omega (arith, no_fault))
-
-pub none_each : (xs ys : List JudgedItem) → xs ++ ys ≡ [] → (xs ≡ []) × (ys ≡ [])
-none_each [] ys none = (refl, none)
-none_each (x ∷ xs) ys none = absurd (cc (none))
 
 module _ (profile : Profile) (i0 i1 i2 : Option (List ℕ)) (ib im ia : ℕ) (r : Standing) (a : Accepted) (opens : OpensStream profile r a (between i0 i1 ib im)) (reached : Reached (scope_in profile) i0 i1 r) where
   abbrev Begins : List ℕ → List ℕ → Type 0
@@ -83,82 +70,15 @@ module _ (profile : Profile) (i0 i1 i2 : Option (List ℕ)) (ib im ia : ℕ) (r 
 -- all came, and what stands behind them was told
 module _ (profile : Profile) (place : Bool) (input : Passage) (o0 o2 : Option (List ℕ)) (ob oa : ℕ) (s : Stream) (xs behind : List JudgedItem) (notes : Notes) (counts : JudgedCounts)
     (ended : (o : Option (List ℕ)) (n : ℕ) → ItemsEnded profile place input (between o0 o ob n) s xs behind notes) (counted : AreItemCounts counts (xs ++ behind)) (written : oa ≡ ob) (writes : Appends o0 o2 (item_lines place s.accepted.configuration (xs ++ behind))) where
-  abbrev all : List JudgedItem
-  all = xs ++ behind
-
-  abbrev lines : List ℕ
-  lines = item_lines place s.accepted.configuration all
-
-  nothing_came : counts.frames ≡ 0 → counts.faults ≡ 0 → all ≡ []
-  nothing_came no_frame no_fault =
-      let frames = counted.frames in
-      let faults = counted.faults in
-      none_came all (omega (arith, frames, no_frame)) (omega (arith, faults, no_fault))
-
   pub no_items : counts.frames ≡ 0 → counts.faults ≡ 0 → ItemsFault profile place input (between o0 o2 ob oa) fault.NoFrames
-  no_items no_frame no_fault =
-      let empty = nothing_came no_frame no_fault in
-      let neither = none_each xs behind empty in
-      inr (inr (inr (
-        refl,
-        s,
-        notes,
-        subst (λ z. ItemsEnded profile place input (between o0 o2 ob oa) s z [] notes) neither.0 (subst (λ z. ItemsEnded profile place input (between o0 o2 ob oa) s xs z notes) neither.1 (ended o2 oa)),
-        record { same = written; kept = none_appended o0 o2 (subst (λ z. Appends o0 o2 (item_lines place s.accepted.configuration z)) empty writes) },
-      )))
+  no_items no_frame no_fault = inr (none_judged (ItemsThen profile) (ItemsEnd profile) profile place input o0 o2 ob oa s xs behind notes counts ended counted written writes no_frame no_fault)
 
   module _ (o3 : Option (List ℕ)) (oc : ℕ) where
-    fails_by : (f : Fault) (why : Cause) → CountFailsBy profile place input (between o0 o3 ob oc) f why → cause_of f ≡ why → ItemsFault profile place input (between o0 o3 ob oc) f
-    fails_by f why h is = inr (inr (inr (subst (CountFailsBy profile place input (between o0 o3 ob oc) f) (sym is) h)))
-
-    counted_line : WritesFrame (counts_line counts.frames counts.faults) (between o2 o3 oa oc) (Ok tt) → Appends o2 o3 (item_count all)
-    counted_line h =
-        subst (λ n. Appends o2 o3 (counts_line (saturated (length (frames_of all))) n)) counted.faults
-        (subst (λ n. Appends o2 o3 (counts_line n counts.faults)) counted.frames h.1)
-
     pub count_fails : (f : Fault) → WritesFrame (counts_line counts.frames counts.faults) (between o2 o3 oa oc) (Err f) → ItemsFault profile place input (between o0 o3 ob oc) f
-    count_fails f h =
-        elim (subst (λ n. WritesFrame (counts_line (saturated (length (frames_of all))) n) (between o2 o3 oa oc) (Err f)) counted.faults
-        (subst (λ n. WritesFrame (counts_line n counts.faults) (between o2 o3 oa oc) (Err f)) counted.frames h)) [
-          | inl write ↦
-              fails_by f Writing (
-                s,
-                xs,
-                behind,
-                notes,
-                ended o3 oc,
-                write.1 ∙ ap one_more written,
-                up_to o0 o2 o3 (length lines) lines (item_count all) (lines ++ item_count all) refl refl writes write.2.0 write.2.1 write.2.2,
-              ) (ap cause_of write.0)
-          | inr none ↦
-              fails_by f Memory (
-                s,
-                xs,
-                behind,
-                notes,
-                ended o3 oc,
-                record { written = none.1 ∙ written; writes = Appends-kept o0 o2 o3 lines writes none.2 },
-              ) (ap cause_of none.0)
-        ]
+    count_fails f h = inr (count_stops (ItemsThen profile) (ItemsEnd profile) profile place input o0 o2 ob oa s xs behind notes counts ended counted written writes o3 oc f h)
 
     pub items_done : (counts.frames ≡ 0 → counts.faults ≡ 0 → ⊥) → oc ≡ oa → Appends o2 o3 (counts_line counts.frames counts.faults) → ItemsDone profile place input (between o0 o3 ob oc) counts.first notes
-    items_done some same line = record {
-      stream = s;
-      xs = xs;
-      behind = behind;
-      some = positive all (λ none. nothing none);
-      ended = ended o3 oc;
-      written = same ∙ written;
-      writes = Appends-trans o0 o2 o3 lines (item_count all) writes (counted_line (same, line));
-      told = counted.first;
-    }
-      where
-        nothing : length all ≡ 0 → ⊥
-        nothing none =
-            let empty : all ≡ [] = nothing_in all none in
-            let frames : counts.frames ≡ 0 = counted.frames ∙ ap (λ z. saturated (length (frames_of z))) empty in
-            let faults : counts.faults ≡ 0 = counted.faults ∙ ap (λ z. saturated (length (faults_of z))) empty in
-            some frames faults
+    items_done some same line = all_done (ItemsThen profile) (ItemsEnd profile) profile place input o0 o2 ob oa s xs behind notes counts ended counted written writes o3 oc some same line
 
 -- a file that is not opened
 module _ (profile : Profile) (place : Bool) (i0 i1 o0 o1 : Option (List ℕ)) (ib im ob om : ℕ) where

@@ -19,6 +19,10 @@ mod ItemsJudged
 mod ItemsCued
 mod FileEnded
 mod BehindTold
+mod ItemsEnding
+mod ToldFirst
+mod ToldAgain
+mod ToldChecks
 mod FileItems
 mod PicturesWritten
 mod FileUnpacked

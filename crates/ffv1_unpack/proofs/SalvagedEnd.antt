@@ -41,7 +41,7 @@ use Rattle.ffv1_unpack.specs.Salvaged.{salvage_faults, salvage_lines}
 use Rattle.ffv1_unpack.specs.UnpackAll.{AreSalvageCounts, ItemsSalvaged, LinesTold, SalvagesAll, UnpackAllDone, UnpackAllStops, UnpackEndFailsBy}
 use Rattle.ffv1_unpack.specs.Unpacked.{HasText, is_ppm_stream}
 use Rattle.ffv1_unpack.proofs.FileEnded.{end_known}
-use Rattle.ffv1_unpack.proofs.FileItems.{none_each}
+use Rattle.ffv1_unpack.proofs.ItemsEnding.{none_each}
 use Rattle.ffv1_unpack.proofs.FileRead.{no_items as nothing_in, positive}
 use Rattle.ffv1_unpack.proofs.FileSalvaged.{none_came}
 use Rattle.ffv1_unpack.specs.Plays.{BehindReadFails}

@@ -16,6 +16,7 @@ use Rattle.ffv1_unpack.specs.Containers.{IsReadAs}
 use Rattle.ffv1_unpack.specs.Judged.{IsJudged, Judged, counts_line, judged_from, judged_lines}
 use Rattle.ffv1_unpack.specs.Judged.{payload_of, payloads_of, refusals}
 use Rattle.ffv1_unpack.specs.AllItems.{ItemsDone, ItemsFault}
+use Rattle.ffv1_unpack.specs.ToldItems.{AgainDone, AgainStops}
 use Rattle.ffv1_unpack.specs.Plays.{AtMost, HoldsNoted, NextBehind, NotedAfter, has_more}
 use Rattle.ffv1_unpack.specs.Ranges.{RangeThen}
 use Rattle.ffv1_unpack.specs.Stream.{AreAll, IsStream, Stream}
@@ -54,16 +55,18 @@ module _ (profile : Profile) (place : Bool) (input output : Passage) where
       f
 
   -- of a file that is no Matroska its frames, up to the first fault of the file itself; of Matroska
-  -- all that it gives
+  -- all that it gives; if it can't be opened plainly, that and what is told before its frames
   abbrev pub AllDone : Option Fault → Notes → Type 0
   AllDone first notes =
       (IsReadAs false profile input.old × CheckAllDone first notes)
       ⊎ (IsReadAs true profile input.old × ItemsDone profile place input output first notes)
+      ⊎ AgainDone profile place input output first notes
 
   abbrev pub AllStops : Fault → Type 0
   AllStops f =
       (IsReadAs false profile input.old × CheckAllStops f)
       ⊎ (IsReadAs true profile input.old × ItemsFault profile place input output f)
+      ⊎ AgainStops profile place input output f
 
 -- ---- the frames of a range
 

@@ -12,6 +12,7 @@ pub mod Judged
 pub mod JudgedItems
 pub mod ItemsEnd
 pub mod AllItems
+pub mod ToldItems
 pub mod Checked
 pub mod Check
 pub mod CheckAll

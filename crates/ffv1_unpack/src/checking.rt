@@ -12,6 +12,7 @@ ghost use Rattle.ffv1_unpack.specs.Internal.Opens.{OpensRange};
 ghost use Rattle.ffv1_unpack.specs.Located.{Stands};
 ghost use Rattle.ffv1_unpack.specs.Opens.{IsReadAgain};
 ghost use Rattle.ffv1_unpack.specs.Judged.{counts_line};
+ghost use Rattle.ffv1_unpack.specs.ToldItems.{IsTriedAgain};
 ghost use Rattle.ffv1_unpack.specs.Internal.Told.{WritesFrame};
 
 use crate::behind::tell_behind;
@@ -20,6 +21,7 @@ use crate::judging::judge_frames;
 use crate::judging_items::judge_items;
 use crate::passing::{notes_after, pass_frames};
 use crate::player::{Player, open_player_located};
+use crate::reopening::{check_again, is_told, refused_at};
 use crate::telling::{Places, Telling, tell_byte, tell_frames};
 use ffv1_files::{Container, Notes, laws as files_laws};
 use ffv1_video::{Fault, Profile};
@@ -185,7 +187,7 @@ pub fn check_range<R: AgainIn, W: ByteOut, A: Allocator + Copy>(
 }
 
 /// Writes how many frames there were, and how many faults.
-fn write_counts<W: ByteOut, A: Allocator + Copy>(
+pub(crate) fn write_counts<W: ByteOut, A: Allocator + Copy>(
     alloc: A,
     output: &mut W,
     frames: u64,
@@ -223,6 +225,12 @@ fn write_counts<W: ByteOut, A: Allocator + Copy>(
 ///
 /// A frame of an AVI that has no bytes has the line that `check` writes of it, and no fault.
 ///
+/// If a Matroska file is refused before its first frame, and the input can begin again, it is read
+/// again from its beginning, as `FileReader::open_salvaged` does: the CRC-32 of the header of EBML
+/// or of an element that is not the sum, `Checksum`, and an element of known size that may not
+/// stand in a Segment, `BadElement`, are told first, at most sixteen, and each is one fault. If it
+/// can't be opened so either, it is refused with the fault that it had.
+///
 /// Answers the first fault of either kind, and None if there is none, and what is noted of the end,
 /// as `check` does. If another file begins after a Matroska file, that is told, too: the line of a
 /// fault with the number of bytes before it, and one fault more. A Segment of unknown size is open
@@ -233,9 +241,10 @@ fn write_counts<W: ByteOut, A: Allocator + Copy>(
 /// All other faults end it as they end `check`, after the lines of the frames before: those of the
 /// file up to its first frame, of its record, and of the chunks of its frames, if it is an AVI
 /// (`EmptyFrame`, too); `NoFrames` at the end if there was neither a frame nor a fault; `Read`,
-/// `OutOfMemory` and `Write` as they come, `Write` also if the line of a frame's place is not
-/// written. With `place`, at `Wide`, a fault of the file itself has the line of its byte, as
-/// `check` writes it, but not a read that fails among the frames of a Matroska file.
+/// `OutOfMemory` and `Write` as they come, `Write` also if the line of a frame's place, or of a
+/// fault that is told, is not written. With `place`, at `Wide`, a fault of the file itself has the
+/// line of its byte, as `check` writes it, but not a read that fails among the frames of a Matroska
+/// file, or as it is read again.
 pub fn check_all<R: AgainIn, W: ByteOut, A: Allocator + Copy>(
     alloc: A,
     profile: Profile,
@@ -252,27 +261,30 @@ pub fn check_all<R: AgainIn, W: ByteOut, A: Allocator + Copy>(
     ensures own { IfErr result (IsCheckFault profile) }
     ensures again { IfErr result (IsReadAgain profile (R.begins input.old)
         (passage R.remaining R.failures input.old input.new)) }
+    ensures tried { IfErr result (IsTriedAgain profile (R.begins input.old)
+        (passage R.remaining R.failures input.old input.new)) }
 {
     files_laws::frames_come_in_turn();
     files_laws::what_is_read_is_a_file();
     let byte = profile.tells_byte(place);
     let mut offset = 0u64;
+    let start = input.start();
     match open_player_located(alloc, profile, input, &mut offset) {
         Err(fault) => {
+            if is_told(fault) {
+                if let Some(start) = start {
+                    let refused = refused_at(fault, offset, place, byte);
+                    return check_again(alloc, profile, input, &start, output, refused);
+                }
+            }
             tell_byte(output, byte, 0, offset, fault);
             Err(fault)
         }
         Ok(mut player) => match player.reader.container() {
             Container::Avi => {
                 let places = Places { place, byte };
-                let counts = judge_frames(
-                    alloc,
-                    &mut player,
-                    input,
-                    output,
-                    places,
-                    FrameRange::ALL,
-                )?;
+                let all = FrameRange::ALL;
+                let counts = judge_frames(alloc, &mut player, input, output, places, all)?;
                 if counts.frames == 0 {
                     return Err(Fault::NoFrames);
                 }

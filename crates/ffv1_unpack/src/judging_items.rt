@@ -1,7 +1,7 @@
 //! Judges what a Matroska file gives that may be damaged, one after the other: frames, and faults
 //! of the file that are told.
 
-ghost use Rattle.std.specs.Prelude.{◌≡◌, IfErr, IfOk, List, None, OnOk, true};
+ghost use Rattle.std.specs.Prelude.{◌≡◌, ◌++◌, IfErr, IfOk, List, None, OnOk, true};
 ghost use Rattle.ffv1_wire.specs.Passage.{passage};
 ghost use Rattle.ffv1_record.specs.Accepted.{IsAccepted};
 ghost use Rattle.ffv1_files.specs.Items.{course_of, cued_item};
@@ -55,8 +55,23 @@ fn file_word(fault: FileFault) -> &'static str
     }
 }
 
-/// The line of a fault that is told, in place of what the text has.
+/// Appends the line of a fault that is told.
 #[tactic(auto, unfolding(crate::specs::JudgedItems::told_line))]
+pub(crate) fn push_told<A: Allocator>(
+    text: &mut Vec<u8, A>,
+    offset: u64,
+    fault: FileFault,
+) -> Result<(), AllocError>
+    ensures { OnOk result (text.new.items ≡ text.old.items ++ told_line offset fault) }
+{
+    push_number(text, b"byte ", offset)?;
+    text.extend_from_slice(b": fault ")?;
+    text.extend_from_slice(file_word(fault).as_bytes())?;
+    text.extend_from_slice(b"\n")?;
+    Ok(())
+}
+
+/// The line of a fault that is told, in place of what the text has.
 fn put_told<A: Allocator>(
     text: &mut Vec<u8, A>,
     offset: u64,
@@ -65,10 +80,7 @@ fn put_told<A: Allocator>(
     ensures { OnOk result (text.new.items ≡ told_line offset fault) }
 {
     text.clear();
-    push_number(text, b"byte ", offset)?;
-    text.extend_from_slice(b": fault ")?;
-    text.extend_from_slice(file_word(fault).as_bytes())?;
-    text.extend_from_slice(b"\n")?;
+    push_told(text, offset, fault)?;
     Ok(())
 }
 

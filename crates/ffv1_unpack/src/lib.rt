@@ -26,6 +26,7 @@ mod passing;
 mod picture_out;
 mod pictures_out;
 pub mod player;
+mod reopening;
 mod salvaging;
 mod showing;
 mod stream_lines;

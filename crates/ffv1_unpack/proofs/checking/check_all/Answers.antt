@@ -7,6 +7,9 @@ use Rattle.ffv1_unpack.specs.Internal.Containers.{is_segment}
 use Rattle.ffv1_wire.specs.Passage.{passage}
 use Rattle.ffv1_unpack.specs.Internal.Opens.{stream_of}
 use Rattle.ffv1_unpack.specs.Located.{Stands}
+use Rattle.ffv1_unpack.specs.ToldItems.{is_told}
+use Rattle.ffv1_unpack.proofs.ToldChecks.{again_again, again_err, again_ok, err_so, ok_so}
+use Rattle.ffv1_unpack.proofs.ToldChecks.{tried_again, tried_avi, tried_line, tried_telling}
 use Rattle.ffv1_unpack.proofs.FileRead.{holds_payloads}
 use Rattle.ffv1_unpack.proofs.FileEnded.{all_ended, behind_fails, behind_told}
 use Rattle.ffv1_unpack.proofs.AllJudged.{all_judged, all_none, all_stop, all_uncounted}
@@ -45,7 +48,7 @@ returns-in-Err-clause-err g c =
             c.open_player_located.new.offset c.in-Err.ensures.err c.in-Err.ensures.stopped
             told,
       )
-      | inr matroska ↦ inr (
+      | inr matroska ↦ inr (inl (
         matroska,
         items_unopened c.args.profile c.args.place (i c.args.input.now)
             (i c.open_player_located.new.input) (o c.args.output.now)
@@ -53,7 +56,7 @@ returns-in-Err-clause-err g c =
             (k c.open_player_located.new.input) (n c.args.output.now)
             (n c.tell_byte.new.output) f c.open_player_located.new.offset
             c.in-Err.ensures.err c.in-Err.ensures.stopped told,
-      )
+      ))
     ]
 
 pub returns-in-Err-clause-own : goal.returns-in-Err-clause-own
@@ -199,7 +202,7 @@ returns-in_err-counts-in-Matroska-clause-err g c =
     let read = read_as c.args.profile (g.R.ByteIn.remaining c.args.input.now)
     (g.R.ByteIn.remaining c.open_player_located.new.input) c.in-Ok.player.reader.head
     c.in-Ok.player.reader.place c.in-Ok.ensures.ok.known true kind in
-    rw (p.1, p.2) (inr (
+    rw (p.1, p.2) (inr (inl (
       read,
       items_stop c.args.profile (g.R.ByteIn.remaining c.args.input.now)
           (g.R.ByteIn.remaining c.open_player_located.new.input)
@@ -212,7 +215,7 @@ returns-in_err-counts-in-Matroska-clause-err g c =
           (g.W.ByteOut.contents c.judge_items.new.output) (g.W.ByteOut.failures c.args.output.now)
           (g.W.ByteOut.failures c.judge_items.new.output)
           c.in_err-counts-in-Matroska.field-0.0 c.in_err-counts-in-Matroska.ensures.err,
-    ))
+    )))
 
 pub returns-in_err-notes-in-Matroska-clause-err : goal.returns-in_err-notes-in-Matroska-clause-err
 returns-in_err-notes-in-Matroska-clause-err g c =
@@ -235,7 +238,7 @@ returns-in_err-notes-in-Matroska-clause-err g c =
     } in
     let cues = rw c.in-Ok.ensures.uncued at c.in_ok-counts-in-Matroska.ensures.cued in
     let stays = c.in_ok-counts-in-Matroska.ensures.reader in
-    rw (p.1, p.2) (inr (
+    rw (p.1, p.2) (inr (inl (
       read,
       behind_fails c.args.profile (g.R.ByteIn.remaining c.args.input.now)
           (g.R.ByteIn.remaining c.open_player_located.new.input)
@@ -249,7 +252,7 @@ returns-in_err-notes-in-Matroska-clause-err g c =
           told.0 counts told.1 told.2
           c.in_err-notes-in-Matroska.field-0.0
           (rw stays at c.in_err-notes-in-Matroska.ensures.answer),
-    ))
+    )))
 
 pub returns-in_err-notes-in-Matroska-clause-own : goal.returns-in_err-notes-in-Matroska-clause-own
 returns-in_err-notes-in-Matroska-clause-own g c =
@@ -301,7 +304,7 @@ returns-then-counts-eq0-3-clause-err g c =
     told.0 counts told.1 told.2 new notes behind in
     let frames : new.frames ≡ 0 = search rules in
     let faults : new.faults ≡ 0 = search rules in
-    inr (
+    inr (inl (
       read,
       no_items c.args.profile c.args.place
           (passage g.R.ByteIn.remaining g.R.ByteIn.failures c.args.input.now
@@ -311,7 +314,7 @@ returns-then-counts-eq0-3-clause-err g c =
           (stream_of r c.in-Ok.player.decoder.accepted) told.0 behind.behind notes new ended
           behind.counted (behind.written ∙ told.2.wrote.written) behind.writes
           frames faults,
-    )
+    ))
 
 pub returns-in_err-write_counts-in-Matroska-clause-err :
     goal.returns-in_err-write_counts-in-Matroska-clause-err
@@ -358,7 +361,7 @@ returns-in_err-write_counts-in-Matroska-clause-err g c =
     (g.W.ByteOut.contents c.tell_behind.new.output) (g.W.ByteOut.failures c.args.output.now)
     (g.W.ByteOut.failures c.judge_items.new.output) (g.W.ByteOut.failures c.tell_behind.new.output)
     told.0 counts told.1 told.2 new notes behind in
-    rw (p.1, p.2) (inr (
+    rw (p.1, p.2) (inr (inl (
       read,
       count_fails c.args.profile c.args.place
           (passage g.R.ByteIn.remaining g.R.ByteIn.failures c.args.input.now
@@ -370,7 +373,7 @@ returns-in_err-write_counts-in-Matroska-clause-err g c =
           (g.W.ByteOut.contents c.write_counts-in-Matroska.new.output)
           (g.W.ByteOut.failures c.write_counts-in-Matroska.new.output)
           c.in_err-write_counts-in-Matroska.field-0.0 c.in_err-write_counts-in-Matroska.ensures,
-    ))
+    )))
 
 pub returns-in_err-write_counts-in-Matroska-clause-own :
     goal.returns-in_err-write_counts-in-Matroska-clause-own
@@ -427,7 +430,7 @@ returns-clause-ok g c =
           λ frames faults. w.if-counts-eq0-3.false faults
       | else-counts-eq0-2-via-else-counts-eq0-2 w ↦ λ frames faults. w.if-counts-eq0-2.false frames
     ] in
-    inr (
+    inr (inl (
       read,
       items_done c.args.profile c.args.place
           (passage g.R.ByteIn.remaining g.R.ByteIn.failures c.args.input.now
@@ -439,7 +442,7 @@ returns-clause-ok g c =
           (g.W.ByteOut.contents c.write_counts-in-Matroska.new.output)
           (g.W.ByteOut.failures c.write_counts-in-Matroska.new.output)
           some c.in_ok-write_counts-in-Matroska.ensures.0 c.in_ok-write_counts-in-Matroska.ensures.1,
-    )
+    ))
 
 pub returns-in_err-counts-in-Avi-clause-again : goal.returns-in_err-counts-in-Avi-clause-again
 returns-in_err-counts-in-Avi-clause-again g c =
@@ -483,5 +486,108 @@ returns-in_err-write_counts-in-Matroska-clause-again g c =
     c.from_residual-in_err-write_counts-in-Matroska.ensures.1 in
     rw (p.1, p.2) (line_again c.args.profile
     (g.R.AgainIn.begins c.args.input.now)
+    (passage g.R.ByteIn.remaining g.R.ByteIn.failures c.args.input.now c.tell_behind.new.input)
+    _ _ c.in_err-write_counts-in-Matroska.field-0.0 c.in_err-write_counts-in-Matroska.ensures)
+
+pub returns-in_err-write_counts-in-Avi-clause-own :
+    goal.returns-in_err-write_counts-in-Avi-clause-own
+returns-in_err-write_counts-in-Avi-clause-own g c =
+    let p = err_from_is_err_and c.from_residual-in_err-write_counts-in-Avi.result
+    c.from_residual-in_err-write_counts-in-Avi.ensures.1 in
+    rw (p.1, p.2) (inr (inl (line_own _ _ c.in_err-write_counts-in-Avi.field-0.0
+    c.in_err-write_counts-in-Avi.ensures)))
+
+pub returns-in-Some-clause-ok : goal.returns-in-Some-clause-ok
+returns-in-Some-clause-ok g c =
+    let is : is_told c.in-Err.fault ≡ true = sym c.is_told.ensures ∙ c.if-is_told.true in
+    let done = rw (c.refused_at-refused.ensures, c.in-Some.ensures.there) at c.check_again.ensures.ok in
+    ok_so _ _ c.check_again.result (λ r h. again_ok c.args.profile c.args.place
+    (g.R.ByteIn.remaining c.args.input.now) (g.R.ByteIn.remaining c.open_player_located.new.input)
+    (g.R.ByteIn.remaining c.check_again.new.input) (g.R.ByteIn.failures c.args.input.now)
+    (g.R.ByteIn.failures c.open_player_located.new.input)
+    (g.R.ByteIn.failures c.check_again.new.input)
+    (passage g.W.ByteOut.contents g.W.ByteOut.failures c.args.output.now c.check_again.new.output)
+    c.in-Err.fault is c.in-Err.ensures.err r.0 r.1 h) done
+
+pub returns-in-Some-clause-err : goal.returns-in-Some-clause-err
+returns-in-Some-clause-err g c =
+    let is : is_told c.in-Err.fault ≡ true = sym c.is_told.ensures ∙ c.if-is_told.true in
+    let stops = rw (c.refused_at-refused.ensures, c.in-Some.ensures.there) at c.check_again.ensures.err in
+    err_so _ _ c.check_again.result (λ f h. again_err c.args.profile c.args.place
+    (g.R.ByteIn.remaining c.args.input.now) (g.R.ByteIn.remaining c.open_player_located.new.input)
+    (g.R.ByteIn.remaining c.check_again.new.input) (g.R.ByteIn.failures c.args.input.now)
+    (g.R.ByteIn.failures c.open_player_located.new.input)
+    (g.R.ByteIn.failures c.check_again.new.input)
+    (passage g.W.ByteOut.contents g.W.ByteOut.failures c.args.output.now c.check_again.new.output)
+    c.in-Err.fault is c.in-Err.ensures.err c.tells_byte-byte.result
+    c.open_player_located.new.offset c.in-Err.ensures.stopped c.tells_byte-byte.ensures f h) stops
+
+pub returns-in-Some-clause-again : goal.returns-in-Some-clause-again
+returns-in-Some-clause-again g c =
+    let is : is_told c.in-Err.fault ≡ true = sym c.is_told.ensures ∙ c.if-is_told.true in
+    err_so _ _ c.check_again.result (λ f h. again_again c.args.profile c.args.place
+    (g.R.ByteIn.remaining c.args.input.now) (g.R.ByteIn.remaining c.open_player_located.new.input)
+    (g.R.ByteIn.remaining c.check_again.new.input) (g.R.ByteIn.failures c.args.input.now)
+    (g.R.ByteIn.failures c.open_player_located.new.input)
+    (g.R.ByteIn.failures c.check_again.new.input)
+    (passage g.W.ByteOut.contents g.W.ByteOut.failures c.args.output.now c.check_again.new.output)
+    c.in-Err.fault is c.in-Err.ensures.err (g.R.AgainIn.begins c.args.input.now)
+    (passage g.R.ByteIn.remaining g.R.ByteIn.failures c.args.input.now c.check_again.new.input) f h)
+    (rw c.refused_at-refused.ensures at c.check_again.ensures.own)
+
+pub returns-in-Some-clause-tried : goal.returns-in-Some-clause-tried
+returns-in-Some-clause-tried g c =
+    let stops = rw (c.refused_at-refused.ensures, c.in-Some.ensures.there) at c.check_again.ensures.err in
+    err_so _ _ c.check_again.result (λ f h. tried_again c.args.profile c.args.place
+    (g.R.AgainIn.begins c.args.input.now) (g.R.ByteIn.remaining c.args.input.now)
+    (g.R.ByteIn.remaining c.check_again.new.input) (g.R.ByteIn.failures c.args.input.now)
+    (g.R.ByteIn.failures c.open_player_located.new.input)
+    (g.R.ByteIn.failures c.check_again.new.input)
+    (passage g.W.ByteOut.contents g.W.ByteOut.failures c.args.output.now c.check_again.new.output)
+    c.in-Err.fault f _ h) stops
+
+pub returns-in_err-counts-in-Avi-clause-tried : goal.returns-in_err-counts-in-Avi-clause-tried
+returns-in_err-counts-in-Avi-clause-tried g c =
+    let p = err_from_is_err_and c.from_residual.result c.from_residual.ensures.1 in
+    let kind : is_segment (container_of c.in-Ok.player.reader.place) ≡ false =
+    ap is_segment (sym c.container.ensures ∙ c.in-Avi.is) in
+    rw (p.1, p.2) (tried_avi c.args.profile (g.R.AgainIn.begins c.args.input.now)
+    (passage g.R.ByteIn.remaining g.R.ByteIn.failures c.args.input.now c.judge_frames.new.input)
+    c.in-Ok.player.reader _ c.in_err-counts-in-Avi.field-0.0 kind
+    c.in_err-counts-in-Avi.ensures.own)
+
+pub returns-in_err-write_counts-in-Avi-clause-tried :
+    goal.returns-in_err-write_counts-in-Avi-clause-tried
+returns-in_err-write_counts-in-Avi-clause-tried g c =
+    let p = err_from_is_err_and c.from_residual-in_err-write_counts-in-Avi.result
+    c.from_residual-in_err-write_counts-in-Avi.ensures.1 in
+    rw (p.1, p.2) (tried_line c.args.profile (g.R.AgainIn.begins c.args.input.now)
+    (passage g.R.ByteIn.remaining g.R.ByteIn.failures c.args.input.now c.judge_frames.new.input)
+    _ _ c.in_err-write_counts-in-Avi.field-0.0 c.in_err-write_counts-in-Avi.ensures)
+
+pub returns-in_err-counts-in-Matroska-clause-tried :
+    goal.returns-in_err-counts-in-Matroska-clause-tried
+returns-in_err-counts-in-Matroska-clause-tried g c =
+    let p = err_from_is_err_and c.from_residual-in_err-counts-in-Matroska.result
+    c.from_residual-in_err-counts-in-Matroska.ensures.1 in
+    rw (p.1, p.2) (tried_telling c.args.profile (g.R.AgainIn.begins c.args.input.now)
+    (passage g.R.ByteIn.remaining g.R.ByteIn.failures c.args.input.now c.judge_items.new.input)
+    c.in_err-counts-in-Matroska.field-0.0 c.in_err-counts-in-Matroska.ensures.own)
+
+pub returns-in_err-notes-in-Matroska-clause-tried :
+    goal.returns-in_err-notes-in-Matroska-clause-tried
+returns-in_err-notes-in-Matroska-clause-tried g c =
+    let p = err_from_is_err_and c.from_residual-in_err-notes-in-Matroska.result
+    c.from_residual-in_err-notes-in-Matroska.ensures.1 in
+    rw (p.1, p.2) (tried_telling c.args.profile (g.R.AgainIn.begins c.args.input.now)
+    (passage g.R.ByteIn.remaining g.R.ByteIn.failures c.args.input.now c.tell_behind.new.input)
+    c.in_err-notes-in-Matroska.field-0.0 c.in_err-notes-in-Matroska.ensures.own)
+
+pub returns-in_err-write_counts-in-Matroska-clause-tried :
+    goal.returns-in_err-write_counts-in-Matroska-clause-tried
+returns-in_err-write_counts-in-Matroska-clause-tried g c =
+    let p = err_from_is_err_and c.from_residual-in_err-write_counts-in-Matroska.result
+    c.from_residual-in_err-write_counts-in-Matroska.ensures.1 in
+    rw (p.1, p.2) (tried_line c.args.profile (g.R.AgainIn.begins c.args.input.now)
     (passage g.R.ByteIn.remaining g.R.ByteIn.failures c.args.input.now c.tell_behind.new.input)
     _ _ c.in_err-write_counts-in-Matroska.field-0.0 c.in_err-write_counts-in-Matroska.ensures)

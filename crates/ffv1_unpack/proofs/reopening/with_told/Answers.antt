@@ -1,0 +1,10 @@
+-- The counts of items, with those of the faults that were told before.
+use Rattle.std.proofs.Common.{◌≡◌, refl, length, arith}
+use Rattle.ffv1_unpack.proofs.ToldAgain.{told_counts}
+use Rattle.ffv1_unpack.proofs.reopening.with_told.Goals as goal
+
+pub returns : goal.returns
+returns g c = λ start xs are.
+    (let long : c.len.result ≡ length c.args.told.now.faults.items = omega (arith, c.len.ensures) in
+    told_counts start c.args.told.now.faults.items c.args.counts _ xs refl
+    (rw long at c.saturating_add.ensures) (rw c.as_slice.ensures.value at c.first_fault.ensures) are)
