@@ -4,11 +4,10 @@
 It is written from the AVI RIFF File Reference (Microsoft) and OpenDML's AVI File Format Extensions;
 what is this project's own choice says so.
 """
-import itertools
 import struct
 
 import movi
-from chunks import chunks, get_chunk, marked, padded
+from chunks import Open, chunks, get_chunk, is_known, marked, padded
 from ffv1 import Fault
 from files import EBML_ID, FRAME_LIMIT, LIMIT
 
@@ -110,6 +109,7 @@ class Opening:
     def __init__(self, wide):
         self.wide, self.streams, self.head, self.number, self.total = wide, 0, None, 0, None
         self.all = self.others = 0
+        self.begun = False
 
     def stream(self, source, size):
         """A list of a stream. The first counts; wide, the first of FFV1 video, up to number 99."""
@@ -136,6 +136,10 @@ class Opening:
     def bars(self, name):
         return self.wide and not self.stands(name)
 
+    def may_be_unknown(self):
+        """Whether a list of RIFF may have no size: up to the first movi, if all of the file is read."""
+        return self.wide and not self.begun
+
     def header(self, source, left):
         """The chunks of a list hdrl."""
         for name, size in chunks(source, left):
@@ -149,21 +153,37 @@ class Opening:
                 source.skip(padded(size) - len(own), 52)
 
 
-def open_avi(source, wide):
+def own_name(source, name, size):
+    """The own name of a list of RIFF; of a list of unknown size that is no movi 50."""
+    if name != b"LIST":
+        return b""
+    own = source.exactly(4, 52)
+    if own != b"movi" and not is_known(size):
+        raise Fault(50)
+    return own
+
+
+def open_avi(source, wide, read=None):
     """The head of a file, and its frames in turn: those of the first list movi or, wide, those of
-    every movi of every RIFF."""
+    every movi of every RIFF; or what else is read from there on, by where that RIFF ends, if that is
+    known. Own: up to its first movi, a RIFF of unknown size has as many bytes as it can have at most."""
     first = source.exactly(12, 52)
     size = struct.unpack("<I", first[4:8])[0]
-    if first[:4] != b"RIFF" or first[8:] != b"AVI " or size < 4:
+    if first[:4] != b"RIFF" or first[8:] != b"AVI " or size < 4 and not (wide and size == 0):
         raise Fault(50)
-    opening, parts = Opening(wide), marked(source, size - 4)
+    opening, end = Opening(wide), 8 + size if is_known(size) else None
+    sized = not wide or is_known(size)
+    parts = marked(source, (size if sized else 2 ** 32 - 1) - 4, unknown=opening.may_be_unknown)
     for name, size in parts:
-        own = source.exactly(4, 52) if name == b"LIST" else b""
+        own = own_name(source, name, size)
         if own == b"movi":
             if opening.head is None:
                 raise Fault(51)
-            opening.head.others = opening.others
-            return opening.head, avi_frames(source, opening, size - 4, parts)
+            opening.begun, opening.head.others = True, opening.others
+            if read:
+                return opening.head, read(source, opening, size, end)
+            chunks = None if sized else Open(source, {b"RIFF"})
+            return opening.head, Frames(source, opening, chunks, chunks or parts).all(size)
         if own == b"hdrl":
             opening.header(source, size - 4)
             source.skip(size % 2, 52)
@@ -172,82 +192,102 @@ def open_avi(source, wide):
     raise Fault(50)
 
 
-def movi_frames(source, left, opening):
-    """The frames of a movi, in turn. Own: wide, an empty chunk is a frame of no bytes, which repeats
-    the one before it, and the chunks of a list `rec ` are those of movi, which has no other list."""
-    for name, size in marked(source, left, opening.bars, opening.wide):
-        if not opening.stands(name):
-            raise Fault(50)
-        if name == b"LIST":
-            if source.exactly(4, 52) != b"rec ":
-                raise Fault(50)
-            continue
-        if not opening.is_frame(name):
-            source.skip(padded(size), 52)
-            continue
-        if size > (FRAME_LIMIT if opening.wide else LIMIT):
-            raise Fault(53)
-        if size == 0 and not opening.wide:
-            raise Fault(54)
-        yield get_chunk(source, size)
-
-
 def is_another(data):
     """Whether another file begins with these bytes, as an RIFF that goes on with its file does not."""
     return data[:4] == EBML_ID or data[:4] == b"RIFF" and data[8:] != b"AVIX"
 
 
-def behind_riff(source):
-    """The size of the next RIFF; none at the end of the file. Own: another file behind it is 88, and
-    for other bytes there is a note."""
-    begin, head = source.position, source.some(4)
-    if head == b"RIFF":
-        head += source.some(8)
-    if head[:4] == b"RIFF" and head[8:] == b"AVIX":
-        size = struct.unpack("<I", head[4:8])[0]
-        if size < 4:
-            raise Fault(50)
-        return size
-    if len(head) == 12 and is_another(head) or head[:4] == EBML_ID:
-        raise Fault(88)
-    if head:
-        source.notes[94] = f"After byte {begin}"
-    return None
+class Frames:
+    """The frames of a file, in turn, from its first movi on, in a RIFF of which these chunks are left.
+    Own: wide, an empty chunk is a frame of no bytes, which repeats the one before it, and the chunks of
+    a list `rec ` are those of movi, which has no other list. A RIFF of which the first movi has no size
+    has none either, nor has one that comes after a RIFF without size. At the end there are notes."""
 
+    def __init__(self, source, opening, chunks, parts):
+        self.source, self.opening, self.chunks, self.parts = source, opening, chunks, parts
+        self.parts = iter(parts)
+        self.count = self.repeated = 0
 
-def movi_sizes(source, parts, opening, is_owed):
-    """How many bytes each further movi has: of the RIFF of which these chunks are left, and of those
-    after it, up to the end of the file, where no frame may be owed. Own: no frame stands in RIFF."""
-    while True:
-        for name, size in parts:
-            own = source.exactly(4, 52) if name == b"LIST" else b""
-            if own == b"movi":
-                yield size - 4
-            elif opening.is_frame(name):
+    def owes(self):
+        return self.count < (self.opening.total or 0)
+
+    def of_movi(self, chunks):
+        """The frames of a movi."""
+        opening, source = self.opening, self.source
+        for name, size in chunks:
+            if not opening.stands(name):
                 raise Fault(50)
-            else:
-                source.skip(padded(size) - len(own), 52)
-        source.mark()
-        size = behind_riff(source)
-        if size is None:
-            if is_owed():
-                raise Fault(52)
-            return
-        parts = marked(source, size - 4)
-
-
-def avi_frames(source, opening, left, parts):
-    """The frames of a file of which the first movi has so many bytes, in turn. Own: at the end there
-    is a note of how many of them repeat the one before, and of further streams of FFV1 video."""
-    count, repeated = 0, 0
-    owed = lambda: count < (opening.total or 0)
-    more = movi_sizes(source, parts, opening, owed) if opening.wide else []
-    for size in itertools.chain([left], more):
-        for frame in movi_frames(source, size, opening):
+            if name == b"LIST":
+                if source.exactly(4, 52) != b"rec ":
+                    raise Fault(50)
+                continue
+            if not opening.is_frame(name):
+                source.skip(padded(size), 52)
+                continue
+            if size > (FRAME_LIMIT if opening.wide else LIMIT):
+                raise Fault(53)
+            if size == 0 and not opening.wide:
+                raise Fault(54)
+            frame = get_chunk(source, size)
             yield frame
-            count += 1
-            repeated += not frame
-    if opening.others:
-        source.notes[91] = f"OtherVideo {opening.others}"
-    if repeated:
-        source.notes[93] = f"Repeated {repeated}"
+            self.count += 1
+            self.repeated += not frame
+
+    def next_riff(self):
+        """The chunks of the next RIFF; none at the end of the file. Own: another file behind it is 88,
+        and for other bytes there is a note."""
+        source, ended = self.source, self.chunks is not None
+        if ended and not self.chunks.end:
+            head = b""
+        else:
+            if not ended:
+                source.mark()
+            begin, head = source.position, self.chunks.end if ended else source.some(4)
+            if head == b"RIFF":
+                head += source.exactly(8, 52) if ended else source.some(8)
+            if head[:4] == b"RIFF" and head[8:] == b"AVIX":
+                size = struct.unpack("<I", head[4:8])[0]
+                if ended or not is_known(size):
+                    self.chunks = Open(source, {b"RIFF"})
+                    return iter(self.chunks)
+                if size < 4:
+                    raise Fault(50)
+                return marked(source, size - 4)
+            if len(head) == 12 and is_another(head) or head[:4] == EBML_ID:
+                raise Fault(88)
+            if head:
+                source.notes[94] = f"After byte {begin}"
+        if self.owes():
+            raise Fault(52)
+        return None
+
+    def next_movi(self):
+        """The size of the next movi; none at the end of the file. Own: no frame stands in RIFF."""
+        while self.parts is not None:
+            for name, size in self.parts:
+                own = own_name(self.source, name, size)
+                if own == b"movi":
+                    return size
+                if self.opening.is_frame(name):
+                    raise Fault(50)
+                self.source.skip(padded(size) - len(own), 52)
+            self.parts = self.next_riff()
+        return None
+
+    def all(self, size):
+        source, opening = self.source, self.opening
+        while size is not None:
+            if opening.wide and not is_known(size):
+                chunks = Open(source, {b"idx1", b"RIFF"}, opening.bars, True)
+                yield from self.of_movi(chunks)
+                self.chunks = Open(source, {b"RIFF"}, name=chunks.end or b"")
+                self.parts = iter(self.chunks)
+            else:
+                yield from self.of_movi(marked(source, size - 4, opening.bars, opening.wide))
+            size = self.next_movi() if opening.wide else None
+        if self.chunks is not None:
+            source.notes[90] = "Open"
+        if opening.others:
+            source.notes[91] = f"OtherVideo {opening.others}"
+        if self.repeated:
+            source.notes[93] = f"Repeated {self.repeated}"

@@ -18,7 +18,7 @@ import check_matroska
 import commands
 import ffv1
 import files
-from known_answers import avi_files, cases, depths, edges, frames, golomb, grids, slices
+from known_answers import avi_files, cases, damaged_avi, depths, edges, frames, golomb, grids, slices
 from known_answers.case import fault_of
 
 
@@ -150,7 +150,7 @@ def results():
     for case in cases():
         yield passes(case, by_model)
     for name, found, wanted in itertools.chain(example_checks(), frames.checks(), slices.checks(),
-                                               depths.checks(), avi_files.checks(), grids.checks(), edges.checks(),
+                                               depths.checks(), damaged_avi.checks(), avi_files.checks(), grids.checks(), edges.checks(),
                                                golomb.checks(),
                                                check_matroska.checks()):
         if found != wanted:

@@ -340,7 +340,7 @@ def unpack_all(source, out, output):
     told = []
     data, is_matroska = input_of(source)
     try:
-        head, config, frames, _ = opened_in(data, is_matroska, True)
+        head, config, frames, _ = opened_in(data, is_matroska, True, True)
         count, first = salvage(head, config, frames, out, output or told.append)
         (output or told.append)(f"frames {count}\n")
         if first:

@@ -1,6 +1,7 @@
 # SPDX-License-Identifier: MIT OR Apache-2.0
 """Files of AVI and Matroska, opened by their first byte."""
 import avi_format
+import damaged_avi
 import damaged_files
 import damaged_openings
 import ebml
@@ -74,7 +75,7 @@ def opened_once(data, is_matroska, damaged):
         head, size, frames = matroska.open_again(data, read)
         segment = [f"segment {'open' if size is None else size}"]
     else:
-        head, frames = avi_format.open_avi(data, True)
+        head, frames = avi_format.open_avi(data, True, damaged_avi.items if damaged else None)
         segment = []
     others = [f"note 91 OtherVideo {head.others}"] if head.others else []
     config = ffv1.read_record(head.record, head.width, head.height, wide=True)

@@ -26,7 +26,7 @@ def checked():
     footer, not_key = fault(35, "Footer", frame=11, slice=0), fault(30, "NotKey", frame=0, slice=0)
     of_a, of_b = verdict("a", 1, 0), verdict("b", "null", "null", not_key)
     unread = verdict("no", "null", "null", fault(56, "Read"))
-    end = fault(52, "Truncated", byte=276)
+    first = fault(30, "NotKey", frame=1, slice=0)
     yield Case("check --json", given, [
         Step(["check", "--json", "a"], of_a),
         Step(["check", "--quiet", "a", "--json", "--place"], of_a),
@@ -38,7 +38,7 @@ def checked():
         Step(["check", "--json", "no"], unread, "56 Read"),
         Step(["check", "--json", "e"], verdict("e", "null", "null", fault(70, "NoFrames")),
              "70 NoFrames"),
-        Step(["check", "--json", "--all", "f"], verdict("f", "null", "null", end), "52 Truncated"),
+        Step(["check", "--json", "--all", "f"], verdict("f", 2, 2, first), "30 NotKey"),
         Step(["check", "--json", "b", "no", "a"], f"{of_b}{unread}{of_a}", status=1,
              errors="ffv1: b: 30 NotKey\nffv1: no: 56 Read\n")], given)
 

@@ -20,14 +20,16 @@ OF_AVI = [
     ("another name", b"RIFX" + TWO[4:], 0, 0, "50 NotAvi"),
     ("cut in hdrl", TWO[:100], 0, 12, "52 Truncated"),
     ("cut in the header of movi", TWO[:240], 0, 238, "52 Truncated"),
+    ("no FFV1 before movi", riff(chunk_list(b"hdrl", SOUND), MOVI), 0, 48, "51 NoFfv1"),
+    ("no movi", riff(header(), JUNK), 0, 12 + len(header()) + 12, "50 NotAvi"),
+]
+AMONG_CHUNKS = [
     ("cut in the name of the first frame", TWO[:251], 0, 250, "52 Truncated"),
     ("cut in its padding", TWO[:263], 0, 250, "52 Truncated"),
     ("cut after it", TWO[:264], 1, 264, "52 Truncated"),
     ("cut in the second", TWO[:277], 1, 264, "52 Truncated"),
     ("cut in the index", riff(header(), MOVI, INDEX)[:-2], 1, 12 + len(header()) + len(MOVI),
      "52 Truncated"),
-    ("no FFV1 before movi", riff(chunk_list(b"hdrl", SOUND), MOVI), 0, 48, "51 NoFfv1"),
-    ("no movi", riff(header(), JUNK), 0, 12 + len(header()) + 12, "50 NotAvi"),
     ("a list in movi", riff(header(), chunk_list(b"movi", GOOD, chunk_list(b"abcd"))), 1,
      12 + len(header()) + 12 + 14, "50 NotAvi"),
     ("a list rec that is cut in its second frame", riff(header(), chunk_list(b"movi", chunk_list(
@@ -93,13 +95,26 @@ AMONG_FRAMES = [
 
 def offsets():
     """Each file, of which so many frames are decoded, by `check` and `check --all`, and by `check
-    --quiet`. Among the frames of a Matroska file `check --all` goes on, as `damaged.py` says."""
+    --quiet`. Among the frames `check --all` goes on: of a Matroska file as `damaged.py` says, of an
+    AVI to tell the fault, after which no frame is found."""
     for name, file, frames, byte, fault in AMONG_FRAMES:
         where = f"fault frame {frames} byte {byte}\n"
         yield Case(f"byte of the file: {name}", {"in": file}, [
             Step(["check", "in"], lines(frames), fault),
             Step(["check", "--place", "in"], lines(frames) + where, fault),
             Step(["check", "--quiet", "in"], f"in: {fault} at byte {byte}\n", fault)],
+            {"in": file})
+    for name, file, frames, byte, fault in AMONG_CHUNKS:
+        where = f"fault frame {frames} byte {byte}\n"
+        told = f"byte {byte}: fault {fault}\nframes {frames} faults 1\n"
+        yield Case(f"byte of the file: {name}", {"in": file}, [
+            Step(["check", "in"], lines(frames), fault),
+            Step(["check", "--place", "in"], lines(frames) + where, fault),
+            Step(["check", "--all", "in"], lines(frames) + told, fault),
+            Step(["check", "--all", "--place", "in"], lines(frames) + told, fault),
+            Step(["check", "--quiet", "in"], f"in: {fault} at byte {byte}\n", fault),
+            Step(["check", "--all", "--quiet", "in"],
+                 f"in: 1 faults in {frames} frames, the first {fault} at byte {byte}\n", fault)],
             {"in": file})
     for name, file, frames, byte, fault in OF_AVI + OF_MATROSKA:
         where = f"fault frame {frames} byte {byte}\n"

@@ -144,9 +144,10 @@ def all_frames():
     yield Case("the first of several faults", {"in": file}, [
         Step(["check", "--all", "in"], lines, "35 Footer"), Step(["check", "in"], "", "35 Footer")])
     file = avi(one(), [bytes(3), FRAME, FRAME])[:-2]
-    lines = "frame 0: fault 30 NotKey\n" + line.format(1)
+    lines = ("frame 0: fault 30 NotKey\n" + line.format(1) + "byte 276: fault 52 Truncated\n"
+             "frames 2 faults 2\n")
     yield Case("a fault of the file after one of a frame", {"in": file},
-               [Step(["check", "--all", "in"], lines, "52 Truncated")])
+               [Step(["check", "--all", "in"], lines, "30 NotKey")])
     yield Case("all of a file without frames", {"in": avi(one(), [])},
                [Step(["check", "--all", "in"], "", "70 NoFrames")])
 

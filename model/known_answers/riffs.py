@@ -187,6 +187,83 @@ CLOSED = [
     ("a frame in a further RIFF", FIRST + further(GOOD, MOVI), lines(1), "50 NotAvi"),
     ("a frame of another stream after movi", riff(streams(SOUND), named(1, 2), GOOD), whole(1), ""),
 ]
+MOST = 2 ** 32 - 1
+OPEN_TWO = spelled(0, chunk_list(b"movi", GOOD, GOOD))
+OPEN = spelled(0, riff(header(), OPEN_TWO))
+
+
+def unsized(size, movi_size, *chunks):
+    """A RIFF and a movi of two frames, whose sizes are spelled so, and chunks after them."""
+    two = chunk_list(b"movi", GOOD, GOOD)
+    file = riff(header(), two if movi_size is None else spelled(movi_size, two), *chunks)
+    return file if size is None else spelled(size, file)
+
+
+# sizes that are not known: how many frames are read, and the fault after them
+OPEN_READ = [
+    *[(f"a RIFF of size {size} with a movi of size {movi}", unsized(size, movi), 2)
+      for size in (None, 0, MOST) for movi in (None, 0, MOST) if (size, movi) != (None, None)],
+    ("an index after an open movi", unsized(0, 0, INDEX), 2),
+    ("an index after a movi in an open RIFF", unsized(0, None, INDEX), 2),
+    ("an index, and chunks after it", unsized(MOST, MOST, INDEX, JUNK), 2),
+    ("an open movi of no frames", spelled(0, riff(header(), spelled(0, chunk_list(b"movi")))), 0),
+    ("an open movi up to a further RIFF", OPEN + MORE, 3),
+    ("an open RIFF up to a further RIFF", unsized(0, None, JUNK) + MORE, 3),
+    ("an index, and then a further RIFF", unsized(0, 0, INDEX) + MORE + MORE, 4),
+    ("a further RIFF that is open", FIRST + spelled(0, further(OPEN_TWO)), 3),
+    ("two that are", FIRST + spelled(0, further(OPEN_TWO)) + spelled(MOST, further(MOVI)), 4),
+    ("two that have other sizes", OPEN + spelled(3, further(MOVI)) + spelled(10 ** 6, MORE), 4),
+    ("two movi in an open RIFF", spelled(0, riff(header(), MOVI, MOVI)), 2),
+    ("an open movi after another in an open RIFF", unsized(0, None, OPEN_TWO), 4),
+    ("a list rec in an open movi", spelled(0, riff(header(), spelled(0, chunk_list(
+        b"movi", REC, GOOD)))), 2),
+    ("a list rec in it, whatever its size", spelled(0, riff(header(), spelled(0, chunk_list(
+        b"movi", spelled(MOST, REC), GOOD)))), 2),
+    ("an open movi in a RIFF that would end in it", spelled(240, unsized(None, 0)), 2),
+    ("as many frames as dmlh says in an open movi", spelled(0, riff(
+        streams(total=numbers(2)), OPEN_TWO)), 2),
+]
+OPEN_CUT = [
+    ("an open movi that is cut in a frame", OPEN[:-3], 1, "52 Truncated"),
+    ("in a name", OPEN + b"00d", 2, "52 Truncated"),
+    ("in a size", OPEN + GOOD[:5], 2, "52 Truncated"),
+    ("an open movi with a chunk that may not stand there", OPEN + JUNK + FRAME_OF_1, 2, "50 NotAvi"),
+    ("fewer frames than dmlh says in an open movi", spelled(0, riff(
+        streams(total=numbers(3)), OPEN_TWO)), 2, "52 Truncated"),
+    ("a further RIFF of another form behind an open movi", OPEN + FIRST, 2, "88 Another"),
+    ("a further RIFF that is cut in its form behind one", OPEN + FIRST[:11], 2, "52 Truncated"),
+    ("a frame after an open movi's index", unsized(0, 0, INDEX, GOOD), 2, "50 NotAvi"),
+    ("an open RIFF without movi", spelled(0, riff(header(), JUNK)), 0, "52 Truncated"),
+    ("a list of size 0 before movi", riff(header(), spelled(0, chunk_list(b"abcd")), MOVI), 0,
+     "50 NotAvi"),
+    ("a list of the greatest size before movi", spelled(MOST, riff(header(), spelled(
+        MOST, chunk_list(b"abcd")), MOVI)), 0, "50 NotAvi"),
+    ("a list of size 0 that has no room for its own name", riff(header(), b"LIST" + bytes(4)), 0,
+     "52 Truncated"),
+    ("a list of size 0 in an open RIFF", unsized(0, None, spelled(0, chunk_list(b"abcd"))), 2,
+     "50 NotAvi"),
+    ("a list of the greatest size in an open RIFF", unsized(0, None, spelled(MOST, chunk_list(
+        b"abcd"))), 2, "50 NotAvi"),
+    ("an open movi after the first in a RIFF that is not", riff(header(), MOVI, OPEN_TWO), 1,
+     "50 NotAvi"),
+    ("one of the greatest size", riff(header(), MOVI, spelled(MOST, OPEN_TWO)), 1, "52 Truncated"),
+    ("a list of size 0 that is no movi", riff(header(), MOVI, spelled(0, chunk_list(b"abcd"))), 1,
+     "50 NotAvi"),
+    ("a list of the greatest size that is no movi", riff(header(), MOVI, spelled(MOST, chunk_list(
+        b"abcd"))), 1, "52 Truncated"),
+    ("a RIFF of size 3", spelled(3, FIRST), 0, "50 NotAvi"),
+]
+
+
+def open_riffs():
+    """Files with a RIFF, or a movi, whose size is not known."""
+    for name, file, count in OPEN_READ:
+        output, fault = (whole(count), "") if count else ("", "70 NoFrames")
+        yield checked(name, file, output, fault, note="90 Open" if count else "")
+    for name, file, count, fault in OPEN_CUT:
+        yield checked(name, file, lines(count), fault)
+
+
 OF_RECORDS = [
     ("the record ends where biSize says", ending(40 + len(RECORD), b"\0"), whole(1), ""),
     ("some bytes before it", ending(40 + len(RECORD), b"abc"), whole(1), ""),
@@ -209,4 +286,4 @@ def streams_and_records():
         yield checked(name, riff(hdrl, MOVI), output, fault)
 
 
-CASES = [all_riffs, cut_riffs, streams_and_records]
+CASES = [all_riffs, cut_riffs, streams_and_records, open_riffs]

@@ -36,5 +36,5 @@ pub form_after : (file : List ℕ) (head : Head) (frames : List (List ℕ)) → 
 form_after file head frames is size form rest sized formed other = refused_after file head frames is ((codes "RIFF" ++ size ++ form) ++ rest) (Met fault.Another rest) (form_there (last is) size form rest sized formed other)
 
 -- an RIFF too small for its form
-pub small_after : (file : List ℕ) (head : Head) (frames : List (List ℕ)) → RiffFile file head frames → (size rest : List ℕ) → length size ≡ 4 → little_number 4 size < 4 → GivesThen (file ++ ((codes "RIFF" ++ size ++ codes "AVIX") ++ rest)) head frames (Met fault.NotAvi rest)
-small_after file head frames is size rest sized small = refused_after file head frames is ((codes "RIFF" ++ size ++ codes "AVIX") ++ rest) (Met fault.NotAvi rest) (small_there (last is) size rest sized small)
+pub small_after : (file : List ℕ) (head : Head) (frames : List (List ℕ)) → RiffFile file head frames → (size rest : List ℕ) → length size ≡ 4 → 0 < little_number 4 size → little_number 4 size < 4 → GivesThen (file ++ ((codes "RIFF" ++ size ++ codes "AVIX") ++ rest)) head frames (Met fault.NotAvi rest)
+small_after file head frames is size rest sized some small = refused_after file head frames is ((codes "RIFF" ++ size ++ codes "AVIX") ++ rest) (Met fault.NotAvi rest) (small_there (last is) size rest sized some small)

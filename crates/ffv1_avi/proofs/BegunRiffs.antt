@@ -1,20 +1,22 @@
 -- What comes after an RIFF: the next one, another file, other bytes, or the end of the input.
-use Rattle.std.proofs.Common.{◌≡◌, ◌⊎◌, ◌+◌, ◌≤◌, ◌<◌, ◌==◌, ◌++◌, ℕ, nat_eq, nat_le, nat_lt, Bool, true, false, Option, Some, None, Result, Ok, Err, List, [], length, take, drop, codes, inl, inr, ap, ◌∙◌, sym, subst, arith, refl, append_assoc, length-append, length-take}
+use Rattle.std.proofs.Common.{◌≡◌, ◌⊎◌, ◌+◌, ◌-◌, ◌≤◌, ◌<◌, ◌==◌, ◌++◌, ℕ, nat_eq, nat_le, nat_lt, Bool, true, false, Option, Some, None, Result, Ok, Err, List, [], length, take, drop, codes, inl, inr, ap, ◌∙◌, sym, subst, arith, refl, append_assoc, if◌then◌else◌, length-append, length-take}
 use Rattle.std.proofs.lemmas.Bool.{cases_lt, eqb-true, le-leb, leb-false, leb-true, lt-leb, lt-ltb, ltb-true, ne_eqb}
 use Rattle.std.proofs.lemmas.List.{drop_all, take-append-drop, take_all}
 use Rattle.std.specs.Cmp.Lexicographic.{same_text}
 use lib.Pointwise.{pointwise_long}
 use Rattle.byteorder.specs.Endian.{little_number}
 use Rattle.ffv1_reads.specs.Behind.{begins_file}
-use Rattle.ffv1_reads.specs.Reads.{Looked, Met, Short, Stop, read_on}
+use Rattle.ffv1_reads.specs.Reads.{Looked, Met, Reading, Short, Stop, read_on}
 use Rattle.ffv1_reads.specs.declared.fault.FileFault.TheVariants as fault
 use Rattle.ffv1_reads.proofs.FilesBehind.{file_by_four}
 use Rattle.ffv1_reads.proofs.Results.{cut_back, cut_front, ok_is, read_on_ok}
 use Rattle.ffv1_avi.specs.declared.place.Place.{Place}
 use Rattle.ffv1_avi.specs.Behind.{begins_another, looked_past}
-use Rattle.ffv1_avi.specs.Files.{or_end, riff_begun, riff_judged, riff_named, taken_or_end}
-use Rattle.ffv1_avi.specs.Places.{riff_at}
-use Rattle.ffv1_avi.specs.Walk.{is_name}
+use Rattle.ffv1_avi.specs.Files.{riff_begun, riff_judged, riff_named, riff_of_size}
+use Rattle.ffv1_avi.specs.declared.place.Open.TheVariants.{OpenRiff}
+use Rattle.ffv1_avi.specs.Opens.{open_riff, or_end, taken_or_end}
+use Rattle.ffv1_avi.specs.Places.{open_at, riff_at}
+use Rattle.ffv1_avi.specs.Walk.{is_known, is_name}
 use Rattle.ffv1_avi.proofs.Contents.{number_taken}
 use Rattle.ffv1_avi.proofs.TakenBytes.{end_there, enough_there, none_taken, owed_short, some_taken}
 
@@ -75,21 +77,30 @@ numbered : (size form : List ℕ) → length size ≡ 4 → little_number 4 (siz
 numbered size form sized = sym (number_taken 4 (size ++ form) (omega arith)) ∙ ap (little_number 4) (cut_front 4 size form sized)
 
 -- the next RIFF is entered
-pub riff_there : (place : Place) (size rest : List ℕ) → length size ≡ 4 → 4 ≤ little_number 4 size → 8 + little_number 4 size < place.input → riff_begun place ((codes "RIFF" ++ size ++ codes "AVIX") ++ rest) ≡ Ok (Some (riff_at place (little_number 4 size)), rest)
-riff_there place size rest sized room fits =
+pub riff_there : (place : Place) (size rest : List ℕ) → length size ≡ 4 → is_known (little_number 4 size) ≡ true → 4 ≤ little_number 4 size → 8 + little_number 4 size < place.input → riff_begun place ((codes "RIFF" ++ size ++ codes "AVIX") ++ rest) ≡ Ok (Some (riff_at place (little_number 4 size)), rest)
+riff_there place size rest sized known room fits =
     let form : drop 4 (size ++ codes "AVIX") ≡ codes "AVIX" = cut_back 4 size (codes "AVIX") sized in
     let number = numbered size (codes "AVIX") sized in
     let four : nat_le 4 (little_number 4 size) ≡ true = le-leb _ _ room in
     let less : nat_lt (8 + little_number 4 size) place.input ≡ true = lt-ltb _ _ fits in
-    headed place size (codes "AVIX") rest sized refl ∙ rw (form, number, four, less) refl
+    headed place size (codes "AVIX") rest sized refl ∙ rw (form, number, known, four, less) refl
+
+-- or one without size
+pub open_there : (place : Place) (size rest : List ℕ) → length size ≡ 4 → is_known (little_number 4 size) ≡ false → 12 < place.input → riff_begun place ((codes "RIFF" ++ size ++ codes "AVIX") ++ rest) ≡ Ok (Some (open_at place OpenRiff (place.input - 12) 0), rest)
+open_there place size rest sized unknown fits =
+    let form : drop 4 (size ++ codes "AVIX") ≡ codes "AVIX" = cut_back 4 size (codes "AVIX") sized in
+    let number = numbered size (codes "AVIX") sized in
+    let less : nat_lt 12 place.input ≡ true = lt-ltb _ _ fits in
+    headed place size (codes "AVIX") rest sized refl ∙ rw (form, number, unknown, less) refl
 
 -- one that has no room for its form
-pub small_there : (place : Place) (size rest : List ℕ) → length size ≡ 4 → little_number 4 size < 4 → riff_begun place ((codes "RIFF" ++ size ++ codes "AVIX") ++ rest) ≡ Err (Met fault.NotAvi rest)
-small_there place size rest sized small =
+pub small_there : (place : Place) (size rest : List ℕ) → length size ≡ 4 → 0 < little_number 4 size → little_number 4 size < 4 → riff_begun place ((codes "RIFF" ++ size ++ codes "AVIX") ++ rest) ≡ Err (Met fault.NotAvi rest)
+small_there place size rest sized some small =
     let form : drop 4 (size ++ codes "AVIX") ≡ codes "AVIX" = cut_back 4 size (codes "AVIX") sized in
     let number = numbered size (codes "AVIX") sized in
     let less : nat_le 4 (little_number 4 size) ≡ false = lt-leb _ _ small in
-    headed place size (codes "AVIX") rest sized refl ∙ rw (form, number, less) refl
+    let known : is_known (little_number 4 size) ≡ true = let first : (little_number 4 size == 0) ≡ false = ne_eqb _ _ (λ e. omega (arith, e, some)) in let last : (little_number 4 size == 4294967295) ≡ false = ne_eqb _ _ (λ e. omega (arith, e, small)) in rw (first, last) refl in
+    headed place size (codes "AVIX") rest sized refl ∙ rw (form, number, known, less) refl
 
 -- another file
 pub form_there : (place : Place) (size form rest : List ℕ) → length size ≡ 4 → length form ≡ 4 → is_name form (codes "AVIX") ≡ false → riff_begun place ((codes "RIFF" ++ size ++ form) ++ rest) ≡ Err (Met fault.Another rest)
@@ -156,13 +167,23 @@ pub record FoundRiff (place : Place) (text : List ℕ) (q : Place) (rest : List 
   pub size : List ℕ
   pub text_is : text ≡ (codes "RIFF" ++ size ++ codes "AVIX") ++ rest
   pub sized : length size ≡ 4
+  pub known : is_known (little_number 4 size) ≡ true
   pub room : 4 ≤ little_number 4 size
   pub fits : 8 + little_number 4 size < place.input
   pub place_is : q ≡ riff_at place (little_number 4 size)
 
+-- or one without size
+pub record FoundOpen (place : Place) (text : List ℕ) (q : Place) (rest : List ℕ) : Type 0 where
+  pub size : List ℕ
+  pub text_is : text ≡ (codes "RIFF" ++ size ++ codes "AVIX") ++ rest
+  pub sized : length size ≡ 4
+  pub unknown : is_known (little_number 4 size) ≡ false
+  pub fits : 12 < place.input
+  pub place_is : q ≡ open_at place OpenRiff (place.input - 12) 0
+
 abbrev pub Begun : Place → List ℕ → Option Place × List ℕ → Type 0
 Begun place text (None, rest) = (place.owed ≡ 0) × (begins_another text ≡ false) × (rest ≡ looked_past text)
-Begun place text (Some q, rest) = FoundRiff place text q rest
+Begun place text (Some q, rest) = FoundRiff place text q rest ⊎ FoundOpen place text q rest
 
 pub begun_sound : (place : Place) (text : List ℕ) (w : Option Place × List ℕ) → riff_begun place text ≡ Ok w → Begun place text w
 unfolding riff_begun
@@ -173,28 +194,44 @@ begun_sound place text w h =
     P : Option Place × List ℕ → Type 0
     P z = Begun place text z
 
+    sized_riff : ℕ → Reading (Option Place)
+    sized_riff n = if is_known n then riff_of_size place n else open_riff place
+
     over : (rest : List ℕ) → place.owed ≡ 0 → (begins_another text ≡ false) × (looked_past text ≡ rest) → ◌≡◌ {A = Result (Option Place × List ℕ) Stop} (Ok (None, rest)) (Ok w) → P w
     over rest none is k = subst P (ok_is (None, rest) w k) (none, is.0, sym is.1)
 
-    on_head : (bytes more : List ℕ) (a b c : Bool) → text ≡ codes "RIFF" ++ (bytes ++ more) → length bytes ≡ 8 → is_name (drop 4 bytes) (codes "AVIX") ≡ a → nat_le 4 (little_number 4 bytes) ≡ b → nat_lt (8 + little_number 4 bytes) place.input ≡ c → riff_judged place bytes more ≡ Ok w → P w
-    on_head bytes more false b c whole long p q r k = absurd (cc (rw p at k))
-    on_head bytes more true false c whole long p q r k = absurd (cc (rw (p, q) at k))
-    on_head bytes more true true false whole long p q r k = absurd (cc (rw (p, q, r) at k))
-    on_head bytes more true true true whole long p q r k =
+    regrouped : (a b c d : List ℕ) → a ++ ((b ++ c) ++ d) ≡ ((a ++ b) ++ c) ++ d
+    regrouped a b c d = simp append_assoc
+
+    on_open : (bytes size more : List ℕ) (b : Bool) → text ≡ (codes "RIFF" ++ size ++ codes "AVIX") ++ more → length size ≡ 4 → is_known (little_number 4 size) ≡ false → nat_lt 12 place.input ≡ b → open_riff place more ≡ Ok w → P w
+    on_open bytes size more false here sized unknown q k = absurd (cc (rw q at k))
+    on_open bytes size more true here sized unknown q k =
+        let made = open_at place OpenRiff (place.input - 12) 0 in
+        let found : FoundOpen place text made more = record { size = size; text_is = here; sized = sized; unknown = unknown; fits = ltb-true _ _ q; place_is = refl } in
+        subst P (ok_is (Some made, more) w (rw q at k)) (inr found)
+
+    on_size : (size more : List ℕ) (b c : Bool) → text ≡ (codes "RIFF" ++ size ++ codes "AVIX") ++ more → length size ≡ 4 → is_known (little_number 4 size) ≡ true → nat_le 4 (little_number 4 size) ≡ b → nat_lt (8 + little_number 4 size) place.input ≡ c → riff_of_size place (little_number 4 size) more ≡ Ok w → P w
+    on_size size more false c here sized known q r k = absurd (cc (rw q at k))
+    on_size size more true false here sized known q r k = absurd (cc (rw (q, r) at k))
+    on_size size more true true here sized known q r k =
+        let made = riff_at place (little_number 4 size) in
+        let found : FoundRiff place text made more = record { size = size; text_is = here; sized = sized; known = known; room = leb-true _ _ q; fits = ltb-true _ _ r; place_is = refl } in
+        subst P (ok_is (Some made, more) w (rw (q, r) at k)) (inl found)
+
+    on_known : (bytes size more : List ℕ) (b : Bool) → text ≡ (codes "RIFF" ++ size ++ codes "AVIX") ++ more → length size ≡ 4 → is_known (little_number 4 size) ≡ b → sized_riff (little_number 4 size) more ≡ Ok w → P w
+    on_known bytes size more true here sized p k = on_size size more (nat_le 4 (little_number 4 size)) (nat_lt (8 + little_number 4 size) place.input) here sized p refl refl (rw p at k)
+    on_known bytes size more false here sized p k = on_open bytes size more (nat_lt 12 place.input) here sized p refl (rw p at k)
+
+    on_head : (bytes more : List ℕ) (a : Bool) → text ≡ codes "RIFF" ++ (bytes ++ more) → length bytes ≡ 8 → is_name (drop 4 bytes) (codes "AVIX") ≡ a → riff_judged place bytes more ≡ Ok w → P w
+    on_head bytes more false whole long p k = absurd (cc (rw p at k))
+    on_head bytes more true whole long p k =
         let size = take 4 bytes in
         let sized : length size ≡ 4 = length-take 4 bytes ∙ (omega (arith, long)) in
         let number : little_number 4 size ≡ little_number 4 bytes = number_taken 4 bytes (omega arith) in
         let form : drop 4 bytes ≡ codes "AVIX" = same_text (drop 4 bytes) (codes "AVIX") (sym p) in
         let apart : bytes ≡ size ++ codes "AVIX" = sym (take-append-drop 4 bytes) ∙ ap (λ z. size ++ z) form in
         let here : text ≡ (codes "RIFF" ++ size ++ codes "AVIX") ++ more = whole ∙ ap (λ z. codes "RIFF" ++ (z ++ more)) apart ∙ regrouped (codes "RIFF") size (codes "AVIX") more in
-        let room : 4 ≤ little_number 4 size = rw number (leb-true _ _ q) in
-        let fits : 8 + little_number 4 size < place.input = rw number (ltb-true _ _ r) in
-        let made = riff_at place (little_number 4 bytes) in
-        let found : FoundRiff place text made more = record { size = size; text_is = here; sized = sized; room = room; fits = fits; place_is = ap (riff_at place) (sym number) } in
-        subst P (ok_is (Some made, more) w (rw (p, q, r) at k)) found
-      where
-        regrouped : (a b c d : List ℕ) → a ++ ((b ++ c) ++ d) ≡ ((a ++ b) ++ c) ++ d
-        regrouped a b c d = simp append_assoc
+        on_known bytes size more (is_known (little_number 4 size)) here sized refl (ap (λ n. sized_riff n more) number ∙ rw p at k)
 
     on_bytes : (more : List ℕ) (o : Option (List ℕ)) (behind : List ℕ) → text ≡ codes "RIFF" ++ more → taken_or_end 8 place.owed more ≡ Ok (o, behind) → or_end (riff_judged place) o behind ≡ Ok w → P w
     on_bytes more None behind whole is k =
@@ -204,7 +241,7 @@ begun_sound place text w h =
         over behind few.0 (subst Q (sym whole) (other.0, other.1 ∙ sym few.2)) k
     on_bytes more (Some bytes) behind whole is k =
         let own = some_taken 8 place.owed more bytes behind is in
-        on_head bytes behind (is_name (drop 4 bytes) (codes "AVIX")) (nat_le 4 (little_number 4 bytes)) (nat_lt (8 + little_number 4 bytes) place.input) (whole ∙ ap (λ z. codes "RIFF" ++ z) own.0) own.1 refl refl refl k
+        on_head bytes behind (is_name (drop 4 bytes) (codes "AVIX")) (whole ∙ ap (λ z. codes "RIFF" ++ z) own.0) own.1 refl k
 
     on_four : (name more : List ℕ) (a b c : Bool) → text ≡ name ++ more → length name ≡ 4 → is_name name (codes "RIFF") ≡ a → begins_file name ≡ b → (place.owed == 0) ≡ c → riff_named place name more ≡ Ok w → P w
     on_four name more true b c whole four p q r k =

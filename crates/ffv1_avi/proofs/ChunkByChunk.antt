@@ -4,19 +4,34 @@ use Rattle.std.proofs.lemmas.Bool.{ltb-false}
 use Rattle.byteorder.specs.Endian.{little_number}
 use Rattle.ffv1_avi.specs.declared.chunk.Entry.{Entry}
 use Rattle.ffv1_reads.specs.declared.fault.FileFault.{FileFault}
+use Rattle.ffv1_reads.specs.declared.fault.FileFault.TheVariants as fault
 use Rattle.ffv1_reads.specs.Reads.{Stop, Read, Reading, Refused, read_on, ◌>>=◌}
 use Rattle.ffv1_avi.specs.Padding.{padded}
-use Rattle.ffv1_avi.specs.Walk.{Rule, Visit, plain, entry_in, entry_judged, entry_of, size_in, entry_read, is_name, resumed, visited, walk, walk_in, walk_up_to}
+use Rattle.ffv1_avi.specs.Walk.{Rule, Visit, plain, entry_in, entry_judged, entry_of, size_in, sizeless_judged, sizeless_or, entry_read, is_name, is_sizeless, resumed, visited, walk, walk_in, walk_up_to}
 use Rattle.ffv1_reads.proofs.Results.{ok_is, read_on_twice, some_is}
 use Rattle.ffv1_wire.specs.Passage.{between}
 use Rattle.ffv1_reads.proofs.Answered.{Answered, answers_from, answers_last}
 use Rattle.ffv1_reads.proofs.Reading.{Goes, goes_read, goes_refused, goes_same}
 
 -- what the list has left after a chunk is less
+sizeless_less : (left : ℕ) (name text : List ℕ) (e : Entry) (rest : List ℕ) (a : Bool) → nat_lt left 12 ≡ a → sizeless_judged left name text ≡ Ok (Some e, rest) → e.left + 8 ≤ left
+sizeless_less left name text e rest true p h = absurd (cc (rw p at h))
+sizeless_less left name text e rest false p h =
+    let made : Entry = entry_of left name 0 in
+    let found : Ok (Some made, text) ≡ Ok (Some e, rest) = rw p at h in
+    let same : Some made ≡ Some e = ap (λ (z : Option Entry × List ℕ). z.0) (ok_is (Some made, text) (Some e, rest) found) in
+    let behind : made.left ≡ e.left = ap (λ (z : Entry). z.left) (some_is made e same) in
+    let room : 12 ≤ left = ltb-false _ _ p in
+    omega (arith, behind, room)
+
+fault_less : (rule : Rule) (left size : ℕ) (name text : List ℕ) (e : Entry) (rest : List ℕ) (f : FileFault) (b : Bool) → is_sizeless rule name size ≡ b → sizeless_or rule left name size f text ≡ Ok (Some e, rest) → e.left + 8 ≤ left
+fault_less rule left size name text e rest f false u h = absurd (cc (rw u at h))
+fault_less rule left size name text e rest f true u h = sizeless_less left name text e rest (nat_lt left 12) refl (rw u at h)
+
 judged_less : (rule : Rule) (left size : ℕ) (name text : List ℕ) (e : Entry) (rest : List ℕ) (a b d : Bool) → rule.bars name ≡ d → nat_lt left (8 + padded size) ≡ a → (is_name name (codes "LIST") && nat_lt size 4) ≡ b → entry_judged rule left name size text ≡ Ok (Some e, rest) → e.left + 8 ≤ left
 judged_less rule left size name text e rest a b true t p q h = absurd (cc (rw t at h))
-judged_less rule left size name text e rest true b false t p q h = absurd (cc (rw (t, p) at h))
-judged_less rule left size name text e rest false true false t p q h = absurd (cc (rw (t, p, q) at h))
+judged_less rule left size name text e rest true b false t p q h = fault_less rule left size name text e rest fault.Truncated (is_sizeless rule name size) refl (rw (t, p) at h)
+judged_less rule left size name text e rest false true false t p q h = fault_less rule left size name text e rest fault.NotAvi (is_sizeless rule name size) refl (rw (t, p, q) at h)
 judged_less rule left size name text e rest false false false t p q h =
     let made : Entry = entry_of left name (size_in rule name size) in
     let found : Ok (Some made, text) ≡ Ok (Some e, rest) = rw (t, p, q) at h in

@@ -1,5 +1,5 @@
 -- Chunks from the first movi on, by the calls of which the reading of each is made.
-use Rattle.std.proofs.Common.{◌≡◌, ◌+◌, ◌-◌, ◌%◌, ◌==◌, ◌&&◌, ◌≤◌, min, ℕ, nat_lt, Option, Some, None, List, [], ◌∷◌, ◌++◌, length, take, drop, codes, refl, ap, ◌∙◌, subst, arith}
+use Rattle.std.proofs.Common.{◌≡◌, ◌+◌, ◌-◌, ◌%◌, ◌==◌, ◌&&◌, ◌≤◌, min, ℕ, nat_lt, Option, Some, None, Ok, List, [], ◌∷◌, ◌++◌, length, take, drop, codes, refl, ap, ◌∙◌, subst, arith, append_assoc}
 use Rattle.std.proofs.lemmas.Bool.{eqb-true, ltb-false}
 use Rattle.std.proofs.lemmas.Bool.Decides.{nat_tests}
 use Rattle.byteorder.specs.Endian.{little_number}
@@ -11,19 +11,19 @@ use Rattle.std.proofs.lemmas.List.{length-append}
 use Rattle.std.specs.Io.KnownBytes.{Consumes}
 use Rattle.ffv1_wire.proofs.Bytes.{consumes_then}
 use Rattle.ffv1_reads.specs.Offsets.{ReadsCounted, ReadsWhole, all_bytes}
-use Rattle.ffv1_reads.specs.Reads.{Kept, Looked, Want, Read, Reading, Refused, given, passed, refused, taken, wanted, ◌>>=◌}
+use Rattle.ffv1_reads.specs.Reads.{Kept, Looked, Want, Read, Reading, Refused, given, passed, read_on, refused, taken, wanted, ◌>>=◌}
 use Rattle.ffv1_reads.proofs.EndRefusals.{ends_refused}
 use Rattle.ffv1_reads.proofs.OffsetLaws.{counted_given, counted_then, reads_counted}
 use Rattle.ffv1_reads.proofs.Reading.{Goes, goes_none, goes_read, goes_refused}
 use Rattle.ffv1_reads.proofs.Taking.{Takes, takes_given, takes_if, takes_passed, takes_refused, takes_same, takes_then, takes_wanted}
 use Rattle.ffv1_avi.specs.declared.chunk.Entry.{Entry}
 use Rattle.ffv1_avi.specs.declared.place.Place.{Place}
-use Rattle.ffv1_avi.specs.Files.{frame_judged, list_opened, visit_movi}
+use Rattle.ffv1_avi.specs.Opens.{frame_judged, list_opened, visit_movi}
 use Rattle.ffv1_avi.specs.Offsets.{chunk_taken, frame_taken, movi_left, movi_taken}
-use Rattle.ffv1_avi.specs.Internal.Offsets.{FrameBegins}
+use Rattle.ffv1_avi.specs.Internal.Offsets.{FrameBegins, FrameStarts}
 use Rattle.ffv1_avi.specs.Padding.{content, padded}
 use Rattle.ffv1_avi.specs.Places.{frame_at}
-use Rattle.ffv1_avi.specs.Walk.{Rule, entry_in, entry_judged, is_name}
+use Rattle.ffv1_avi.specs.Walk.{Rule, entry_in, entry_judged, is_name, is_sizeless, sizeless_judged, sizeless_or}
 use Rattle.ffv1_avi.proofs.TakenChunks.{size_fits}
 use Rattle.ffv1_avi.specs.declared.place.Names.{Names}
 use Rattle.ffv1_avi.specs.Names.{is_barred, least_bytes, most_bytes, rule_of}
@@ -46,12 +46,20 @@ entry_takes rule left =
     (λ long. (let eight : 8 ≤ left = grind (arith, nat_tests, long) in
     takes_then (taken 8) _ (takes_same _ _ (taken 8) (omega (arith, eight)) (takes_wanted Looked 8 (left - 8))) (λ head _. judged (take 4 head) (little_number 4 (drop 4 head))))))
   where
+    bare : (name : List ℕ) → Takes (Fits left) (left - 8) (left_of left) (sizeless_judged left name)
+    bare name =
+        takes_if (nat_lt left 12) (refused fault.Truncated) _ (λ _. takes_refused fault.Truncated)
+        (λ fits. (let room : 12 ≤ left = grind (arith, nat_tests, fits) in takes_given _ (omega (arith, room)) (omega (arith, room))))
+
+    faulty : (name : List ℕ) (size : ℕ) (f : FileFault) → Takes (Fits left) (left - 8) (left_of left) (sizeless_or rule left name size f)
+    faulty name size f = takes_if (is_sizeless rule name size) (sizeless_judged left name) _ (λ _. bare name) (λ _. takes_refused f)
+
     judged : (name : List ℕ) (size : ℕ) → Takes (Fits left) (left - 8) (left_of left) (entry_judged rule left name size)
     judged name size =
         takes_if (rule.bars name) (refused fault.NotAvi) _ (λ _. takes_refused fault.NotAvi)
-        (λ _. takes_if (nat_lt left (8 + padded size)) (refused fault.Truncated) _ (λ _. takes_refused fault.Truncated)
+        (λ _. takes_if (nat_lt left (8 + padded size)) (sizeless_or rule left name size fault.Truncated) _ (λ _. faulty name size fault.Truncated)
         (λ fits. (let room : 8 + padded size ≤ left = grind (arith, nat_tests, fits) in
-        takes_if (is_name name (codes "LIST") && nat_lt size 4) (refused fault.NotAvi) _ (λ _. takes_refused fault.NotAvi)
+        takes_if (is_name name (codes "LIST") && nat_lt size 4) (sizeless_or rule left name size fault.NotAvi) _ (λ _. faulty name size fault.NotAvi)
         (λ long. (let less = size_fits rule name size (λ l. ltb-false _ _ (rw l at long)) in takes_given _ (omega (arith, room, less)) (omega (arith, room, less)))))))
 
 pub entry_counted : (rule : Rule) (left : ℕ) (e : Entry) {a b : Option (List ℕ)} → Read (entry_in rule left) a b (Some e) → ReadsCounted (entry_in rule left) a b (Some e) 8
@@ -102,34 +110,45 @@ content_counted size bytes {c = c} read pad =
     counted_then (wanted Kept size) _ (reads_counted {before = size} size (takes_same (size + 0) size (wanted Kept size) (omega arith) (takes_wanted Kept size 0)) (omega arith) read)
     (counted_then (passed (size % 2)) _ (reads_counted {before = size % 2} (size % 2) (takes_same (size % 2 + 0) (size % 2) (passed (size % 2)) (omega arith) (takes_passed (size % 2) 0)) (omega arith) pad) (counted_given bytes c))
 
-pub chunk_framed : (place : Place) (e : Entry) (size left : ℕ) (bytes : List ℕ) {a b c d f : Option (List ℕ)} → Read (entry_in (rule_of place.names) place.movi) a b (Some e) → Read (visit_movi place.names tt e) b c (tt, Some (size, left)) → Read (wanted Kept size) c d bytes → Read (passed (size % 2)) d f tt →
-    ReadsCounted (chunk_taken place) a f (frame_at place left) (8 + (0 + (size + (size % 2 + 0) + 0)))
+-- a chunk of movi that is a frame starts so
+pub begins_starts : (to : Place) (size left : ℕ) (old now : Option (List ℕ)) → FrameBegins to old now (size, left) → FrameStarts to old now size (frame_at to left)
 unfolding chunk_taken
-chunk_framed place e size left bytes {f = f} header visit read pad =
-    let same = ((visit_takes place.names e).only _ _ _ (visit.is [])).0 in
-    let long : size ≡ e.size = ap (λ (z : ℕ × ℕ). z.0) same in
-    counted_then (entry_in (rule_of place.names) place.movi) (movi_taken place) (entry_counted (rule_of place.names) place.movi e header)
-    (counted_then (visit_movi place.names tt e) (λ p. frame_taken place e.left p.1) (reads_counted {x = (tt {0}, Some (size, left))} 0 (visit_takes place.names e) (omega arith) visit)
-    (counted_then (content Kept size) _ (content_counted size bytes read pad) (counted_given (frame_at place left) f)))
+begins_starts to size left old now h =
+    let header = entry_counted (rule_of to.names) to.movi h.entry h.header in
+    let visit = reads_counted {x = (tt {0}, Some (size, left))} 0 (visit_takes to.names h.entry) (omega arith) h.visit in
+    let none : visit.bytes ≡ [] = no_bytes visit.bytes visit.counted in
+    record { bytes = header.bytes ++ visit.bytes; consumed = consumes_then old h.between now header.bytes visit.bytes header.consumed visit.consumed; is = λ rest. leads header.bytes visit.bytes header.is visit.is rest; counted = omega (arith, length-append header.bytes visit.bytes, header.counted, visit.counted) }
+  where
+    no_bytes : (xs : List ℕ) → length xs ≡ 0 → xs ≡ []
+    no_bytes [] h = refl
+    no_bytes (x ∷ xs) h = absurd (omega (arith, h))
 
-frame_reached : (to : Place) (size left : ℕ) (old now : Option (List ℕ)) (before : ℕ) → FrameBegins to old now (size, left) → Goes (chunk_taken to) old before (content Kept size >>= λ bytes. given (frame_at to left)) now before
-unfolding chunk_taken
-frame_reached to size left old now before h =
-    goes_read (visit_movi to.names tt h.entry) (λ p. frame_taken to h.entry.left p.1) now before (tt, Some (size, left))
-    (goes_read (entry_in (rule_of to.names) to.movi) (movi_taken to) h.between before (Some h.entry) (goes_none (chunk_taken to) old before) (refl, h.header)) (refl, h.visit)
+    leads : (a b : List ℕ) → ((rest : List ℕ) → entry_in (rule_of to.names) to.movi (a ++ rest) ≡ Ok (Some h.entry, rest)) → ((rest : List ℕ) → visit_movi to.names tt h.entry (b ++ rest) ≡ Ok ((tt, Some (size, left)), rest)) → (rest : List ℕ) → chunk_taken to ((a ++ b) ++ rest) ≡ (content Kept size >>= λ bytes. given (frame_at to left)) rest
+    leads a b one two rest =
+        ap (chunk_taken to) (append_assoc a b rest)
+        ∙ ap (λ z. read_on z (movi_taken to)) (one (b ++ rest))
+        ∙ ap (λ z. read_on z (λ p. frame_taken to h.entry.left p.1)) (two rest)
 
-frame_ends : (to : Place) (size left : ℕ) (old now new : Option (List ℕ)) (before last : ℕ) (f : FileFault) → FrameBegins to old now (size, left) → Refused (content Kept size) now new before last f → RefusedOrEnds (chunk_taken to) old new before last f
-frame_ends to size left old now new before last f h why = ends_refused (content Kept size) (λ bytes. given (frame_at to left)) new last f (frame_reached to size left old now before h) why
+pub chunk_started : (to : Place) (size : ℕ) (next : Place) (bytes : List ℕ) {b c d e : Option (List ℕ)} → FrameStarts to b c size next → Read (wanted Kept size) c d bytes → Read (passed (size % 2)) d e tt → ReadsCounted (chunk_taken to) b e next (8 + (size + (size % 2 + 0) + 0))
+chunk_started to size next bytes {b = b} {c = c} {d = d} {e = e} starts read pad =
+    let body = content_counted size bytes read pad in
+    record { bytes = starts.bytes ++ body.bytes; consumed = consumes_then b c e starts.bytes body.bytes starts.consumed body.consumed; is = λ rest. ap (chunk_taken to) (append_assoc starts.bytes body.bytes rest) ∙ starts.is (body.bytes ++ rest) ∙ ap (λ z. read_on z (λ bytes. given next)) (body.is rest); counted = omega (arith, length-append starts.bytes body.bytes, starts.counted, body.counted) }
 
-pub fill_refused : (to : Place) (size left : ℕ) (old now new : Option (List ℕ)) (before mid last : ℕ) (f : FileFault) → FrameBegins to old now (size, left) → mid ≡ before → Refused (wanted Kept size) now new mid last f → RefusedOrEnds (chunk_taken to) old new before last f
-fill_refused to size left old now new before mid last f h same why =
-    frame_ends to size left old now new before last f h
+frame_reached : (to : Place) (size : ℕ) (next : Place) (old now : Option (List ℕ)) (before : ℕ) → FrameStarts to old now size next → Goes (chunk_taken to) old before (content Kept size >>= λ bytes. given next) now before
+frame_reached to size next old now before h = record { bytes = h.bytes; consumed = h.consumed; leads = h.is; same = refl }
+
+frame_ends : (to : Place) (size : ℕ) (next : Place) (old now new : Option (List ℕ)) (before last : ℕ) (f : FileFault) → FrameStarts to old now size next → Refused (content Kept size) now new before last f → RefusedOrEnds (chunk_taken to) old new before last f
+frame_ends to size next old now new before last f h why = ends_refused (content Kept size) (λ bytes. given next) new last f (frame_reached to size next old now before h) why
+
+pub fill_refused : (to : Place) (size : ℕ) (next : Place) (old now new : Option (List ℕ)) (before mid last : ℕ) (f : FileFault) → FrameStarts to old now size next → mid ≡ before → Refused (wanted Kept size) now new mid last f → RefusedOrEnds (chunk_taken to) old new before last f
+fill_refused to size next old now new before mid last f h same why =
+    frame_ends to size next old now new before last f h
     (subst (λ n. Refused (content Kept size) now new n last f) same (goes_refused (wanted Kept size) (λ bytes. passed (size % 2) >>= λ _. given bytes) new last f (goes_none (content Kept size) now mid) why))
 
-pub pad_refused : (to : Place) (size left : ℕ) (bytes : List ℕ) (old now between new : Option (List ℕ)) (before mid after last : ℕ) (f : FileFault) → FrameBegins to old now (size, left) → mid ≡ before → (after ≡ mid) × Read (wanted Kept size) now between bytes → Refused (passed (size % 2)) between new after last f →
+pub pad_refused : (to : Place) (size : ℕ) (next : Place) (bytes : List ℕ) (old now between new : Option (List ℕ)) (before mid after last : ℕ) (f : FileFault) → FrameStarts to old now size next → mid ≡ before → (after ≡ mid) × Read (wanted Kept size) now between bytes → Refused (passed (size % 2)) between new after last f →
     RefusedOrEnds (chunk_taken to) old new before last f
-pad_refused to size left bytes old now between new before mid after last f h same read why =
-    frame_ends to size left old now new before last f h
+pad_refused to size next bytes old now between new before mid after last f h same read why =
+    frame_ends to size next old now new before last f h
     (subst (λ n. Refused (content Kept size) now new n last f) same (goes_refused (passed (size % 2)) (λ _. given bytes) new last f (goes_read (wanted Kept size) (λ bytes. passed (size % 2) >>= λ _. given bytes) between after bytes (goes_none (content Kept size) now mid) read) why))
 
 -- that was refused

@@ -8,7 +8,8 @@ use Rattle.ffv1_avi.specs.Files.{frame_read}
 use Rattle.ffv1_avi.specs.Names.{is_barred, is_frame, least_bytes}
 use Rattle.ffv1_avi.specs.Places.{frame_at}
 use Rattle.ffv1_avi.specs.Walk.{is_name}
-use Rattle.ffv1_avi.proofs.FrameLaws.{frame_next, movi_read, movi_there}
+use Rattle.ffv1_avi.proofs.FrameLaws.{frame_next, movi_read}
+use Rattle.ffv1_avi.proofs.MoviFrames.{movi_there}
 use Rattle.ffv1_avi.proofs.OpenedLists.{list_no_frame}
 
 -- a size of none

@@ -130,3 +130,17 @@ read_extent d e reading old new x is h = let P : Extent → Type 0 = λ z. ReadO
 pub none_err : {X Y : Type 0} (extent : Extent) (f : FileFault) (view : Y → Option X) (reading : Reading (Option X)) (p : Passage) (result : Result Y FileFault) → IsErrAnd result (λ e. e ≡ f) → RefusedOrNone extent reading p.old p.new p.before p.after f → AnswersOrNone extent view reading p result
 none_err extent f view reading p (Ok y) out why = absurd out
 none_err extent f view reading p (Err e) out why = rw out why
+
+-- a reading that does not end with the input was refused, or answers, as the last one
+pub refused_whole : {X : Type 0} (extent : Extent) {whole : Reading (Option X)} {old now : Option (List ℕ)} {before after : ℕ} (r : Reading (Option X)) (new : Option (List ℕ)) (last : ℕ) (f : FileFault) →
+    Goes whole old before r now after → Refused r now new after last f → RefusedOrNone extent whole old new before last f
+refused_whole {X = X} extent {whole = whole} {old = old} {now = now} {before = before} {after = after} r new last f h why = none_refused extent r (λ x. given x) new last f (goes_same r (r >>= λ x. given x) (λ text. again (r text)) h) why
+  where
+    again : (z : Result (Option X × List ℕ) Stop) → z ≡ read_on z (λ x. given x)
+    again (Ok p) = refl
+    again (Err why) = refl
+
+pub whole_read : {X : Type 0} (extent : Extent) {whole : Reading (Option X)} {old now : Option (List ℕ)} {before after : ℕ} (r : Reading (Option X)) (new : Option (List ℕ)) (last : ℕ) (x : Option X) →
+    Goes whole old before r now after → (last ≡ after) × Read r now new x → (last ≡ before) × ReadOrNone extent whole old new x
+whole_read extent {whole = whole} {old = old} {now = now} r new last x h (same, read) =
+    (same ∙ h.same, inl (record { bytes = h.bytes ++ read.bytes; consumed = consumes_then old now new h.bytes read.bytes h.consumed read.consumed; is = λ more. ap whole (append_assoc h.bytes read.bytes more) ∙ h.leads (read.bytes ++ more) ∙ read.is more }))

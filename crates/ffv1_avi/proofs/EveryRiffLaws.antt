@@ -15,7 +15,8 @@ use Rattle.ffv1_avi.specs.Places.{most_input}
 use Rattle.ffv1_reads.specs.Reads.{Stop, given, read_on, ◌>>=◌}
 use Rattle.ffv1_avi.specs.Riffs.{AreRiffs, AreSections, Riff, RiffFile, Section, is_total, movis, names_of, riff_movis, riff_text, riffs_text, sections_text, total}
 use Rattle.ffv1_avi.proofs.BegunRiffs.{few_other}
-use Rattle.ffv1_avi.proofs.FrameLaws.{frames_after, movi_frames, placed}
+use Rattle.ffv1_avi.proofs.FrameLaws.{frames_after, placed}
+use Rattle.ffv1_avi.proofs.MoviFrames.{movi_frames}
 use Rattle.ffv1_avi.proofs.HeaderRuns.{Counts, Heads, counts_found, heads}
 use Rattle.ffv1_avi.proofs.LaterFrames.{Framed, after_end, behind_over, frames_behind, frames_both, frames_in, framed_apart, in_riff, preceded, preceded_both, riffs_read, sections_read}
 use Rattle.ffv1_avi.proofs.OpenLaws.{open_complete}
@@ -32,7 +33,7 @@ framed_own names chunks frames h =
     subst P (sym h.those_of) h
 
 -- the frames of a movi, of what is after it in RIFF, and of RIFFs, and those after them
-place_read : (input : ℕ) (names : Names) (owed : ℕ) (chunks : List Chunk) (sections : List Section) (riffs : List Riff) (rest : List ℕ) → AreSections names sections → AreRiffs names riffs → length (riffs_text riffs) < input → Fit 0 chunks → Framed names (chunks ++ (movis sections ++ riff_movis riffs)) →
+pub place_read : (input : ℕ) (names : Names) (owed : ℕ) (chunks : List Chunk) (sections : List Section) (riffs : List Riff) (rest : List ℕ) → AreSections names sections → AreRiffs names riffs → length (riffs_text riffs) < input → Fit 0 chunks → Framed names (chunks ++ (movis sections ++ riff_movis riffs)) →
     frames_read (placed (in_riff input names (length (sections_text sections)) 0) (length (chunks_text chunks)) owed) (chunks_text chunks ++ (sections_text sections ++ (riffs_text riffs ++ rest)))
     ≡ preceded (frames_in names (chunks ++ (movis sections ++ riff_movis riffs))) (frames_behind (in_riff (input - length (riffs_text riffs)) names 0 (owed - length (frames_in names (chunks ++ (movis sections ++ riff_movis riffs))))) rest)
 place_read input names owed chunks sections riffs rest sections_are riffs_are fits fit framed =
@@ -99,7 +100,7 @@ file_opened {head = head} {frames = frames} is rest =
     let left = length (sections_text is.sections) in
     let framed = framed_apart (names_in is) is.chunks (movis is.sections ++ riff_movis is.riffs) (file_framed is) in
     let even = taken_even true is.chunks framed.0.each in
-    let opened = open_complete EveryRiff is.riff_size is.parts is.movi_size left known.known head rest is.riff_sized is.movi_sized (omega (arith, is.counted)) (omega (arith, is.filled, is.counted, even)) is.each known.run known.head_is in
+    let opened = open_complete EveryRiff is.riff_size is.parts is.movi_size left known.known head rest is.riff_sized is.movi_sized (omega (arith, is.counted)) (λ e. is.riff_known) (omega (arith, is.filled, is.counted, even)) is.each known.run known.head_is in
     let room : size - 4 ≡ length (chunks_text is.chunks) = omega (arith, is.counted) in
     let owes : owed known.known.frames ≡ total is.extended = ap owed known.frames_are ∙ owed_total (first_of (those is_total (all_of is.extended))) in
     let streams_are = run_counted (flat_map header_chunks is.parts) no_headers known.known (omega arith) known.run in
@@ -111,21 +112,20 @@ file_opened {head = head} {frames = frames} is rest =
     ∙ ap (λ n. made (length (chunks_text is.chunks)) (names_in is) n) owes
 
 -- what is known of the RIFFs up to the edge of one
-pub file_before : {file : List ℕ} {head : Head} {frames : List (List ℕ)} (is : RiffFile file head frames) (before after : List Riff) → is.riffs ≡ before ++ after →
-    AreRiffs (names_in is) before × (length (riffs_text before) < most_input) × Framed (names_in is) (is.chunks ++ (movis is.sections ++ riff_movis before))
-file_before is before after parted =
-    let n = names_in is in
+pub riffs_before : (n : Names) (chunks : List Chunk) (sections : List Section) (riffs before after : List Riff) → riffs ≡ before ++ after → AreRiffs n riffs → length (riffs_text riffs) < most_input → Framed n (chunks ++ (movis sections ++ riff_movis riffs)) →
+    AreRiffs n before × (length (riffs_text before) < most_input) × Framed n (chunks ++ (movis sections ++ riff_movis before))
+riffs_before n chunks sections riffs before after parted riffs_are fewer_are framed_are =
     let P : List Riff → Type 0 = λ z. AreRiffs n z in
-    let are = riffs_apart n before after (subst P parted is.riffs_are) in
+    let are = riffs_apart n before after (subst P parted riffs_are) in
     let Q : List Riff → Type 0 = λ z. length (riffs_text z) < most_input in
-    let bounded : length (riffs_text (before ++ after)) < most_input = subst Q parted is.bounded in
+    let bounded : length (riffs_text (before ++ after)) < most_input = subst Q parted fewer_are in
     let apart : riffs_text (before ++ after) ≡ riffs_text before ++ riffs_text after = flat_map-append riff_text before after in
     let fits : length (riffs_text before) < most_input = fewer (length (riffs_text before)) (length (riffs_text after)) (length (riffs_text (before ++ after))) most_input (ap length apart ∙ length-append (riffs_text before) (riffs_text after)) bounded in
-    let movis_are : riff_movis is.riffs ≡ riff_movis before ++ riff_movis after = ap riff_movis parted ∙ flat_map-append (λ (r : Riff). movis r.sections) before after in
+    let movis_are : riff_movis riffs ≡ riff_movis before ++ riff_movis after = ap riff_movis parted ∙ flat_map-append (λ (r : Riff). movis r.sections) before after in
     let R : List Chunk → Type 0 = λ z. Framed n z in
-    let whole : is.chunks ++ (movis is.sections ++ riff_movis is.riffs) ≡ (is.chunks ++ (movis is.sections ++ riff_movis before)) ++ riff_movis after =
-    ap (λ z. is.chunks ++ (movis is.sections ++ z)) movis_are ∙ in_a_row is.chunks (movis is.sections) (riff_movis before) (riff_movis after) in
-    let framed = framed_apart n (is.chunks ++ (movis is.sections ++ riff_movis before)) (riff_movis after) (subst R whole (file_framed is)) in
+    let whole : chunks ++ (movis sections ++ riff_movis riffs) ≡ (chunks ++ (movis sections ++ riff_movis before)) ++ riff_movis after =
+    ap (λ z. chunks ++ (movis sections ++ z)) movis_are ∙ in_a_row chunks (movis sections) (riff_movis before) (riff_movis after) in
+    let framed = framed_apart n (chunks ++ (movis sections ++ riff_movis before)) (riff_movis after) (subst R whole framed_are) in
     (are.0, fits, framed.0)
   where
     riffs_apart : (names : Names) (xs ys : List Riff) → AreRiffs names (xs ++ ys) → AreRiffs names xs × AreRiffs names ys
@@ -137,6 +137,10 @@ file_before is before after parted =
 
     in_a_row : (a b c d : List Chunk) → a ++ (b ++ (c ++ d)) ≡ (a ++ (b ++ c)) ++ d
     in_a_row a b c d = simp append_assoc
+
+pub file_before : {file : List ℕ} {head : Head} {frames : List (List ℕ)} (is : RiffFile file head frames) (before after : List Riff) → is.riffs ≡ before ++ after →
+    AreRiffs (names_in is) before × (length (riffs_text before) < most_input) × Framed (names_in is) (is.chunks ++ (movis is.sections ++ riff_movis before))
+file_before is before after parted = riffs_before (names_in is) is.chunks is.sections is.riffs before after parted is.riffs_are is.bounded (file_framed is)
 
 -- a file is read up to the edge of an RIFF, and what is after that
 pub file_to : {file : List ℕ} {head : Head} {frames : List (List ℕ)} (is : RiffFile file head frames) (before after : List Riff) (rest : List ℕ) → is.riffs ≡ before ++ after →

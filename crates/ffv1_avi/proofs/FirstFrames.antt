@@ -4,10 +4,10 @@ use Rattle.std.proofs.lemmas.Bool.{eqb-true}
 use Rattle.ffv1_reads.specs.Reads.{Kept, Reading, Stop, given, read_on, ◌>>=◌}
 use Rattle.ffv1_avi.specs.declared.place.Extent.TheVariants.{FirstMovi, EveryRiff}
 use Rattle.ffv1_avi.specs.declared.place.Place.{Place}
-use Rattle.ffv1_avi.specs.Files.{found_or_on, found_read, frame_found, frame_read, movi_found, sought_on}
+use Rattle.ffv1_avi.specs.Files.{found_or_on, found_read, frame_found, frame_read, movi_found}
 use Rattle.ffv1_avi.specs.Padding.{content}
 use Rattle.ffv1_avi.specs.Places.{extent_of, frame_at}
-use Rattle.ffv1_avi.proofs.Moves.{frame_step, moved_first}
+use Rattle.ffv1_avi.proofs.Moves.{beyond_first, frame_step}
 
 abbrev pub first_framed : Place → Option (ℕ × ℕ) → Reading (Option (List ℕ × Place))
 first_framed place None = given None
@@ -29,4 +29,4 @@ first_is place none text = ap (λ z. read_on z found_read) (frame_step place tex
     on_found : (z : Result (Option (ℕ × ℕ) × List ℕ) Stop) → read_on (read_on z (found_or_on frame_found place)) found_read ≡ read_on z (first_framed place)
     on_found (Err why) = refl
     on_found (Ok (Some p, rest)) = refl
-    on_found (Ok (None, rest)) = ap (λ z. read_on (read_on z (sought_on frame_found)) found_read) (moved_first place none rest)
+    on_found (Ok (None, rest)) = ap (λ z. read_on z found_read) (beyond_first place.open_in frame_found place none rest)

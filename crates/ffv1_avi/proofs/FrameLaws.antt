@@ -1,31 +1,32 @@
 -- The frames of a movi.
-use Rattle.std.proofs.Common.{codes, ◌≡◌, ℕ, suc, zero, ◌+◌, ◌-◌, ◌%◌, ◌≤◌, ◌<◌, nat_lt, Bool, true, false, Option, Some, None, Result, Ok, Err, List, [], ◌∷◌, ◌++◌, length, map, ap, ◌∙◌, sym, subst, arith, refl, append_assoc, append-nil, length-append}
-use Rattle.std.proofs.lemmas.Bool.{ltb-false, le-ltb}
+use Rattle.std.proofs.Common.{codes, ◌≡◌, ℕ, suc, zero, ◌+◌, ◌-◌, ◌%◌, ◌≤◌, ◌<◌, nat_lt, Bool, true, false, Option, Some, None, Result, Ok, Err, List, [], ◌∷◌, ◌++◌, length, map, ap, ◌∙◌, sym, subst, arith, refl, append_assoc, length-append}
+use Rattle.std.proofs.lemmas.Bool.{ltb-false}
 use Rattle.std.proofs.lemmas.Grind.{flat_map-append}
 use Rattle.byteorder.specs.Endian.{little_number}
 use Rattle.ffv1_avi.specs.declared.chunk.Entry.{Entry}
-use Rattle.ffv1_avi.specs.Chunks.{AreFrames, AreTaken, AreWithin, Chunk, Fit, IsChunk, chunk_text, chunks_text, those}
+use Rattle.ffv1_avi.specs.Chunks.{AreFrames, AreTaken, Chunk, Fit, IsChunk, chunk_text, chunks_text, those}
 use Rattle.ffv1_avi.specs.declared.place.Extent.{Extent}
 use Rattle.ffv1_avi.specs.declared.place.Extent.TheVariants.{FirstMovi, EveryRiff}
 use Rattle.ffv1_avi.specs.declared.place.Place.{Place}
-use Rattle.ffv1_avi.specs.Files.{found_or_on, found_read, frame_found, frame_read, frames_read, list_opened, more_frames, moved, moved_by, movi_found, movi_or_riff, movi_sought, riff_begun, sought_on, visit_movi}
-use Rattle.ffv1_avi.specs.Places.{extent_of, first_place, frame_at}
+use Rattle.ffv1_avi.specs.Files.{beyond, stepped, found_or_on, found_read, frame_found, frame_read, frames_read, more_frames, moved, moved_by, movi_found, movi_or_riff, movi_sought, riff_begun, sought_on}
+use Rattle.ffv1_avi.specs.Opens.{Step, list_opened, open_found, open_named, visit_movi}
+use Rattle.ffv1_avi.specs.declared.place.Open.{Open}
+use Rattle.ffv1_avi.specs.declared.place.Open.TheVariants.{Sized, OpenRiff, OpenMovi}
+use Rattle.ffv1_avi.specs.Places.{extent_of, frame_at}
 use Rattle.ffv1_reads.specs.Reads.{Kept, Looked, Reading, Stop, given, passed, read_on, ◌>>=◌}
 use Rattle.ffv1_avi.specs.Padding.{content, padded}
-use Rattle.ffv1_avi.specs.Walk.{entry_in, entry_of, is_name, resumed, visited, walk_in}
-use Rattle.ffv1_avi.proofs.ListWalks.{Complete, Ended, IsPassed, Run, Sound, Stands, Taking, entry_complete_in, walk_complete_in, walk_sound_in}
+use Rattle.ffv1_avi.specs.Walk.{is_name, walk_in}
+use Rattle.ffv1_avi.proofs.ListWalks.{Complete, Ended, IsPassed, Run, Sound, Stands, Taking, halting, headed_entry, walk_sound_in}
 use Rattle.ffv1_avi.proofs.Fields.{skipped_passed}
 use Rattle.ffv1_avi.proofs.PassedBytes.{content_complete, content_sound, skip_complete}
 use Rattle.ffv1_reads.proofs.Results.{read_on_ok}
 use Rattle.ffv1_avi.proofs.FrameTurns.{frames_step}
-use Rattle.ffv1_avi.proofs.Moves.{frame_step, moved_first, movi_empty}
+use Rattle.ffv1_avi.proofs.Moves.{frame_step}
 use Rattle.ffv1_reads.proofs.Results.{ok_is, some_is}
-use Rattle.ffv1_avi.proofs.ChunkByChunk.{walk_step_in}
 use Rattle.ffv1_avi.specs.declared.place.Names.{Names}
-use Rattle.ffv1_reads.specs.Head.{limit}
 use Rattle.ffv1_avi.specs.Names.{bars, is_barred, least_bytes, most_bytes, opens, rule_of}
-use Rattle.ffv1_avi.proofs.OpenedLists.{IsRec, barred_name, chunk_beside, frame_chunk, frame_no_list, name_stands, opened_sound, rec_stands, size_whole, stands_rec}
-use Rattle.ffv1_avi.proofs.TakenChunks.{IsTaken, chunk_fits, chunks_fit, fit_both, fit_first, taken_both, taken_first, taken_more, taken_one}
+use Rattle.ffv1_avi.proofs.OpenedLists.{IsRec, chunk_beside, frame_no_list, name_stands, opened_sound, rec_stands, size_whole}
+use Rattle.ffv1_avi.proofs.TakenChunks.{chunk_fits, fit_both, taken_both, taken_more}
 use Rattle.ffv1_avi.specs.Names.{is_frame}
 use Rattle.ffv1_avi.specs.Chunks.{barred_in}
 use Rattle.ffv1_avi.specs.Chunks.{frame_in}
@@ -41,7 +42,7 @@ M = (Unit {0} × Option (ℕ × ℕ)) × List ℕ
 no_some : {X : Type 0} (x : X) → ◌≡◌ {A = Option X} (Some x) None → ⊥
 no_some x e = absurd (cc)
 
-movi_sound : (names : Names) → Sound (visit_movi names) (TakesMovi names)
+pub movi_sound : (names : Names) → Sound (visit_movi names) (TakesMovi names)
 unfolding visit_movi
 movi_sound names s e text t rest listed h = on_names (is_barred names e.name) (is_frame names e.name) (nat_lt (most_bytes names) e.size) (nat_lt e.size (least_bytes names)) refl refl refl refl h
   where
@@ -89,7 +90,7 @@ pub record IsFrame (names : Names) (e : Entry) (text : List ℕ) (y : ℕ × ℕ
   pub left : y.1 ≡ e.left
   pub behind : text ≡ rest
 
-movi_stop : (names : Names) (s : Unit {0}) (e : Entry) (text : List ℕ) (t : Unit {0}) (y : ℕ × ℕ) (rest : List ℕ) → visit_movi names s e text ≡ Ok ((t, Some y), rest) → IsFrame names e text y rest
+pub movi_stop : (names : Names) (s : Unit {0}) (e : Entry) (text : List ℕ) (t : Unit {0}) (y : ℕ × ℕ) (rest : List ℕ) → visit_movi names s e text ≡ Ok ((t, Some y), rest) → IsFrame names e text y rest
 unfolding visit_movi
 movi_stop names s e text t y rest h = on_names (is_barred names e.name) (is_frame names e.name) (nat_lt (most_bytes names) e.size) (nat_lt e.size (least_bytes names)) refl refl refl refl h
   where
@@ -155,7 +156,7 @@ unfolding movi_found
 movi_read_sound names left text w h =
     let first = read_on_ok (movi_found names left text) movi_frame w h in
     let second = read_on_ok (walk_in (rule_of names) (visit_movi names) left tt text) (λ p. given p.1) first.0 first.1 in
-    let walked = walk_sound_in (rule_of names) (visit_movi names) (TakesMovi names) (movi_sound names) left tt text second.0 second.1 in
+    let walked = walk_sound_in (rule_of names) (visit_movi names) (TakesMovi names) (movi_sound names) (halting (rule_of names) (visit_movi names) refl) left tt text second.0 second.1 in
     let same = ok_is (second.0.0.1, second.0.1) first.0 second.2 in
     let Q : Option (ℕ × ℕ) × List ℕ → Type 0 = λ z. movi_frame z.0 z.1 ≡ Ok w in
     on_end second.0.0.1 second.0.1 walked.chunks walked.behind walked.after walked.text_is walked.each walked.fit walked.long walked.run walked.end (subst Q (sym same) first.2)
@@ -168,7 +169,7 @@ movi_read_sound names left text w h =
         subst P (ok_is (None, more) w k) here
     on_end (Some y) more chunks behind after whole each fit long run end k =
         let e = end.0 in
-        let entry = end.2 in
+        let entry = headed_entry refl end.2 in
         let is = movi_stop names tt e end.1 tt y more end.3 in
         let third = read_on_ok (content Kept y.0 more) (λ bytes. given (Some (bytes, y.1))) w k in
         let c = content_sound Kept y.0 more third.0 third.1 in
@@ -203,12 +204,12 @@ no_frames : (names : Names) (cs : List Chunk) → Run (TakesMovi names) tt cs tt
 no_frames names [] run = (refl, refl)
 no_frames names (c ∷ cs) run = let more = no_frames names cs run.2 in (rw (rec_stands names c run.1.0 run.1.2) more.0, rw run.1.1 more.1)
 
-none_framed : (names : Names) (cs : List Chunk) → AreTaken (opens names) cs → Run (TakesMovi names) tt cs tt → AreFrames names cs []
+pub none_framed : (names : Names) (cs : List Chunk) → AreTaken (opens names) cs → Run (TakesMovi names) tt cs tt → AreFrames names cs []
 none_framed names cs each run =
     let none = no_frames names cs run in
     record { each = each; none_barred = none.0; those_of = ap (map (λ (c : Chunk). c.bytes)) none.1; sized = tt }
 
-frames_more : (names : Names) (before behind : List Chunk) (c : Chunk) (frames : List (List ℕ)) → AreTaken (opens names) before → Run (TakesMovi names) tt before tt → IsChunk c → barred_in names c ≡ false → frame_in names c ≡ true → length c.bytes ≤ most_bytes names → least_bytes names ≤ length c.bytes →
+pub frames_more : (names : Names) (before behind : List Chunk) (c : Chunk) (frames : List (List ℕ)) → AreTaken (opens names) before → Run (TakesMovi names) tt before tt → IsChunk c → barred_in names c ≡ false → frame_in names c ≡ true → length c.bytes ≤ most_bytes names → least_bytes names ≤ length c.bytes →
     AreFrames names behind frames → AreFrames names (before ++ c ∷ behind) (c.bytes ∷ frames)
 frames_more names before behind c frames each run is list named short some more =
     let none = no_frames names before run in
@@ -222,12 +223,23 @@ abbrev pub frames_on : Option Place → Reading (List (List ℕ))
 frames_on None = given []
 frames_on (Some p) = frames_read p
 
+-- and after a step in an RIFF or a movi without size
+abbrev pub frames_stepped : Option Step → Reading (List (List ℕ))
+frames_stepped None = given []
+frames_stepped (Some (None, p)) = frames_read p
+frames_stepped (Some (Some size, p)) = found_read (Some (size, p)) >>= more_frames frames_read
+
+abbrev pub frames_beyond : Open → Place → Reading (List (List ℕ))
+frames_beyond Sized place = moved place >>= frames_on
+frames_beyond OpenRiff place = open_found place >>= frames_stepped
+frames_beyond OpenMovi place = open_found place >>= frames_stepped
+
 abbrev pub frames_after : Place → Reading (List (List ℕ))
-frames_after place = moved place >>= frames_on
+frames_after place = frames_beyond place.open_in place
 
 -- a position at which movi has so many bytes left, and so many frames are owed
 abbrev pub placed : Place → ℕ → ℕ → Place
-placed place movi owed = record { input = place.input; riff = place.riff; movi = movi; names = place.names; owed = owed }
+placed place movi owed = record { input = place.input; riff = place.riff; movi = movi; names = place.names; owed = owed; open_in = place.open_in }
 
 -- what is after a movi does not depend on its bytes
 begun_same : (place : Place) (movi : ℕ) (text : List ℕ) → riff_begun place text ≡ riff_begun (placed place movi place.owed) text
@@ -247,22 +259,60 @@ pub moved_same : (place : Place) (movi owed : ℕ) → place.owed ≡ owed → (
 unfolding moved
 moved_same place movi owed is text = moved_by_same (extent_of place) place movi text ∙ ap (λ n. moved_by (extent_of place) (placed place movi n) text) is
 
-found_same : (place : Place) (movi : ℕ) (z : Result (Option (ℕ × ℕ) × List ℕ) Stop) → read_on z (found_or_on frame_found place) ≡ read_on z (found_or_on frame_found (placed place movi place.owed))
+open_same_at : (place : Place) (movi : ℕ) (text : List ℕ) → open_found place text ≡ open_found (placed place movi place.owed) text
+unfolding open_found open_named
+open_same_at place movi text = refl
+
+open_same : (place : Place) (movi owed : ℕ) → place.owed ≡ owed → (text : List ℕ) → open_found place text ≡ open_found (placed place movi owed) text
+open_same place movi owed is text = open_same_at place movi text ∙ ap (λ n. open_found (placed place movi n) text) is
+
+beyond_same : (o : Open) (place : Place) (movi owed : ℕ) → place.owed ≡ owed → (text : List ℕ) → frames_beyond o place text ≡ frames_beyond o (placed place movi owed) text
+beyond_same Sized place movi owed is text = ap (λ z. read_on z frames_on) (moved_same place movi owed is text)
+beyond_same OpenRiff place movi owed is text = ap (λ z. read_on z frames_stepped) (open_same place movi owed is text)
+beyond_same OpenMovi place movi owed is text = ap (λ z. read_on z frames_stepped) (open_same place movi owed is text)
+
+pub after_same : (place : Place) (movi owed : ℕ) → place.owed ≡ owed → (text : List ℕ) → frames_after place text ≡ frames_after (placed place movi owed) text
+after_same place movi owed is text = beyond_same place.open_in place movi owed is text
+
+found_beyond : (o : Open) (place : Place) (movi : ℕ) (text : List ℕ) → beyond o frame_found place text ≡ beyond o frame_found (placed place movi place.owed) text
+found_beyond Sized place movi text = ap (λ z. read_on z (sought_on frame_found)) (moved_same place movi place.owed refl text)
+found_beyond OpenRiff place movi text = ap (λ z. read_on z (stepped frame_found)) (open_same place movi place.owed refl text)
+found_beyond OpenMovi place movi text = ap (λ z. read_on z (stepped frame_found)) (open_same place movi place.owed refl text)
+
+pub found_same : (place : Place) (movi : ℕ) (z : Result (Option (ℕ × ℕ) × List ℕ) Stop) → read_on z (found_or_on frame_found place) ≡ read_on z (found_or_on frame_found (placed place movi place.owed))
 found_same place movi (Err why) = refl
 found_same place movi (Ok (Some p, rest)) = refl
-found_same place movi (Ok (None, rest)) = ap (λ z. read_on z (sought_on frame_found)) (moved_same place movi place.owed refl rest)
+found_same place movi (Ok (None, rest)) = found_beyond place.open_in place movi rest
+
+-- the first frame after a movi, and the others
+beyond_frames : (o : Open) (place : Place) (more : List ℕ) → read_on (read_on (beyond o frame_found place more) found_read) (more_frames frames_read) ≡ frames_beyond o place more
+beyond_frames Sized place more = on_moved (moved place more)
+  where
+    on_moved : (z : Result (Option Place × List ℕ) Stop) → read_on (read_on (read_on z (sought_on frame_found)) found_read) (more_frames frames_read) ≡ read_on z frames_on
+    on_moved (Err why) = refl
+    on_moved (Ok (None, rest)) = refl
+    on_moved (Ok (Some p, rest)) = sym (frames_step p rest)
+beyond_frames OpenRiff place more = on_step (open_found place more)
+  where
+    on_step : (z : Result (Option Step × List ℕ) Stop) → read_on (read_on (read_on z (stepped frame_found)) found_read) (more_frames frames_read) ≡ read_on z frames_stepped
+    on_step (Err why) = refl
+    on_step (Ok (None, rest)) = refl
+    on_step (Ok (Some (None, p), rest)) = sym (frames_step p rest)
+    on_step (Ok (Some (Some n, p), rest)) = refl
+beyond_frames OpenMovi place more = on_step (open_found place more)
+  where
+    on_step : (z : Result (Option Step × List ℕ) Stop) → read_on (read_on (read_on z (stepped frame_found)) found_read) (more_frames frames_read) ≡ read_on z frames_stepped
+    on_step (Err why) = refl
+    on_step (Ok (None, rest)) = refl
+    on_step (Ok (Some (None, p), rest)) = sym (frames_step p rest)
+    on_step (Ok (Some (Some n, p), rest)) = refl
 
 -- no frame is left in movi
 pub frames_none : (place : Place) (text more : List ℕ) → movi_found place.names place.movi text ≡ Ok (None, more) → frames_read place text ≡ frames_after place more
 frames_none place text more is =
     frames_step place text
     ∙ ap (λ z. read_on (read_on z found_read) (more_frames frames_read)) (frame_step place text ∙ ap (λ z. read_on z (found_or_on frame_found place)) is)
-    ∙ on_moved (moved place more)
-  where
-    on_moved : (z : Result (Option Place × List ℕ) Stop) → read_on (read_on (read_on z (sought_on frame_found)) found_read) (more_frames frames_read) ≡ read_on z frames_on
-    on_moved (Err why) = refl
-    on_moved (Ok (None, rest)) = refl
-    on_moved (Ok (Some p, rest)) = sym (frames_step p rest)
+    ∙ beyond_frames place.open_in place more
 
 -- or one is
 pub frame_next : (place : Place) (text : List ℕ) (p : List ℕ × ℕ) (rest : List ℕ) → movi_read place.names place.movi text ≡ Ok (Some p, rest) → frame_read place text ≡ Ok (Some (p.0, frame_at place p.1), rest)
@@ -341,7 +391,7 @@ part_step place text w again h = on_found (movi_found place.names place.movi tex
     on_found (Ok (None, more)) is =
         let end = movi_read_sound place.names place.movi text (None, more) (ap (λ z. read_on z movi_frame) is) in
         let after : frames_after place more ≡ Ok w = sym (frames_none place text more is) ∙ h in
-        let same : frames_after (placed place 0 (place.owed - 0)) more ≡ Ok w = ap (λ z. read_on z frames_on) (sym (moved_same place 0 (place.owed - 0) (omega arith) more)) ∙ after in
+        let same : frames_after (placed place 0 (place.owed - 0)) more ≡ Ok w = sym (after_same place 0 (place.owed - 0) (omega arith) more) ∙ after in
         record { chunks = end.chunks; more = more; here = []; later = w.0; text_is = end.text_is; long = end.long; fit = end.fit; framed = none_framed place.names end.chunks end.each end.run; parted = refl; after = same }
     on_found (Ok (Some y, more)) is =
         let found : frame_read place text ≡ (content Kept y.0 >>= λ bytes. given (Some (bytes, frame_at place y.1))) more = ap (λ z. read_on z found_read) (frame_step place text ∙ ap (λ z. read_on z (found_or_on frame_found place)) is) in
@@ -368,151 +418,3 @@ movi_part_up_to (suc most) place text w enough h = part_step place text w (λ p 
 -- the frames of a position are those of its movi, and those after it
 pub movi_part : (place : Place) (text : List ℕ) (w : List (List ℕ) × List ℕ) → frames_read place text ≡ Ok w → MoviPart place text w.0 w.1
 movi_part place text w h = movi_part_up_to place.movi place text w (omega arith) h
-
--- a chunk that is no frame is passed
-pub movi_passed : (names : Names) (c : Chunk) (more : ℕ) (rest : List ℕ) → IsTaken (opens names) c → 8 + padded (little_number 4 c.size) ≤ length (chunk_text c) + more → barred_in names c ≡ false → frame_in names c ≡ false → movi_found names (length (chunk_text c) + more) (chunk_text c ++ rest) ≡ movi_found names more rest
-unfolding movi_found
-movi_passed names c more rest is fits stands named =
-    let one : chunks_text (c ∷ []) ≡ chunk_text c = append-nil (chunk_text c) in
-    let fit : Fit more (c ∷ []) = (rw one fits, tt) in
-    let takes : TakesMovi names tt c.name c.bytes tt = (barred_name names c stands, named, stands_rec names c stands) in
-    let walked = walk_complete_in (rule_of names) (visit_movi names) (TakesMovi names) (movi_stands names) (movi_complete names) (c ∷ []) tt tt more rest (taken_one (opens names) c is) fit (tt, takes, refl) in
-    let alone : walk_in (rule_of names) (visit_movi names) (length (chunk_text c) + more) tt (chunk_text c ++ rest) ≡ walk_in (rule_of names) (visit_movi names) more tt rest = rw one at walked in
-    ap (λ z. read_on z (λ p. given p.1)) alone
-
--- a frame is read
-pub movi_there : (names : Names) (c : Chunk) (more : ℕ) (rest : List ℕ) → IsChunk c → is_barred names c.name ≡ false → frame_in names c ≡ true → length c.bytes ≤ most_bytes names → least_bytes names ≤ length c.bytes → movi_read names (length (chunk_text c) + more) (chunk_text c ++ rest) ≡ Ok (Some (c.bytes, more), rest)
-unfolding movi_found visit_movi
-movi_there names c more rest is list named short some =
-    let left = length (chunk_text c) + more in
-    let size = little_number 4 c.size in
-    let total : length (chunk_text c) ≡ 8 + padded (length c.bytes) = omega (arith, is.named, is.sized, is.padded, length-append ((c.name ++ c.size) ++ c.bytes) c.padding, length-append (c.name ++ c.size) c.bytes, length-append c.name c.size) in
-    let counted : length c.bytes ≡ size = sym is.counted in
-    let e : Entry = entry_of left c.name size in
-    let taken = size_whole names c.name size (frame_no_list names c.name named) in
-    let behind : e.left ≡ more = rw (← counted) (omega (arith, total)) in
-    let whole : chunk_text c ++ rest ≡ (c.name ++ c.size) ++ ((c.bytes ++ c.padding) ++ rest) = regrouped c.name c.size c.bytes c.padding rest in
-    let entry : entry_in (rule_of names) left (chunk_text c ++ rest) ≡ Ok (Some e, (c.bytes ++ c.padding) ++ rest) =
-    ap (entry_in (rule_of names) left) whole ∙ entry_complete_in (rule_of names) left c.name c.size ((c.bytes ++ c.padding) ++ rest) (stands_in names c.name list) is.named is.sized (rw (← counted) (omega (arith, total))) (λ l. rw is.counted (is.listed l))
-    ∙ ap (λ n. Ok (Some (entry_of left c.name n), (c.bytes ++ c.padding) ++ rest)) taken in
-    let fits : nat_lt (most_bytes names) size ≡ false = le-ltb _ _ (rw is.counted short) in
-    let not_none : nat_lt size (least_bytes names) ≡ false = le-ltb _ _ (rw is.counted some) in
-    let stop : visit_movi names tt e ((c.bytes ++ c.padding) ++ rest) ≡ Ok ((tt, Some (size, e.left)), (c.bytes ++ c.padding) ++ rest) = rw (list, named, fits, not_none) refl in
-    let read : content Kept size ((c.bytes ++ c.padding) ++ rest) ≡ Ok (c.bytes, rest) = content_complete Kept size c.bytes c.padding rest counted (rw is.counted is.padded) in
-    ap (λ z. read_on (read_on z (λ p. given p.1)) movi_frame) (walk_step_in (rule_of names) (visit_movi names) left tt (chunk_text c ++ rest))
-    ∙ ap (λ z. read_on (read_on (read_on z (visited (visit_movi names) (walk_in (rule_of names) (visit_movi names)) tt)) (λ p. given p.1)) movi_frame) entry
-    ∙ ap (λ z. read_on (read_on (read_on z (λ p. resumed (walk_in (rule_of names) (visit_movi names) e.left) p.0 p.1)) (λ p. given p.1)) movi_frame) stop
-    ∙ ap (λ z. read_on z (λ bytes. given (Some (bytes, e.left)))) read
-    ∙ rw behind refl
-  where
-    regrouped : (a b c d e : List ℕ) → (((a ++ b) ++ c) ++ d) ++ e ≡ (a ++ b) ++ ((c ++ d) ++ e)
-    regrouped a b c d e = simp append_assoc
-
--- at a position whose movi begins with a chunk that is no frame
-pub frames_passed : (place : Place) (c : Chunk) (more : ℕ) (rest : List ℕ) → IsTaken (opens place.names) c → 8 + padded (little_number 4 c.size) ≤ length (chunk_text c) + more → barred_in place.names c ≡ false → frame_in place.names c ≡ false →
-    frame_found (placed place (length (chunk_text c) + more) place.owed) (chunk_text c ++ rest) ≡ frame_found (placed place more place.owed) rest
-frames_passed place c more rest is fits list named =
-    let here = placed place (length (chunk_text c) + more) place.owed in
-    frame_step here (chunk_text c ++ rest)
-    ∙ ap (λ z. read_on z (found_or_on frame_found here)) (movi_passed place.names c more rest is fits list named)
-    ∙ found_same here more (movi_found place.names more rest)
-    ∙ sym (frame_step (placed place more place.owed) rest)
-
-abbrev pub bytes_of : List Chunk → List (List ℕ)
-bytes_of cs = map (λ (c : Chunk). c.bytes) cs
-
--- the frames of chunks are read, and then those after them
-pub movi_frames : (place : Place) (cs : List Chunk) (owed : ℕ) (rest : List ℕ) → AreTaken (opens place.names) cs → Fit 0 cs → those (barred_in place.names) cs ≡ [] → AreWithin (least_bytes place.names) (most_bytes place.names) (bytes_of (those (frame_in place.names) cs)) →
-    frames_read (placed place (length (chunks_text cs)) owed) (chunks_text cs ++ rest)
-    ≡ read_on (frames_after (placed place 0 (owed - length (bytes_of (those (frame_in place.names) cs)))) rest) (λ frames. given (bytes_of (those (frame_in place.names) cs) ++ frames))
-movi_frames place [] owed rest each fit none_barred sized =
-    frames_none (placed place 0 owed) rest rest (movi_empty place.names rest)
-    ∙ ap (λ z. read_on z frames_on) (moved_same (placed place 0 owed) 0 (owed - 0) (omega arith) rest)
-    ∙ given_same (frames_after (placed place 0 (owed - 0)) rest)
-  where
-    given_same : (z : Result (List (List ℕ) × List ℕ) Stop) → z ≡ read_on z (λ frames. given ([] ++ frames))
-    given_same (Ok p) = refl
-    given_same (Err why) = refl
-movi_frames place (c ∷ cs) owed rest each fit none_barred sized =
-    on_names (barred_in place.names c) (frame_in place.names c) refl refl (λ o l s. movi_frames place cs o rest taken.1 fit.1 l s)
-  where
-    taken : IsTaken (opens place.names) c × AreTaken (opens place.names) cs
-    taken = taken_first (opens place.names) c cs each
-
-    fits : 8 + padded (little_number 4 c.size) ≤ length (chunk_text c) + length (chunks_text cs)
-    fits = omega (arith, fit_first 0 c cs fit)
-
-    behind : List ℕ
-    behind = chunks_text cs ++ rest
-
-    more : ℕ
-    more = length (chunks_text cs)
-
-    these : List Chunk → List (List ℕ)
-    these xs = bytes_of (those (frame_in place.names) xs)
-
-    Later : ℕ → List Chunk → Result (List (List ℕ) × List ℕ) Stop
-    Later o xs = read_on (frames_after (placed place 0 (o - length (these xs))) rest) (λ frames. given (these xs ++ frames))
-
-    Again : Type 0
-    Again = (o : ℕ) → those (barred_in place.names) cs ≡ [] → AreWithin (least_bytes place.names) (most_bytes place.names) (these cs) → frames_read (placed place more o) behind ≡ Later o cs
-
-    whole : frames_read (placed place (length (chunks_text (c ∷ cs))) owed) (chunks_text (c ∷ cs) ++ rest) ≡ frames_read (placed place (length (chunk_text c) + more) owed) (chunk_text c ++ behind)
-    whole = ap (λ n. frames_read (placed place n owed) (chunks_text (c ∷ cs) ++ rest)) (length-append (chunk_text c) (chunks_text cs)) ∙ ap (frames_read (placed place (length (chunk_text c) + more) owed)) (append_assoc (chunk_text c) (chunks_text cs) rest)
-
-    one_more : (z : Result (List (List ℕ) × List ℕ) Stop) → read_on (read_on z (λ frames. given (these cs ++ frames))) (λ frames. given (c.bytes ∷ frames)) ≡ read_on z (λ frames. given (c.bytes ∷ (these cs ++ frames)))
-    one_more (Ok p) = refl
-    one_more (Err why) = refl
-
-    on_names : (a b : Bool) → barred_in place.names c ≡ a → frame_in place.names c ≡ b → Again → frames_read (placed place (length (chunks_text (c ∷ cs))) owed) (chunks_text (c ∷ cs) ++ rest) ≡ Later owed (c ∷ cs)
-    on_names true b p q again = let gone : c ∷ those (barred_in place.names) cs ≡ [] = rw p at none_barred in absurd (cc)
-    on_names false false p q again =
-        let later = again owed (rw p at none_barred) (rw q at sized) in
-        let here = placed place (length (chunk_text c) + more) owed in
-        rw q
-        (whole
-        ∙ frames_step here (chunk_text c ++ behind)
-        ∙ ap (λ z. read_on (read_on z found_read) (more_frames frames_read)) (frames_passed here c more behind taken.0 fits p q)
-        ∙ sym (frames_step (placed place more owed) behind)
-        ∙ later)
-    on_names false true p q again =
-        let here = placed place (length (chunk_text c) + more) owed in
-        let sizes = rw q at sized in
-        let later = again (owed - 1) (rw p at none_barred) sizes.2 in
-        let owes : owed - 1 - length (these cs) ≡ owed - suc (length (these cs)) = omega arith in
-        rw q
-        (whole
-        ∙ frames_step here (chunk_text c ++ behind)
-        ∙ ap (λ z. read_on z (more_frames frames_read)) (frame_next here (chunk_text c ++ behind) (c.bytes, more) behind (movi_there place.names c more behind (frame_chunk place.names c taken.0 q) (barred_name place.names c p) q sizes.1 sizes.0))
-        ∙ ap (λ z. read_on z (λ frames. given (c.bytes ∷ frames))) later
-        ∙ one_more (frames_after (placed place 0 (owed - 1 - length (these cs))) rest)
-        ∙ ap (λ n. read_on (frames_after (placed place 0 n) rest) (λ frames. given (c.bytes ∷ (these cs ++ frames)))) owes)
-
--- if the first movi alone is read
-abbrev pub in_movi : ℕ → Place
-in_movi left = first_place FirstMovi 0 left Any 0
-
-pub record ReadFrames (left : ℕ) (text : List ℕ) (frames : List (List ℕ)) (rest : List ℕ) : Type 0 where
-  pub chunks : List Chunk
-  pub text_is : text ≡ chunks_text chunks ++ rest
-  pub long : length (chunks_text chunks) ≡ left
-  pub framed : AreFrames Any chunks frames
-
-pub frames_sound : (left : ℕ) (text : List ℕ) (w : List (List ℕ) × List ℕ) → frames_read (in_movi left) text ≡ Ok w → ReadFrames left text w.0 w.1
-frames_sound left text w h =
-    let part = movi_part (in_movi left) text w h in
-    let end : (frames_after (placed (in_movi left) 0 (0 - length part.here))) part.more ≡ Ok ([], part.more) = ap (λ z. read_on z frames_on) (moved_first (placed (in_movi left) 0 (0 - length part.here)) refl part.more) in
-    let both = ok_is ([], part.more) (part.later, w.1) (sym end ∙ part.after) in
-    let none : part.later ≡ [] = sym (ap (λ (z : List (List ℕ) × List ℕ). z.0) both) in
-    let all : part.here ≡ w.0 = sym (part.parted ∙ ap (λ z. part.here ++ z) none ∙ append-nil part.here) in
-    let P : List (List ℕ) → Type 0 = λ z. AreFrames Any part.chunks z in
-    record { chunks = part.chunks; text_is = part.text_is ∙ ap (λ z. chunks_text part.chunks ++ z) (ap (λ (z : List (List ℕ) × List ℕ). z.1) both); long = part.long; framed = subst P all part.framed }
-
-pub frames_complete : (chunks : List Chunk) (frames : List (List ℕ)) (rest : List ℕ) → AreFrames Any chunks frames → frames_read (in_movi (length (chunks_text chunks))) (chunks_text chunks ++ rest) ≡ Ok (frames, rest)
-frames_complete chunks frames rest are =
-    let P : List (List ℕ) → Type 0 = λ z. AreWithin 1 limit z in
-    let here = bytes_of (those (frame_in Any) chunks) in
-    let end : (frames_after (placed (in_movi 0) 0 (0 - length here))) rest ≡ Ok ([], rest) = ap (λ z. read_on z frames_on) (moved_first (placed (in_movi 0) 0 (0 - length here)) refl rest) in
-    movi_frames (in_movi 0) chunks 0 rest are.each (chunks_fit 0 chunks are.each) are.none_barred (subst P (sym are.those_of) are.sized)
-    ∙ ap (λ z. read_on z (λ frames. given (here ++ frames))) end
-    ∙ ap (λ z. Ok (z, rest)) (append-nil here ∙ are.those_of)

@@ -16,7 +16,8 @@ use Rattle.ffv1_avi.specs.Walk.{walk_up_to}
 use Rattle.ffv1_avi.proofs.EveryRiffLaws.{file_before, file_opened, first_at, first_riff, names_in, regrouped}
 use Rattle.ffv1_avi.proofs.FrameTurns.{frames_step}
 use Rattle.ffv1_avi.proofs.PartLaws.{parts_text}
-use Rattle.ffv1_avi.proofs.FrameLaws.{frame_next, frames_passed, movi_there, placed}
+use Rattle.ffv1_avi.proofs.FrameLaws.{frame_next, placed}
+use Rattle.ffv1_avi.proofs.MoviFrames.{frames_passed, movi_there}
 use Rattle.ffv1_avi.proofs.LaterFrames.{Framed, begun_riff, frames_both, frames_in, framed_apart, in_riff, movi_long, riff_long, riff_same, sought_movi, sought_passed}
 use Rattle.ffv1_avi.proofs.LongMovis.{found_moved}
 use Rattle.ffv1_avi.proofs.Moves.{extent_every}
@@ -97,7 +98,7 @@ movi_then input names riff owed (c ∷ cs) rest frames why framed fit h =
 
 -- the next frame after a movi, by the next movi of its RIFF
 next_is : (input : ℕ) (names : Names) (riff owed : ℕ) (text : List ℕ) → (input ≡ 0 → ⊥) → frame_read (in_riff input names riff owed) text ≡ read_on (read_on (read_on (movi_sought names riff text) (movi_or_riff (in_riff input names riff owed))) (sought_on frame_found)) found_read
-next_is input names riff owed text some = ap (λ z. read_on z found_read) (found_moved (in_riff input names riff owed) text refl (extent_every (in_riff input names riff owed) some))
+next_is input names riff owed text some = ap (λ z. read_on z found_read) (found_moved (in_riff input names riff owed) text refl refl (extent_every (in_riff input names riff owed) some))
 
 other_next : (input : ℕ) (names : Names) (more owed : ℕ) (c : Chunk) (rest : List ℕ) → (input ≡ 0 → ⊥) → IsChunk c → is_list (codes "movi") c ≡ false → frame_in names c ≡ false →
     frame_read (in_riff input names (length (chunk_text c) + more) owed) (chunk_text c ++ rest) ≡ frame_read (in_riff input names more owed) rest
@@ -187,7 +188,7 @@ riff_next input names owed r rest is fits =
     let room : n - 4 ≡ length text + 0 = omega (arith, is.counted) in
     next_is input names 0 owed (riff_text r ++ rest) some
     ∙ ap (λ z. read_on (read_on (riff_begun (in_riff input names 0 owed) z) (sought_on frame_found)) found_read) (append_assoc (codes "RIFF" ++ r.size ++ codes "AVIX") text rest)
-    ∙ ap (λ z. read_on (read_on z (sought_on frame_found)) found_read) (begun_riff input names owed r.size (text ++ rest) is.sized (omega (arith, is.counted)) (omega (arith, fits, long)))
+    ∙ ap (λ z. read_on (read_on z (sought_on frame_found)) found_read) (begun_riff input names owed r.size (text ++ rest) is.sized is.known (omega (arith, is.counted)) (omega (arith, fits, long)))
     ∙ ap (λ k. frame_read (in_riff (input - (8 + n)) names k owed) (text ++ rest)) room
     ∙ ap (λ k. frame_read (in_riff (input - k) names (length text + 0) owed) (text ++ rest)) (sym long)
 

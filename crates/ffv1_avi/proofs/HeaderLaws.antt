@@ -5,7 +5,8 @@ use Rattle.std.specs.Cmp.Lexicographic.{same_text}
 use Rattle.ffv1_avi.specs.declared.place.Extent.{Extent}
 use Rattle.ffv1_avi.specs.declared.place.Extent.TheVariants.{FirstMovi, EveryRiff}
 use Rattle.ffv1_avi.specs.Chunks.{AreChunks, AreOthers, Chunk, IsOther, IsStream, SaysOther, chunks_text, is_list, those}
-use Rattle.ffv1_avi.specs.Files.{Headers, extended_read, extended_visited, header_named, header_read, list_skipped, no_headers, stream_came, stream_known, stream_visited, visit_header}
+use Rattle.ffv1_avi.specs.Files.{Headers, extended_read, extended_visited, header_named, header_read, no_headers, stream_came, stream_known, stream_visited, visit_header}
+use Rattle.ffv1_avi.specs.Opens.{list_skipped}
 use Rattle.ffv1_reads.specs.Head.{Head}
 use Rattle.ffv1_reads.specs.Reads.{Reading, given, passed, read_on, taken, ◌>>=◌}
 use Rattle.ffv1_avi.specs.Padding.{padded}

@@ -1,5 +1,5 @@
 -- The frames after a movi: those of the other movis of its RIFF, and of further RIFFs.
-use Rattle.std.proofs.Common.{◌≡◌, ℕ, ◌+◌, ◌-◌, ◌≤◌, ◌<◌, false, Option, Some, None, Result, Ok, Err, List, [], ◌∷◌, ◌++◌, length, codes, map, ap, ◌∙◌, sym, subst, arith, refl, append_assoc, append-nil, length-append}
+use Rattle.std.proofs.Common.{◌≡◌, ℕ, ◌+◌, ◌-◌, ◌≤◌, ◌<◌, true, false, Option, Some, None, Result, Ok, Err, List, [], ◌∷◌, ◌++◌, length, codes, map, ap, ◌∙◌, sym, subst, arith, refl, append_assoc, append-nil, length-append}
 use Rattle.byteorder.specs.Endian.{little_number}
 use Rattle.ffv1_avi.specs.Names.{least_bytes, most_bytes, opens}
 use Rattle.ffv1_avi.specs.declared.chunk.Entry.{Entry}
@@ -7,14 +7,17 @@ use Rattle.ffv1_avi.specs.declared.place.Place.{Place}
 use Rattle.ffv1_avi.specs.Chunks.{AreFrames, AreWithin, Chunk, IsChunk, chunk_text, chunks_text, is_list, those, Fit}
 use Rattle.ffv1_avi.specs.Behind.{begins_another, looked_past}
 use Rattle.ffv1_avi.specs.Edges.{bytes_framed}
-use Rattle.ffv1_avi.specs.Files.{frames_read, movi_or_riff, movi_sought, riff_begun, riff_list, visit_riff}
+use Rattle.ffv1_avi.specs.Files.{frames_read, movi_or_riff, movi_sought, riff_begun}
+use Rattle.ffv1_avi.specs.Opens.{riff_list, visit_riff}
 use Rattle.ffv1_avi.specs.Places.{movi_at, riff_at}
 use Rattle.ffv1_reads.specs.Reads.{Reading, Stop, given, read_on, taken, ◌>>=◌}
 use Rattle.ffv1_avi.specs.Padding.{padded}
 use Rattle.ffv1_avi.specs.Riffs.{AreRiffs, AreSections, IsRiff, IsSection, Riff, Section, movi_chunks, movis, riff_movis, riff_text, riffs_text, section_text, sections_text}
-use Rattle.ffv1_avi.specs.Walk.{entry_read, resumed, visited, walk, walk_up_to}
+use Rattle.ffv1_avi.specs.declared.place.Open.TheVariants.{Sized}
+use Rattle.ffv1_avi.specs.Walk.{entry_read, is_known, resumed, visited, walk, walk_up_to}
 use Rattle.ffv1_avi.proofs.BegunRiffs.{over_there, riff_there}
-use Rattle.ffv1_avi.proofs.FrameLaws.{frames_after, frames_none, frames_on, movi_frames, those_both}
+use Rattle.ffv1_avi.proofs.FrameLaws.{frames_after, frames_none, frames_on, those_both}
+use Rattle.ffv1_avi.proofs.MoviFrames.{movi_frames}
 use Rattle.ffv1_avi.proofs.ListWalks.{entry_complete, walk_complete}
 use Rattle.ffv1_avi.proofs.Moves.{moved_every, movi_empty}
 use Rattle.ffv1_reads.proofs.WantedBytes.{taken_complete}
@@ -27,7 +30,7 @@ use Rattle.ffv1_avi.proofs.TakenChunks.{taken_apart, taken_even}
 
 -- after a movi, in an RIFF that has so many bytes left
 abbrev pub in_riff : ℕ → Names → ℕ → ℕ → Place
-in_riff input names riff owed = record { input = input; riff = riff; movi = 0; names = names; owed = owed }
+in_riff input names riff owed = record { input = input; riff = riff; movi = 0; names = names; owed = owed; open_in = Sized }
 
 -- the frames among chunks
 abbrev pub frames_in : Names → List Chunk → List (List ℕ)
@@ -205,9 +208,9 @@ unfolding movi_sought walk_up_to
 after_end input names owed text some = after_is input names 0 owed text some
 
 -- the next RIFF is entered
-pub begun_riff : (input : ℕ) (names : Names) (owed : ℕ) (size rest : List ℕ) → length size ≡ 4 → 4 ≤ little_number 4 size → 8 + little_number 4 size < input →
+pub begun_riff : (input : ℕ) (names : Names) (owed : ℕ) (size rest : List ℕ) → length size ≡ 4 → is_known (little_number 4 size) ≡ true → 4 ≤ little_number 4 size → 8 + little_number 4 size < input →
     riff_begun (in_riff input names 0 owed) ((codes "RIFF" ++ size ++ codes "AVIX") ++ rest) ≡ Ok (Some (riff_at (in_riff input names 0 owed) (little_number 4 size)), rest)
-begun_riff input names owed size rest sized room fits = riff_there (in_riff input names 0 owed) size rest sized room fits
+begun_riff input names owed size rest sized known room fits = riff_there (in_riff input names 0 owed) size rest sized known room fits
 
 -- an RIFF takes its header and its chunks
 pub riff_long : {names : Names} (r : Riff) → IsRiff names r → length (riff_text r) ≡ 8 + little_number 4 r.size
@@ -231,7 +234,7 @@ riff_read input names owed r rest is fits framed =
     let room : n - 4 ≡ length text + 0 = omega (arith, is.counted) in
     let fs = frames_in names (movis r.sections) in
     ap (frames_behind (in_riff input names 0 owed)) (append_assoc (codes "RIFF" ++ r.size ++ codes "AVIX") text rest)
-    ∙ ap (λ z. read_on z frames_on) (begun_riff input names owed r.size (text ++ rest) is.sized (omega (arith, is.counted)) (omega (arith, fits, long)))
+    ∙ ap (λ z. read_on z frames_on) (begun_riff input names owed r.size (text ++ rest) is.sized is.known (omega (arith, is.counted)) (omega (arith, fits, long)))
     ∙ frames_none next (text ++ rest) (text ++ rest) (movi_empty names (text ++ rest))
     ∙ ap (λ k. frames_after (in_riff (input - (8 + n)) names k owed) (text ++ rest)) room
     ∙ sections_read (input - (8 + n)) names 0 owed r.sections rest some is.each framed

@@ -4,6 +4,7 @@ mod Contents
 mod ChunkByChunk
 mod TakenBytes
 mod BegunRiffs
+mod OpenCases
 mod Moves
 mod FirstFrames
 pub mod FrameTurns
@@ -24,8 +25,11 @@ pub mod TopLaws
 pub mod PartLaws
 pub mod OpenLaws
 pub mod FrameLaws
+pub mod MoviFrames
 pub mod FileLaws
 pub mod RiffLaws
+mod OpenRests
+mod RiffRests
 pub mod WholeLaws
 pub mod HeaderRuns
 pub mod LaterFrames
@@ -47,5 +51,31 @@ pub mod EmptyFrames
 mod ReadingFaults
 mod ChunkReadings
 mod RiffReadings
+mod OpenReadings
+mod OpenPieces
+mod OpenFileLaws
 mod SpotReadings
 mod WrittenEnds
+pub mod Agreeing
+pub mod FrameSteps
+pub mod HeardChunks
+pub mod HeardOpens
+pub mod HeardRiffs
+pub mod HeardTurns
+pub mod ItemLaws
+pub mod ItemReadings
+pub mod PaddedFrames
+pub mod ShorterTexts
+pub mod SoughtBytes
+pub mod SoughtFrames
+pub mod TurnAnswers
+pub mod TurnsMade
+mod EndedTurns
+pub mod CountedChunks
+pub mod TakenSteps
+pub mod FollowedFaults
+pub mod OpenedCounts
+pub mod EarlyPieces
+pub mod OpenEdges
+pub mod NearOpen
+pub mod OpenBeginnings

@@ -7,7 +7,8 @@ use Rattle.ffv1_reads.specs.declared.fault.FileFault.TheVariants as fault
 use Rattle.ffv1_reads.specs.Reads.{Met, given, read_on}
 use Rattle.ffv1_avi.specs.declared.place.Names.TheVariants.{Closed}
 use Rattle.ffv1_avi.specs.Names.{IsFrameName, bars, IsIndexName, IsListed, IsOfOther, are_digits, bitmap_name, frame_name, is_barred, is_digit, is_frame, is_index, is_of_other, is_stream_frame, number_of, palette_name, stands_beside, rule_of}
-use Rattle.ffv1_avi.specs.Files.{found_or_on, found_read, frame_found, frame_read, movi_found, visit_movi}
+use Rattle.ffv1_avi.specs.Files.{found_or_on, found_read, frame_found, frame_read, movi_found}
+use Rattle.ffv1_avi.specs.Opens.{visit_movi}
 use Rattle.ffv1_avi.specs.Padding.{padded}
 use Rattle.ffv1_avi.specs.Walk.{entry_in, is_name, resumed, visited, walk_in, entry_of, size_in}
 use Rattle.ffv1_avi.specs.declared.chunk.Entry.{Entry}

@@ -1,6 +1,5 @@
 -- Files with a chunk that does not fit in RIFF, in hdrl or in the first strl.
-use Rattle.std.proofs.Common.{◌≡◌, ℕ, ◌+◌, ◌-◌, ◌%◌, nat_le, true, Option, Some, None, Ok, Err, List, [], ◌∷◌, ◌++◌, length, drop, codes, flat_map, ap, ◌∙◌, sym, subst, refl, append_assoc, arith, length-append, if◌then◌else◌}
-use Rattle.std.proofs.lemmas.Bool.{le-leb}
+use Rattle.std.proofs.Common.{◌≡◌, ℕ, ◌+◌, ◌-◌, ◌%◌, ◌≤◌, Option, Some, None, Ok, Err, List, [], ◌∷◌, ◌++◌, length, codes, flat_map, ap, ◌∙◌, sym, subst, refl, arith}
 use Rattle.byteorder.specs.Endian.{little_number}
 use Rattle.ffv1_reads.specs.declared.fault.FileFault.TheVariants as fault
 use Rattle.ffv1_avi.specs.declared.place.Extent.{Extent}
@@ -8,23 +7,22 @@ use Rattle.ffv1_avi.specs.declared.place.Extent.TheVariants.{FirstMovi}
 use Rattle.ffv1_avi.specs.declared.place.Place.{Place}
 use Rattle.ffv1_reads.specs.Head.{Head}
 use Rattle.ffv1_avi.specs.Begun.{AreReadable, HasShortFormat, HeaderBegins, ListBegins, RiffBegins, StreamBegins, parts_text, streams_of}
-use Rattle.ffv1_avi.specs.Chunks.{AreChunks, AreParts, Chunk, Part, Passes, chunks_text, header_chunks, is_list, streams}
-use Rattle.ffv1_avi.specs.Files.{Headers, begins, header_named, header_read, list_visited, no_headers, open_read, opened, top_read, visit_header, visit_top}
-use Rattle.ffv1_reads.specs.Reads.{Met, Reading, Stop, given, passed, read_on, refused, taken, ◌>>=◌}
+use Rattle.ffv1_avi.specs.Chunks.{AreChunks, Chunk, Part, Passes, chunks_text, header_chunks, is_list, streams}
+use Rattle.ffv1_avi.specs.Files.{Headers, header_named, header_read, no_headers, open_read, opened, room_in, top_read, visit_header, visit_top}
+use Rattle.ffv1_avi.specs.Names.{riff_rule}
+use Rattle.ffv1_reads.specs.Reads.{Met, Reading, Stop, given, passed, read_on, taken, ◌>>=◌}
 use Rattle.ffv1_avi.specs.Padding.{padded}
 use Rattle.ffv1_avi.specs.Streams.{Known, nothing_known, stream_judged, stream_read, visit_field}
-use Rattle.ffv1_avi.specs.Walk.{entry_read, is_name, resumed, visited, walk}
+use Rattle.ffv1_avi.specs.Walk.{entry_read, resumed, visited, walk, walk_in}
 use Rattle.ffv1_avi.proofs.ListWalks.{Run, entry_complete, walk_complete}
-use Rattle.ffv1_reads.proofs.Results.{cut_back, cut_front}
-use Rattle.ffv1_avi.proofs.Contents.{number_taken}
 use Rattle.ffv1_avi.proofs.Fields.{TakesField, field_complete}
 use Rattle.ffv1_avi.proofs.FrameLaws.{those_both}
 use Rattle.ffv1_avi.proofs.HeaderLaws.{TakesHeader, header_complete, headed, run_none, run_some, stream_end}
-use Rattle.ffv1_avi.proofs.PartLaws.{chunks_of, run_part}
+use Rattle.ffv1_avi.proofs.PartLaws.{run_part}
 use Rattle.ffv1_reads.proofs.WantedBytes.{taken_complete}
 use Rattle.ffv1_avi.proofs.RefusalLaws.{entry_long}
 use Rattle.ffv1_avi.proofs.StreamLaws.{run_exists}
-use Rattle.ffv1_avi.proofs.TopLaws.{TakesTop, top_complete}
+use Rattle.ffv1_avi.proofs.OpenLaws.{form_room, open_headed, room_some, top_goes, top_listed}
 use Rattle.ffv1_avi.proofs.ChunkByChunk.{walk_step}
 
 -- chunks whose streams are readable lead to a head or to none
@@ -36,34 +34,14 @@ readable_run cs h = go (streams_of cs) refl h
     go (stream ∷ others) e h = (headed h.0, run_some cs stream others h.0 e h.1)
 
 -- RIFF is read up to its parts, and then after them
-pub open_begun : (extent : Extent) (file : List ℕ) (parts : List Part) (left : ℕ) (rest : List ℕ) → RiffBegins file parts left rest →
-    open_read extent file ≡ top_read extent (length (parts_text parts) + left) (parts_text parts ++ rest)
-unfolding open_read
+pub open_begun : (extent : Extent) (file : List ℕ) (parts : List Part) (left : ℕ) (rest : List ℕ) (is : RiffBegins file parts left rest) →
+    open_read extent file ≡ top_read extent (little_number 4 is.riff_size) (parts_text parts ++ rest)
 open_begun extent file parts left rest is =
-    let riff_size = is.riff_size in
-    let bytes = codes "RIFF" ++ riff_size ++ codes "AVI " in
-    let behind = parts_text parts ++ rest in
-    let long : length bytes ≡ 12 = omega (arith, is.sized, length-append (codes "RIFF" ++ riff_size) (codes "AVI "), length-append (codes "RIFF") riff_size, spelled_length) in
-    let third : drop 8 bytes ≡ codes "AVI " = cut_back 8 (codes "RIFF" ++ riff_size) (codes "AVI ") (omega (arith, is.sized, length-append (codes "RIFF") riff_size)) in
-    let second : little_number 4 (drop 4 bytes) ≡ little_number 4 riff_size = ap (little_number 4) (ap (drop 4) (append_assoc (codes "RIFF") riff_size (codes "AVI ")) ∙ cut_back 4 (codes "RIFF") (riff_size ++ codes "AVI ") refl) ∙ sym (number_taken 4 (riff_size ++ codes "AVI ") (omega arith)) ∙ ap (little_number 4) (cut_front 4 riff_size (codes "AVI ") is.sized) in
-    let avi : is_name (drop 8 bytes) (codes "AVI ") ≡ true = rw third refl in
-    let room : nat_le 4 (little_number 4 riff_size) ≡ true = le-leb _ _ (omega (arith, is.counted)) in
-    let count : little_number 4 riff_size - 4 ≡ length (parts_text parts) + left = omega (arith, is.counted) in
-    ap (open_read extent) is.bytes
-    ∙ ap (λ z. read_on z (λ bytes. if begins bytes then top_read extent (little_number 4 (drop 4 bytes) - 4) else refused fault.NotAvi)) (taken_complete 12 bytes behind long)
-    ∙ rw (avi, second, room) (ap (λ n. top_read extent n behind) count)
-  where
-    spelled_length : length (codes "AVI ") ≡ 4
-    spelled_length = refl
+    ap (open_read extent) is.bytes ∙ open_headed extent is.riff_size (parts_text parts ++ rest) is.sized (form_room extent (little_number 4 is.riff_size) (omega (arith, is.counted)))
 
-pub top_goes : (extent : Extent) (parts : List Part) (t : Headers) (left : ℕ) (rest : List ℕ) → AreParts parts → Run (TakesHeader extent) no_headers (flat_map header_chunks parts) t →
-    top_read extent (length (parts_text parts) + left) (parts_text parts ++ rest) ≡ read_on (walk (visit_top extent) left t rest) (λ p. opened p.1)
-unfolding top_read
-top_goes extent parts t left rest each run =
-    let chunks = chunks_of extent parts no_headers t each run in
-    let walked = walk_complete (visit_top extent) (TakesTop extent) (top_complete extent) chunks.chunks no_headers t left rest chunks.each chunks.run in
-    ap (λ z. read_on (walk (visit_top extent) (length z + left) no_headers (z ++ rest)) (λ p. opened p.1)) (sym chunks.text)
-    ∙ ap (λ z. read_on z (λ p. opened p.1)) walked
+-- how many bytes are left of RIFF then
+pub begun_room : (extent : Extent) (file : List ℕ) (parts : List Part) (left : ℕ) (rest : List ℕ) (is : RiffBegins file parts left rest) → room_in extent (little_number 4 is.riff_size) ≡ length (parts_text parts) + left
+begun_room extent file parts left rest is = omega (arith, is.counted, room_some extent (little_number 4 is.riff_size) (omega (arith, is.counted)))
 
 pub riff_long : (file : List ℕ) (parts : List Part) (left : ℕ) (name size rest : List ℕ) → RiffBegins file parts left ((name ++ size) ++ rest) → AreReadable (streams parts) → Passes left name size →
     open_read FirstMovi file ≡ Err (Met fault.Truncated rest)
@@ -71,9 +49,9 @@ riff_long file parts left name size rest is readable passes =
     let text = (name ++ size) ++ rest in
     let run = readable_run (flat_map header_chunks parts) readable in
     open_begun FirstMovi file parts left text is
-    ∙ top_goes FirstMovi parts run.0 left text is.each run.1
-    ∙ ap (λ z. read_on z (λ p. opened p.1)) (walk_step (visit_top FirstMovi) left run.0 text)
-    ∙ ap (λ z. read_on (read_on z (visited (visit_top FirstMovi) (walk (visit_top FirstMovi)) run.0)) (λ p. opened p.1)) (entry_long left name size rest passes.named passes.sized passes.header passes.passes)
+    ∙ top_goes FirstMovi (little_number 4 is.riff_size) parts run.0 left text (begun_room FirstMovi file parts left text is) is.each run.1
+    ∙ ap (λ z. read_on z (λ p. opened FirstMovi (little_number 4 is.riff_size) p.1)) (walk_step (visit_top FirstMovi) left run.0 text)
+    ∙ ap (λ z. read_on (read_on z (visited (visit_top FirstMovi) (walk (visit_top FirstMovi)) run.0)) (λ p. opened FirstMovi (little_number 4 is.riff_size) p.1)) (entry_long left name size rest passes.named passes.sized passes.header passes.passes)
 
 -- a list's header is read, and its own name
 pub list_entry : (text : List ℕ) (room : ℕ) (own : List ℕ) (chunks : List Chunk) (left : ℕ) (rest : List ℕ) (is : ListBegins text room own chunks left rest) →
@@ -103,19 +81,22 @@ going found = given (found, None)
 module _ (extent : Extent) (file : List ℕ) (parts : List Part) (chunks : List Chunk) (left : ℕ) (rest : List ℕ) (is : HeaderBegins file parts chunks left rest) where
   -- a fault that the walk of hdrl comes to is the file's
   pub header_fault : (s t : Headers) (e : Stop) → Run (TakesHeader extent) no_headers (flat_map header_chunks parts) s → Run (TakesHeader extent) s chunks t → walk (visit_header extent) left t rest ≡ Err e → open_read extent file ≡ Err e
-  unfolding visit_top
   header_fault s t e before run fault =
       let text = chunks_text chunks ++ rest in
       let size = little_number 4 is.header.size in
-      let own : taken 4 (codes "hdrl" ++ text) ≡ Ok (codes "hdrl", text) = taken_complete 4 (codes "hdrl") text refl in
       let read : header_read extent s size text ≡ Err e = header_goes extent s t size chunks left rest (list_count is.text is.room (codes "hdrl") chunks left rest is.header) is.header.each run
       ∙ ap (λ z. read_on z (λ p. (passed (size % 2) >>= λ _. given p.0))) fault in
+      let said = little_number 4 is.riff.riff_size in
+      let header = is.header in
+      let more = is.room - (8 + padded size) in
+      let behind = chunks_text chunks ++ rest in
+      let named : 4 ≤ size = omega (arith, header.counted) in
+      let on : Headers × Option (Head × Place) → Reading (Headers × Option (Head × Place)) = λ p. resumed (walk_in (riff_rule extent) (visit_top extent) more) p.0 p.1 in
       open_begun extent file parts is.room is.text is.riff
-      ∙ top_goes extent parts s is.room is.text is.riff.each before
-      ∙ ap (λ z. read_on z (λ p. opened p.1)) (walk_step (visit_top extent) is.room s is.text)
-      ∙ ap (λ z. read_on (read_on z (visited (visit_top extent) (walk (visit_top extent)) s)) (λ p. opened p.1)) (list_entry is.text is.room (codes "hdrl") chunks left rest is.header)
-      ∙ ap (λ z. read_on (read_on (read_on z (list_visited extent s (is.room - (8 + padded size)) size)) (λ p. resumed (walk (visit_top extent) (is.room - (8 + padded size))) p.0 p.1)) (λ p. opened p.1)) own
-      ∙ ap (λ z. read_on (read_on (read_on z going) (λ p. resumed (walk (visit_top extent) (is.room - (8 + padded size))) p.0 p.1)) (λ p. opened p.1)) read
+      ∙ top_goes extent said parts s is.room is.text (begun_room extent file parts is.room is.text is.riff) is.riff.each before
+      ∙ ap (λ z. read_on (walk_in (riff_rule extent) (visit_top extent) is.room s z) (λ p. opened extent said p.1)) header.bytes
+      ∙ top_listed extent said s is.room header.size (codes "hdrl") behind header.sized refl named header.fits
+      ∙ ap (λ z. read_on (read_on (read_on z going) on) (λ p. opened extent said p.1)) read
 
 pub header_long : (file : List ℕ) (parts : List Part) (chunks : List Chunk) (left : ℕ) (name size rest : List ℕ) → HeaderBegins file parts chunks left ((name ++ size) ++ rest) →
     AreReadable (streams parts ++ streams_of chunks) → Passes left name size → open_read FirstMovi file ≡ Err (Met fault.Truncated rest)

@@ -6,11 +6,15 @@ use Rattle.ffv1_avi.specs.declared.place.Extent.TheVariants.{EveryRiff}
 use Rattle.ffv1_avi.specs.declared.place.Extent.{Extent}
 use Rattle.ffv1_avi.specs.declared.place.Place.{Place}
 use Rattle.ffv1_avi.specs.Chunks.{AreChunks, Chunk, Passes, chunks_text, is_list, those, AreTaken}
-use Rattle.ffv1_avi.specs.Files.{found_or_on, found_read, frame_found, frame_read, moved, moved_by, movi_found, movi_or_riff, movi_sought, riff_begun, sought_on, visit_movi, visit_riff}
+use Rattle.ffv1_avi.specs.Files.{beyond, found_or_on, found_read, frame_found, frame_read, moved, moved_by, movi_found, movi_or_riff, movi_sought, riff_begun, sought_on}
+use Rattle.ffv1_avi.specs.Opens.{visit_riff}
+use Rattle.ffv1_avi.specs.Opens.{visit_movi}
 use Rattle.ffv1_avi.specs.Places.{extent_of, riff_at}
 use Rattle.ffv1_reads.specs.Reads.{Met, given, read_on}
 use Rattle.ffv1_avi.specs.Names.{bars, opens, rule_of}
-use Rattle.ffv1_avi.specs.Walk.{visited, walk, walk_in, walk_up_to}
+use Rattle.ffv1_avi.specs.Walk.{is_known, visited, walk, walk_in, walk_up_to}
+use Rattle.ffv1_avi.specs.declared.place.Open.{Open}
+use Rattle.ffv1_avi.specs.declared.place.Open.TheVariants.{Sized}
 use Rattle.ffv1_avi.proofs.FrameLaws.{TakesMovi, movi_complete, movi_stands}
 use Rattle.ffv1_avi.proofs.LaterFrames.{begun_riff, in_riff}
 use Rattle.ffv1_avi.proofs.ListWalks.{Run, walk_complete, walk_complete_in}
@@ -63,23 +67,24 @@ movi_long_at place chunks left name size rest room each lists frames passes stan
     ap (λ n. movi_found place.names n (chunks_text chunks ++ text)) room
     ∙ ap (λ z. read_on z (λ p. given p.1)) (walk_complete_in (rule_of place.names) visit (TakesMovi place.names) (movi_stands place.names) (movi_complete place.names) chunks tt tt left text (movi_taken place.names chunks each lists) (chunks_fit left chunks each) (movi_run place.names chunks lists frames))
     ∙ ap (λ z. read_on z (λ p. given p.1)) (walk_step_in (rule_of place.names) visit left tt text)
-    ∙ ap (λ z. read_on (read_on z (visited visit (walk_in (rule_of place.names) visit) tt)) (λ p. given p.1)) (entry_long_in (rule_of place.names) left name size rest stands passes.named passes.sized passes.header passes.passes) in
+    ∙ ap (λ z. read_on (read_on z (visited visit (walk_in (rule_of place.names) visit) tt)) (λ p. given p.1)) (entry_long_in (rule_of place.names) left name size rest stands refl passes.named passes.sized passes.header passes.passes) in
     ap (λ z. read_on z found_read) (frame_step place (chunks_text chunks ++ text))
     ∙ ap (λ z. read_on (read_on z (found_or_on frame_found place)) found_read) found
 
 -- if movi has no bytes left
-pub found_moved : (place : Place) (text : List ℕ) → place.movi ≡ 0 → extent_of place ≡ EveryRiff → frame_found place text ≡ read_on (read_on (movi_sought place.names place.riff text) (movi_or_riff place)) (sought_on frame_found)
+pub found_moved : (place : Place) (text : List ℕ) → place.open_in ≡ Sized → place.movi ≡ 0 → extent_of place ≡ EveryRiff → frame_found place text ≡ read_on (read_on (movi_sought place.names place.riff text) (movi_or_riff place)) (sought_on frame_found)
 unfolding moved
-found_moved place text none every =
+found_moved place text known none every =
     frame_step place text
     ∙ ap (λ n. read_on (movi_found place.names n text) (found_or_on frame_found place)) none
     ∙ ap (λ z. read_on z (found_or_on frame_found place)) (movi_empty place.names text)
+    ∙ ap (λ (o : Open). beyond o frame_found place text) known
     ∙ ap (λ (z : Extent). read_on (moved_by z place text) (sought_on frame_found)) every
 
-found_long : (place : Place) (chunks : List Chunk) (left : ℕ) (name size rest : List ℕ) → place.movi ≡ 0 → extent_of place ≡ EveryRiff → place.riff ≡ length (chunks_text chunks) + left → AreChunks chunks → those (is_list (codes "movi")) chunks ≡ [] → those (frame_in place.names) chunks ≡ [] → Passes left name size →
+found_long : (place : Place) (chunks : List Chunk) (left : ℕ) (name size rest : List ℕ) → place.open_in ≡ Sized → place.movi ≡ 0 → extent_of place ≡ EveryRiff → place.riff ≡ length (chunks_text chunks) + left → AreChunks chunks → those (is_list (codes "movi")) chunks ≡ [] → those (frame_in place.names) chunks ≡ [] → Passes left name size →
     frame_found place (chunks_text chunks ++ ((name ++ size) ++ rest)) ≡ Err (Met fault.Truncated rest)
 unfolding movi_sought
-found_long place chunks left name size rest none every room each movis frames passes =
+found_long place chunks left name size rest known none every room each movis frames passes =
     let text = (name ++ size) ++ rest in
     let visit = visit_riff place.names in
     let sought : movi_sought place.names place.riff (chunks_text chunks ++ text) ≡ Err (Met fault.Truncated rest) =
@@ -87,32 +92,32 @@ found_long place chunks left name size rest none every room each movis frames pa
     ∙ ap (λ z. read_on z (λ p. given p.1)) (walk_complete visit (TakesRiff place.names) (riff_complete place.names) chunks tt tt left text each (riff_run place.names chunks movis frames))
     ∙ ap (λ z. read_on z (λ p. given p.1)) (walk_step visit left tt text)
     ∙ ap (λ z. read_on (read_on z (visited visit (walk visit) tt)) (λ p. given p.1)) (entry_long left name size rest passes.named passes.sized passes.header passes.passes) in
-    found_moved place (chunks_text chunks ++ text) none every
+    found_moved place (chunks_text chunks ++ text) known none every
     ∙ ap (λ z. read_on (read_on z (movi_or_riff place)) (sought_on frame_found)) sought
 
-pub after_long_at : (place : Place) (chunks : List Chunk) (left : ℕ) (name size rest : List ℕ) → extent_of place ≡ EveryRiff → place.movi ≡ 0 → place.riff ≡ length (chunks_text chunks) + left → AreChunks chunks → those (is_list (codes "movi")) chunks ≡ [] → those (frame_in place.names) chunks ≡ [] → Passes left name size →
+pub after_long_at : (place : Place) (chunks : List Chunk) (left : ℕ) (name size rest : List ℕ) → place.open_in ≡ Sized → extent_of place ≡ EveryRiff → place.movi ≡ 0 → place.riff ≡ length (chunks_text chunks) + left → AreChunks chunks → those (is_list (codes "movi")) chunks ≡ [] → those (frame_in place.names) chunks ≡ [] → Passes left name size →
     frame_read place (chunks_text chunks ++ ((name ++ size) ++ rest)) ≡ Err (Met fault.Truncated rest)
-after_long_at place chunks left name size rest every none room each movis frames passes = ap (λ z. read_on z found_read) (found_long place chunks left name size rest none every room each movis frames passes)
+after_long_at place chunks left name size rest known every none room each movis frames passes = ap (λ z. read_on z found_read) (found_long place chunks left name size rest known none every room each movis frames passes)
 
 -- the next RIFF is looked for by three of a position's numbers
 begun_in : (place : Place) (text : List ℕ) → riff_begun place text ≡ riff_begun (in_riff place.input place.names 0 place.owed) text
 unfolding riff_begun
 begun_in place text = refl
 
-pub next_long_at : (place : Place) (riff_size : List ℕ) (chunks : List Chunk) (left : ℕ) (name size rest : List ℕ) → extent_of place ≡ EveryRiff → place.movi ≡ 0 → place.riff ≡ 0 → length riff_size ≡ 4 → little_number 4 riff_size ≡ 4 + length (chunks_text chunks) + left →
+pub next_long_at : (place : Place) (riff_size : List ℕ) (chunks : List Chunk) (left : ℕ) (name size rest : List ℕ) → place.open_in ≡ Sized → extent_of place ≡ EveryRiff → place.movi ≡ 0 → place.riff ≡ 0 → length riff_size ≡ 4 → is_known (little_number 4 riff_size) ≡ true → little_number 4 riff_size ≡ 4 + length (chunks_text chunks) + left →
     8 + little_number 4 riff_size < place.input → AreChunks chunks → those (is_list (codes "movi")) chunks ≡ [] → those (frame_in place.names) chunks ≡ [] → Passes left name size →
     frame_read place ((codes "RIFF" ++ riff_size ++ codes "AVIX") ++ (chunks_text chunks ++ ((name ++ size) ++ rest))) ≡ Err (Met fault.Truncated rest)
 unfolding movi_sought walk_up_to
-next_long_at place riff_size chunks left name size rest every none ended sized counted fits each movis frames passes =
+next_long_at place riff_size chunks left name size rest known every none ended sized told counted fits each movis frames passes =
     let behind = chunks_text chunks ++ ((name ++ size) ++ rest) in
     let text = (codes "RIFF" ++ riff_size ++ codes "AVIX") ++ behind in
     let n = little_number 4 riff_size in
     let next = riff_at place n in
-    let begun : riff_begun place text ≡ Ok (Some next, behind) = begun_in place text ∙ begun_riff place.input place.names place.owed riff_size behind sized (omega (arith, counted)) fits in
+    let begun : riff_begun place text ≡ Ok (Some next, behind) = begun_in place text ∙ begun_riff place.input place.names place.owed riff_size behind sized told (omega (arith, counted)) fits in
     let nothing : movi_sought place.names place.riff text ≡ Ok (None, text) = ap (λ k. movi_sought place.names k text) ended in
     let still : extent_of next ≡ EveryRiff = extent_every next (λ e. omega (arith, e, fits)) in
     ap (λ z. read_on z found_read)
-    (found_moved place text none every
+    (found_moved place text known none every
     ∙ ap (λ z. read_on (read_on z (movi_or_riff place)) (sought_on frame_found)) nothing
     ∙ ap (λ z. read_on z (sought_on frame_found)) begun
-    ∙ found_long next chunks left name size rest refl still (omega (arith, counted)) each movis frames passes)
+    ∙ found_long next chunks left name size rest refl refl still (omega (arith, counted)) each movis frames passes)

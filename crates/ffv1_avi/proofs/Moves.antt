@@ -1,16 +1,23 @@
 -- Where frames are looked for after a movi.
-use Rattle.std.proofs.Common.{◌≡◌, ℕ, suc, zero, ◌+◌, ◌-◌, ◌≤◌, ◌<◌, ◌==◌, nat_lt, Bool, true, false, Option, Some, None, Result, Ok, Err, List, codes, ap, ◌∙◌, sym, subst, arith, refl}
+use Rattle.std.proofs.Common.{◌≡◌, ◌⊎◌, inl, inr, ℕ, suc, zero, ◌+◌, ◌-◌, ◌≤◌, ◌<◌, ◌==◌, nat_lt, Bool, true, false, Option, Some, None, Result, Ok, Err, List, codes, ap, ◌∙◌, sym, subst, arith, refl}
 use Rattle.std.proofs.lemmas.Bool.{eqb-false, eqb-true, ne_eqb}
 use Rattle.ffv1_avi.specs.declared.chunk.Entry.{Entry}
 use Rattle.ffv1_avi.specs.declared.place.Extent.TheVariants.{FirstMovi, EveryRiff}
 use Rattle.ffv1_avi.specs.declared.place.Place.{Place}
-use Rattle.ffv1_avi.specs.Files.{found_read, frame_found, frame_found_up_to, frame_read, found_or_on, list_opened, moved, moved_by, movi_found, movi_or_riff, movi_sought, riff_begun, riff_list, sought_on, visit_movi, visit_riff}
-use Rattle.ffv1_avi.specs.Places.{amount, extent_of, frame_at, movi_at}
-use Rattle.ffv1_reads.specs.Reads.{Looked, Stop, given, passed, read_on, taken, ◌>>=◌}
+use Rattle.ffv1_avi.specs.Files.{beyond, stepped, found_read, frame_found, frame_found_up_to, frame_read, found_or_on, moved, moved_by, movi_found, movi_or_riff, movi_sought, riff_begun, sought_on}
+use Rattle.ffv1_avi.specs.Opens.{Step, open_found, open_framed, open_passed, riff_list, visit_riff}
+use Rattle.ffv1_avi.specs.Opens.{list_opened, visit_movi}
+use Rattle.ffv1_avi.specs.Places.{amount, extent_of, frame_at, is_open, movi_at, open_at, open_frame_at}
+use Rattle.ffv1_reads.specs.Reads.{Looked, Reading, Stop, given, passed, read_on, taken, ◌>>=◌}
 use Rattle.ffv1_avi.specs.Padding.{content, padded}
-use Rattle.ffv1_avi.specs.Walk.{Rule, Visit, plain, entry_in, is_name, resumed, visited, walk_in, walk_up_to}
-use Rattle.ffv1_avi.proofs.BegunRiffs.{begun_sound}
-use Rattle.ffv1_avi.proofs.ListWalks.{entry_sound}
+use Rattle.ffv1_avi.specs.Walk.{Rule, Visit, plain, entry_in, entry_of, is_name, resumed, size_in, visited, walk_in, walk_up_to}
+use Rattle.ffv1_avi.proofs.BegunRiffs.{FoundOpen, FoundRiff, begun_sound}
+use Rattle.ffv1_avi.proofs.OpenCases.{IsAhead, IsOfMovi, IsOfRiff, IsStep, open_case}
+use Rattle.ffv1_avi.proofs.TakenChunks.{size_fits}
+use Rattle.byteorder.specs.Endian.{little_number}
+use Rattle.ffv1_avi.specs.declared.place.Open.{Open}
+use Rattle.ffv1_avi.specs.declared.place.Open.TheVariants.{Sized, OpenRiff, OpenMovi}
+use Rattle.ffv1_avi.proofs.ListWalks.{entry_found, headed_fits}
 use Rattle.ffv1_avi.proofs.OpenedLists.{opened_sound}
 use Rattle.ffv1_reads.proofs.Results.{read_on_ok}
 use Rattle.ffv1_reads.proofs.Results.{ok_is, some_is}
@@ -48,9 +55,9 @@ stops_up_to {S = S} {Y = Y} rule visit (suc most) left s text t y rest h =
     on_entry : Again → (o : Option Entry) (more : List ℕ) → entry_in rule left text ≡ Ok (o, more) → visited visit (walk_up_to rule visit most) s o more ≡ Ok ((t, Some y), rest) → StopsAt visit left t y rest
     on_entry again None more is k = absurd (no_some y (sym (ap (λ (z : (S × Option Y) × List ℕ). z.0.1) (ok_is ((s, None), more) ((t, Some y), rest) k))))
     on_entry again (Some e) more is k =
-        let entry = entry_sound rule left text e more is in
+        let entry = headed_fits (entry_found rule left text e more is) in
         let second = read_on_ok (visit s e more) (λ p. resumed (walk_up_to rule visit most e.left) p.0 p.1) ((t, Some y), rest) k in
-        on_visit again e more (omega (arith, entry.fits)) second.0.0.0 second.0.0.1 second.0.1 second.1 second.2
+        on_visit again e more (omega (arith, entry)) second.0.0.0 second.0.0.1 second.0.1 second.1 second.2
 
 -- the state and the outcome of a walk that stops
 walk_given : {S Y : Type 0} (rule : Rule) (visit : Visit S Y) (left : ℕ) (s : S) (text : List ℕ) (y : Y) (rest : List ℕ) → (walk_in rule visit left s >>= λ p. given p.1) text ≡ Ok (Some y, rest) → (t : S) × (walk_in rule visit left s text ≡ Ok ((t, Some y), rest))
@@ -99,10 +106,14 @@ sought_less names left text y rest h =
 
 -- the next RIFF is counted
 begun_less : (place next : Place) (text rest : List ℕ) → riff_begun place text ≡ Ok (Some next, rest) → (amount next < place.input) × (0 < next.input) × (next.names ≡ place.names)
-begun_less place next text rest h =
-    let found = begun_sound place text (Some next, rest) h in
-    let P : Place → Type 0 = λ z. (amount z < place.input) × (0 < z.input) × (z.names ≡ place.names) in
-    subst P (sym found.place_is) (omega (arith, found.room, found.fits), omega (arith, found.fits), refl)
+begun_less place next text rest h = on_found (begun_sound place text (Some next, rest) h)
+  where
+    P : Place → Type 0
+    P z = (amount z < place.input) × (0 < z.input) × (z.names ≡ place.names)
+
+    on_found : FoundRiff place text next rest ⊎ FoundOpen place text next rest → P next
+    on_found (inl found) = subst P (sym found.place_is) (omega (arith, found.room, found.fits), omega (arith, found.fits), refl)
+    on_found (inr found) = subst P (sym found.place_is) (omega (arith, found.fits), omega (arith, found.fits), refl)
 
 -- the extent of a position, by what it has left of the input
 pub extent_first : (place : Place) → place.input ≡ 0 → extent_of place ≡ FirstMovi
@@ -178,8 +189,90 @@ found_less names left text y rest h =
     let frame = movi_stop_at names stop.state stop.entry stop.text walked.0 y rest stop.is in
     omega (arith, stop.fits, frame.0, frame.1)
 
+-- a step in an RIFF or a movi without size
+abbrev pub LessAfter : Place → Place → Type 0
+LessAfter place next = (amount next < amount place) × (extent_of next ≡ extent_of place) × (next.names ≡ place.names)
+
+less_input : (place next : Place) → next.movi + next.riff + next.input < place.input → 0 < next.input → next.names ≡ place.names → LessAfter place next
+less_input place next less some names = (omega (arith, less), extent_every next (λ e. omega (arith, e, some)) ∙ sym (extent_every place (λ e. omega (arith, e, less))), names)
+
+-- less of the input is left after it
+abbrev pub InputAfter : Place → Place → Type 0
+InputAfter place next = (next.movi + next.riff + next.input < place.input) × (0 < next.input) × (next.names ≡ place.names)
+
+after_input : (place next : Place) → next.movi + next.riff + next.input < place.input → 0 < next.input → next.names ≡ place.names → InputAfter place next
+after_input place next less some names = (less, some, names)
+
+movi_step_less : (place : Place) (text : List ℕ) (s : Step) (rest : List ℕ) → IsOfMovi place text s rest → InputAfter place s.1
+movi_step_less place text s rest is = on_found is.found refl is.visit is.step
+  where
+    n : ℕ
+    n = little_number 4 is.size
+
+    taken_size : ℕ
+    taken_size = size_in (rule_of place.names) is.name n
+
+    fits : padded taken_size ≤ padded n
+    fits = size_fits (rule_of place.names) is.name n is.room
+
+    same : (o : Option Step) → ◌≡◌ {A = Result (Option Step × List ℕ) Stop} (Ok (o, rest)) (Ok (Some s, rest)) → o ≡ Some s
+    same o k = ap (λ (z : Option Step × List ℕ). z.0) (ok_is (o, rest) (Some s, rest) k)
+
+    on_found : (o : Option (ℕ × ℕ)) → is.found ≡ o → visit_movi place.names tt (entry_of (place.input - 1) is.name taken_size) is.middle ≡ Ok ((tt, o), rest) → open_framed place (place.input - 1 - (8 + padded taken_size)) o rest ≡ Ok (Some s, rest) → InputAfter place s.1
+    on_found None e visit step =
+        let made : Step = (None, open_at place OpenMovi (place.input - 1 - (8 + padded taken_size) + 1) 0) in
+        let is_made : made ≡ s = some_is made s (same (Some made) step) in
+        let P : Step → Type 0 = λ z. InputAfter place z.1 in
+        subst P is_made (after_input place made.1 (omega (arith, is.whole, fits)) (omega arith) refl)
+    on_found (Some y) e visit step =
+        let made : Step = (Some y.0, open_frame_at place (y.1 + 1)) in
+        let is_made : made ≡ s = some_is made s (same (Some made) step) in
+        let stop = movi_stop_at place.names tt (entry_of (place.input - 1) is.name taken_size) is.middle tt y rest visit in
+        let P : Step → Type 0 = λ z. InputAfter place z.1 in
+        subst P is_made (after_input place made.1 (omega (arith, is.whole, fits, stop.1)) (omega arith) refl)
+
+riff_step_less : (place : Place) (text : List ℕ) (next : Place) (rest : List ℕ) → IsOfRiff place text next rest → InputAfter place next
+riff_step_less place text next rest is = subst (InputAfter place) (sym is.place_is) (on_found is.found is.visit)
+  where
+    n : ℕ
+    n = little_number 4 is.size
+
+    left : ℕ
+    left = place.input - 1 - (8 + padded n)
+
+    on_found : (o : Option (ℕ × ℕ)) → visit_riff place.names tt (entry_of (place.input - 1) is.name n) is.middle ≡ Ok ((tt, o), rest) → InputAfter place (open_passed place left o)
+    on_found None visit = after_input place (open_passed place left None) (omega (arith, is.whole)) (omega arith) refl
+    on_found (Some p) visit =
+        let stop = riff_stop place.names tt (entry_of (place.input - 1) is.name n) is.middle tt p rest visit in
+        after_input place (open_passed place left (Some p)) (omega (arith, is.whole, stop.0)) (omega arith) refl
+
+ahead_less : (place : Place) (text : List ℕ) (next : Place) (rest : List ℕ) → IsAhead place text next rest → InputAfter place next
+ahead_less place text next rest (inl is) = subst (InputAfter place) (sym is.place_is) (after_input place (open_at place OpenRiff (place.input - 12) 0) (omega (arith, is.fits)) (omega (arith, is.fits)) refl)
+ahead_less place text next rest (inr (inl is)) = riff_step_less place text next rest is
+ahead_less place text next rest (inr (inr is)) = subst (InputAfter place) (sym is.place_is) (after_input place (open_at place OpenMovi (place.input - 12) 0) (omega (arith, is.fits)) (omega (arith, is.fits)) refl)
+
+pub step_input : (place : Place) (text : List ℕ) (s : Step) (rest : List ℕ) → open_found place text ≡ Ok (Some s, rest) → InputAfter place s.1
+step_input place text s rest h = on_case (open_case place text (Some s, rest) h).1
+  where
+    on_case : IsStep place text s rest → InputAfter place s.1
+    on_case (inl is) = movi_step_less place text s rest is
+    on_case (inr is) = ahead_less place text s.1 rest is.1
+
+pub step_less : (place : Place) (text : List ℕ) (s : Step) (rest : List ℕ) → open_found place text ≡ Ok (Some s, rest) → LessAfter place s.1
+step_less place text s rest h = let after = step_input place text s rest h in less_input place s.1 after.0 after.1 after.2
+
+-- if nothing is left of the input, nothing comes after a movi
+pub open_first : (place : Place) → place.input ≡ 0 → (text : List ℕ) → open_found place text ≡ Ok (None, text)
+unfolding open_found
+open_first place none text = rw none refl
+
+pub beyond_first : (o : Open) (on : Place → Reading (Option (ℕ × Place))) (place : Place) → place.input ≡ 0 → (text : List ℕ) → beyond o on place text ≡ Ok (None, text)
+beyond_first Sized on place none text = ap (λ z. read_on z (sought_on on)) (moved_first place none text)
+beyond_first OpenRiff on place none text = ap (λ z. read_on z (stepped on)) (open_first place none text)
+beyond_first OpenMovi on place none text = ap (λ z. read_on z (stepped on)) (open_first place none text)
+
 -- less is left after a frame, as much is read, and the names stay
-frame_up_to_less : (most : ℕ) (place next : Place) (size : ℕ) (text rest : List ℕ) → frame_found_up_to most place text ≡ Ok (Some (size, next), rest) → (amount next < amount place) × (extent_of next ≡ extent_of place) × (next.names ≡ place.names)
+frame_up_to_less : (most : ℕ) (place next : Place) (size : ℕ) (text rest : List ℕ) → frame_found_up_to most place text ≡ Ok (Some (size, next), rest) → LessAfter place next
 unfolding frame_found_up_to
 frame_up_to_less zero place next size text rest h =
     let y : ℕ × Place = (size, next) in
@@ -188,34 +281,50 @@ frame_up_to_less (suc most) place next size text rest h =
     let first = read_on_ok (movi_found place.names place.movi text) (found_or_on (frame_found_up_to most) place) (Some (size, next), rest) h in
     on_found (λ p more k. frame_up_to_less most p next size more rest k) first.0.0 first.0.1 first.1 first.2
   where
-    Goal : Type 0
-    Goal = (amount next < amount place) × (extent_of next ≡ extent_of place) × (next.names ≡ place.names)
-
     Again : Type 0
-    Again = (p : Place) (more : List ℕ) → frame_found_up_to most p more ≡ Ok (Some (size, next), rest) → (amount next < amount p) × (extent_of next ≡ extent_of p) × (next.names ≡ p.names)
+    Again = (p : Place) (more : List ℕ) → frame_found_up_to most p more ≡ Ok (Some (size, next), rest) → LessAfter p next
 
     y : ℕ × Place
     y = (size, next)
 
-    on_moved : Again → (o : Option Place) (more behind : List ℕ) → moved place more ≡ Ok (o, behind) → sought_on (frame_found_up_to most) o behind ≡ Ok (Some (size, next), rest) → Goal
-    on_moved again None more behind is k = absurd (no_some y (sym (ap (λ (z : Option (ℕ × Place) × List ℕ). z.0) (ok_is (None, behind) (Some y, rest) k))))
-    on_moved again (Some p) more behind is k =
-        let later = again p behind k in
-        let less = moved_less place p more behind is in
-        (omega (arith, later.0, less.0), later.1 ∙ less.1, later.2 ∙ less.2)
+    later : (p : Place) → LessAfter place p → LessAfter p next → LessAfter place next
+    later p one two = (omega (arith, one.0, two.0), two.1 ∙ one.1, two.2 ∙ one.2)
 
-    on_found : Again → (o : Option (ℕ × ℕ)) (more : List ℕ) → movi_found place.names place.movi text ≡ Ok (o, more) → found_or_on (frame_found_up_to most) place o more ≡ Ok (Some (size, next), rest) → Goal
-    on_found again None more is k =
+    no_none : (behind : List ℕ) → ◌≡◌ {A = Result (Option (ℕ × Place) × List ℕ) Stop} (Ok (None, behind)) (Ok (Some y, rest)) → ⊥
+    no_none behind k = no_some y (sym (ap (λ (z : Option (ℕ × Place) × List ℕ). z.0) (ok_is (None, behind) (Some y, rest) k)))
+
+    on_moved : Again → (o : Option Place) (more behind : List ℕ) → moved place more ≡ Ok (o, behind) → sought_on (frame_found_up_to most) o behind ≡ Ok (Some (size, next), rest) → LessAfter place next
+    on_moved again None more behind is k = absurd (no_none behind k)
+    on_moved again (Some p) more behind is k = later p (moved_less place p more behind is) (again p behind k)
+
+    on_step : Again → (o : Option Step) (more behind : List ℕ) → open_found place more ≡ Ok (o, behind) → stepped (frame_found_up_to most) o behind ≡ Ok (Some (size, next), rest) → LessAfter place next
+    on_step again None more behind is k = absurd (no_none behind k)
+    on_step again (Some (None, p)) more behind is k = later p (step_less place more (None, p) behind is) (again p behind k)
+    on_step again (Some (Some n, p)) more behind is k =
+        let x : ℕ × Place = (n, p) in
+        let same : x ≡ y = some_is x y (ap (λ (z : Option (ℕ × Place) × List ℕ). z.0) (ok_is (Some x, behind) (Some y, rest) k)) in
+        subst (LessAfter place) (ap (λ (z : ℕ × Place). z.1) same) (step_less place more (Some n, p) behind is)
+
+    on_beyond : Again → (o : Open) (more : List ℕ) → beyond o (frame_found_up_to most) place more ≡ Ok (Some (size, next), rest) → LessAfter place next
+    on_beyond again Sized more k =
         let second = read_on_ok (moved place more) (sought_on (frame_found_up_to most)) (Some (size, next), rest) k in
         on_moved again second.0.0 more second.0.1 second.1 second.2
+    on_beyond again OpenRiff more k =
+        let second = read_on_ok (open_found place more) (stepped (frame_found_up_to most)) (Some (size, next), rest) k in
+        on_step again second.0.0 more second.0.1 second.1 second.2
+    on_beyond again OpenMovi more k =
+        let second = read_on_ok (open_found place more) (stepped (frame_found_up_to most)) (Some (size, next), rest) k in
+        on_step again second.0.0 more second.0.1 second.1 second.2
+
+    on_found : Again → (o : Option (ℕ × ℕ)) (more : List ℕ) → movi_found place.names place.movi text ≡ Ok (o, more) → found_or_on (frame_found_up_to most) place o more ≡ Ok (Some (size, next), rest) → LessAfter place next
+    on_found again None more is k = on_beyond again place.open_in more k
     on_found again (Some p) more is k =
         let x : ℕ × Place = (p.0, frame_at place p.1) in
         let same : x ≡ y = some_is x y (ap (λ (z : Option (ℕ × Place) × List ℕ). z.0) (ok_is (Some x, more) (Some y, rest) k)) in
         let less = found_less place.names place.movi text p more is in
-        let P : Place → Type 0 = λ z. (amount z < amount place) × (extent_of z ≡ extent_of place) × (z.names ≡ place.names) in
-        subst P (ap (λ (z : ℕ × Place). z.1) same) (omega (arith, less), refl, refl)
+        subst (LessAfter place) (ap (λ (z : ℕ × Place). z.1) same) (omega (arith, less), refl, refl)
 
-pub frame_less_at : (place next : Place) (size : ℕ) (text rest : List ℕ) → frame_found place text ≡ Ok (Some (size, next), rest) → (amount next < amount place) × (extent_of next ≡ extent_of place) × (next.names ≡ place.names)
+pub frame_less_at : (place next : Place) (size : ℕ) (text rest : List ℕ) → frame_found place text ≡ Ok (Some (size, next), rest) → LessAfter place next
 unfolding frame_found
 frame_less_at place next size text rest h = frame_up_to_less (amount place) place next size text rest h
 
@@ -231,7 +340,7 @@ found_nothing zero place text movi input = refl
 found_nothing (suc most) place text movi input =
     ap (λ n. read_on (movi_found place.names n text) (found_or_on (frame_found_up_to most) place)) movi
     ∙ ap (λ z. read_on z (found_or_on (frame_found_up_to most) place)) (movi_empty place.names text)
-    ∙ ap (λ z. read_on z (sought_on (frame_found_up_to most))) (moved_first place input text)
+    ∙ beyond_first place.open_in (frame_found_up_to most) place input text
 
 -- more lists than there can be make no difference
 found_enough : (f g : ℕ) (place : Place) (text : List ℕ) → amount place ≤ f → amount place ≤ g → frame_found_up_to f place text ≡ frame_found_up_to g place text
@@ -251,10 +360,23 @@ found_enough (suc f) (suc g) place text h k = on_found (λ p more. found_enough 
         let less = moved_less place p text rest is in
         same p rest (omega (arith, less.0, h)) (omega (arith, less.0, k))
 
+    on_step : Same → (text : List ℕ) (z : Result (Option Step × List ℕ) Stop) → open_found place text ≡ z → read_on z (stepped (frame_found_up_to f)) ≡ read_on z (stepped (frame_found_up_to g))
+    on_step same text (Err why) is = refl
+    on_step same text (Ok (None, rest)) is = refl
+    on_step same text (Ok (Some (Some n, p), rest)) is = refl
+    on_step same text (Ok (Some (None, p), rest)) is =
+        let less = step_less place text (None, p) rest is in
+        same p rest (omega (arith, less.0, h)) (omega (arith, less.0, k))
+
+    on_beyond : Same → (o : Open) (text : List ℕ) → beyond o (frame_found_up_to f) place text ≡ beyond o (frame_found_up_to g) place text
+    on_beyond same Sized text = on_moved same text (moved place text) refl
+    on_beyond same OpenRiff text = on_step same text (open_found place text) refl
+    on_beyond same OpenMovi text = on_step same text (open_found place text) refl
+
     on_found : Same → (z : Result (Option (ℕ × ℕ) × List ℕ) Stop) → movi_found place.names place.movi text ≡ z → read_on z (found_or_on (frame_found_up_to f) place) ≡ read_on z (found_or_on (frame_found_up_to g) place)
     on_found same (Err why) is = refl
     on_found same (Ok (Some p, rest)) is = refl
-    on_found same (Ok (None, rest)) is = on_moved same rest (moved place rest) refl
+    on_found same (Ok (None, rest)) is = on_beyond same place.open_in rest
 
 -- a frame is that of movi, or the first one after it
 pub frame_step : (place : Place) (text : List ℕ) → frame_found place text ≡ (movi_found place.names place.movi >>= found_or_on frame_found place) text
@@ -268,10 +390,41 @@ frame_step place text = found_enough (amount place) (suc (amount place)) place t
         let less = moved_less place p more rest is in
         found_enough (amount place) (amount p) p rest (omega (arith, less.0)) (omega arith)
 
+    on_step : (more : List ℕ) (z : Result (Option Step × List ℕ) Stop) → open_found place more ≡ z → read_on z (stepped (frame_found_up_to (amount place))) ≡ read_on z (stepped frame_found)
+    on_step more (Err why) is = refl
+    on_step more (Ok (None, rest)) is = refl
+    on_step more (Ok (Some (Some n, p), rest)) is = refl
+    on_step more (Ok (Some (None, p), rest)) is =
+        let less = step_less place more (None, p) rest is in
+        found_enough (amount place) (amount p) p rest (omega (arith, less.0)) (omega arith)
+
+    on_beyond : (o : Open) (more : List ℕ) → beyond o (frame_found_up_to (amount place)) place more ≡ beyond o frame_found place more
+    on_beyond Sized more = on_moved more (moved place more) refl
+    on_beyond OpenRiff more = on_step more (open_found place more) refl
+    on_beyond OpenMovi more = on_step more (open_found place more) refl
+
     on_found : (z : Result (Option (ℕ × ℕ) × List ℕ) Stop) → movi_found place.names place.movi text ≡ z → read_on z (found_or_on (frame_found_up_to (amount place)) place) ≡ read_on z (found_or_on frame_found place)
     on_found (Err why) is = refl
     on_found (Ok (Some p, rest)) is = refl
-    on_found (Ok (None, rest)) is = on_moved rest (moved place rest) refl
+    on_found (Ok (None, rest)) is = on_beyond place.open_in rest
+
+-- where the sizes are known, the next movi is looked for
+pub beyond_sized : (place : Place) → place.open_in ≡ Sized → (text : List ℕ) → beyond place.open_in frame_found place text ≡ (moved place >>= sought_on frame_found) text
+beyond_sized place known text = ap (λ z. beyond z frame_found place text) known
+
+-- else the next chunk
+pub beyond_open : (place : Place) → is_open place.open_in ≡ true → (text : List ℕ) → beyond place.open_in frame_found place text ≡ (open_found place >>= stepped frame_found) text
+beyond_open place unknown text = by_open place.open_in unknown
+  where
+    by_open : (o : Open) → is_open o ≡ true → beyond o frame_found place text ≡ (open_found place >>= stepped frame_found) text
+    by_open Sized e = absurd (cc)
+    by_open OpenRiff e = refl
+    by_open OpenMovi e = refl
+
+pub is_sized : (o : Open) → is_open o ≡ false → o ≡ Sized
+is_sized Sized e = refl
+is_sized OpenRiff e = absurd (cc)
+is_sized OpenMovi e = absurd (cc)
 
 -- if movi has nothing left, and nothing is left of the input, there is no frame
 pub frame_ends : (place : Place) → place.movi ≡ 0 → place.input ≡ 0 → (text : List ℕ) → frame_read place text ≡ Ok (None, text)

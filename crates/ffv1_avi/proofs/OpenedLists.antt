@@ -4,7 +4,7 @@ use Rattle.std.specs.Cmp.Lexicographic.{same_text}
 use Rattle.ffv1_avi.specs.declared.place.Names.{Names}
 use Rattle.ffv1_avi.specs.declared.place.Names.TheVariants.{Any, Closed}
 use Rattle.ffv1_avi.specs.Chunks.{Chunk, IsBeside, IsChunk, IsOpened, barred_in, frame_in, is_other_list}
-use Rattle.ffv1_avi.specs.Files.{list_entered, list_opened}
+use Rattle.ffv1_avi.specs.Opens.{list_entered, list_opened}
 use Rattle.ffv1_reads.specs.Reads.{Stop, given, passed, read_on, taken, ◌>>=◌}
 use Rattle.std.proofs.lemmas.Bool.{le-ltb}
 use Rattle.ffv1_avi.specs.Names.{bitmap_name, frame_name, is_barred, is_frame, is_stream_frame, opens, rule_of}

@@ -8,13 +8,15 @@ use Rattle.ffv1_avi.specs.declared.place.Names.{Names}
 use Rattle.ffv1_avi.specs.declared.place.Names.TheVariants.{Closed}
 use Rattle.ffv1_avi.specs.declared.place.Place.{Place}
 use Rattle.ffv1_avi.specs.Chunks.{Chunk, IsOpened, chunk_text}
-use Rattle.ffv1_avi.specs.Files.{found_or_on, found_read, frame_found, frame_read, list_opened, movi_found, visit_movi}
+use Rattle.ffv1_avi.specs.Files.{found_or_on, found_read, frame_found, frame_read, movi_found}
+use Rattle.ffv1_avi.specs.Opens.{list_opened, visit_movi}
 use Rattle.ffv1_avi.specs.Names.{is_barred, is_index, is_of_other, is_stream_frame, opens, palette_name, rule_of, stands_beside}
 use Rattle.ffv1_avi.specs.Offsets.{movi_left}
 use Rattle.ffv1_avi.specs.Padding.{content, padded}
 use Rattle.ffv1_avi.specs.Walk.{entry_in, entry_of, is_name, resumed, size_in, visited, walk_in}
 use Rattle.ffv1_avi.proofs.ChunkByChunk.{walk_step_in}
-use Rattle.ffv1_avi.proofs.FrameLaws.{frames_passed, placed, stands_in}
+use Rattle.ffv1_avi.proofs.FrameLaws.{placed, stands_in}
+use Rattle.ffv1_avi.proofs.MoviFrames.{frames_passed}
 use Rattle.ffv1_avi.proofs.ListWalks.{entry_complete_in}
 use Rattle.ffv1_avi.proofs.Moves.{frame_step}
 use Rattle.ffv1_avi.proofs.OpenedLists.{list_no_frame, rec_stands}

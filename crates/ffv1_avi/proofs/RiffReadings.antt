@@ -1,5 +1,5 @@
 -- Chunks of RIFF after movi, and the next RIFF, by the calls of which the reading of each is made.
-use Rattle.std.proofs.Common.{◌≡◌, ◌+◌, ◌-◌, ◌%◌, ◌^◌, ◌==◌, ◌<◌, ◌≤◌, min, ℕ, true, false, Option, Some, None, Result, Ok, Err, IfOk, List, [], ◌++◌, length, length-append, codes, refl, sym, ap, ◌∙◌, subst, inl, inr, arith}
+use Rattle.std.proofs.Common.{◌≡◌, ◌⊎◌, Bool, ◌+◌, ◌-◌, ◌%◌, ◌^◌, ◌==◌, ◌<◌, ◌≤◌, min, ℕ, true, false, Option, Some, None, Result, Ok, Err, IfOk, List, [], ◌++◌, length, length-append, codes, refl, sym, ap, ◌∙◌, subst, inl, inr, arith}
 use Rattle.std.proofs.lemmas.Bool.{ne_eqb}
 use Rattle.ffv1_reads.specs.declared.fault.FileFault.{FileFault}
 use Rattle.ffv1_reads.specs.declared.fault.FileFault.TheVariants as fault
@@ -16,23 +16,28 @@ use Rattle.ffv1_avi.specs.declared.place.Extent.{Extent}
 use Rattle.ffv1_avi.specs.declared.place.Extent.TheVariants.{FirstMovi, EveryRiff}
 use Rattle.ffv1_avi.specs.declared.place.Names.{Names}
 use Rattle.ffv1_avi.specs.declared.place.Place.{Place}
-use Rattle.ffv1_avi.specs.Behind.{EndsBehind, StandAfter}
-use Rattle.ffv1_avi.specs.Files.{riff_begun, riff_list, visit_riff}
+use Rattle.ffv1_avi.specs.Behind.{EndsOpen, OverAt, Stand, StandAfter}
+use Rattle.ffv1_avi.specs.declared.place.Open.{Open}
+use Rattle.ffv1_avi.specs.declared.place.Open.TheVariants.{Sized, OpenRiff, OpenMovi}
+use Rattle.ffv1_avi.specs.Files.{riff_begun}
+use Rattle.ffv1_avi.specs.Opens.{open_found, riff_list, visit_riff}
 use Rattle.ffv1_avi.specs.Internal.Ending.{AnswersOrNone, ReadOrNone, RefusedOrNone}
-use Rattle.ffv1_avi.specs.Offsets.{Counts, ReadsTo, ReadsUpTo, StopsIn, chunk_taken, movi_entered, riff_left, riff_next, riff_taken}
-use Rattle.ffv1_avi.specs.Internal.Offsets.{FrameBegins, MovesTo, TellsBehind}
+use Rattle.ffv1_avi.specs.Offsets.{Counts, ReadsTo, ReadsUpTo, StopsIn, beyond_taken, chunk_taken, movi_entered, riff_left, riff_next, riff_taken}
+use Rattle.ffv1_avi.specs.Internal.Offsets.{FrameStarts, MovesTo, TellsBehind}
 use Rattle.ffv1_avi.specs.Names.{is_frame}
 use Rattle.ffv1_avi.specs.Padding.{padded}
-use Rattle.ffv1_avi.specs.Places.{ended, extent_of, frame_at, movi_at}
+use Rattle.ffv1_avi.specs.Places.{ended, extent_of, is_open, movi_at}
 use Rattle.ffv1_avi.specs.Walk.{plain, entry_in, entry_read, is_name}
-use Rattle.ffv1_avi.proofs.BegunRiffs.{begun_sound}
-use Rattle.ffv1_avi.proofs.ChunkReadings.{chunk_framed, entry_counted}
+use Rattle.ffv1_avi.proofs.BegunRiffs.{FoundOpen, FoundRiff, begun_sound}
+use Rattle.ffv1_avi.proofs.ChunkReadings.{chunk_started, entry_counted}
 use Rattle.ffv1_avi.proofs.Moves.{extent_every}
 
 -- if movi has nothing left, and more RIFFs are read, a chunk of RIFF comes next
-riff_chunk : (place : Place) (left : ℕ) → 0 < place.input → (text : List ℕ) → chunk_taken (riff_left place left) text ≡ (entry_read left >>= riff_taken (riff_left place left)) text
+riff_chunk : (place : Place) (left : ℕ) → place.open_in ≡ Sized → 0 < place.input → (text : List ℕ) → chunk_taken (riff_left place left) text ≡ (entry_read left >>= riff_taken (riff_left place left)) text
 unfolding chunk_taken entry_in
-riff_chunk place left more text = let some : (place.input == 0) ≡ false = ne_eqb place.input 0 (λ e. omega (arith, e, more)) in rw some refl
+riff_chunk place left known more text =
+    let some : (place.input == 0) ≡ false = ne_eqb place.input 0 (λ e. omega (arith, e, more)) in
+    rw some (ap (λ (o : Open). beyond_taken o (riff_left place left) text) known)
 
 -- a chunk of RIFF
 abbrev Listed : Entry → Type 0
@@ -46,9 +51,9 @@ abbrev Roomy : Entry → Unit {0} × Option (ℕ × ℕ) → Type 0
 Roomy e (u, None) = Unit {0}
 Roomy e (u, Some p) = 4 ≤ e.size
 
-visit_takes : (names : Names) (e : Entry) → Listed e → Takes (Roomy e) (padded e.size) (visit_left e) (visit_riff names tt e)
+pub riff_takes : (names : Names) (e : Entry) → Listed e → Takes (Roomy e) (padded e.size) (visit_left e) (visit_riff names tt e)
 unfolding visit_riff
-visit_takes names e listed =
+riff_takes names e listed =
     takes_if (is_name e.name (codes "LIST")) (taken 4 >>= riff_list e.left e.size) _
     (λ list. (let four : 4 ≤ e.size = listed list in
     takes_then (taken 4) _ (takes_same _ _ (taken 4) (omega (arith, four)) (takes_wanted Looked 4 (padded e.size - 4))) (λ own _.
@@ -57,25 +62,25 @@ visit_takes names e listed =
     (λ _. takes_if (is_frame names e.name) (refused fault.NotAvi) _ (λ _. takes_refused fault.NotAvi)
     (λ _. takes_then (passed (padded e.size)) _ (takes_same _ _ (passed (padded e.size)) (omega arith) (takes_passed (padded e.size) 0)) (λ _ _. takes_given _ tt refl)))
 
-module _ (place : Place) (left : ℕ) (more : 0 < place.input) where
+module _ (place : Place) (left : ℕ) (known : place.open_in ≡ Sized) (more : 0 < place.input) where
   abbrev here : Place
   here = riff_left place left
 
   pub riff_passed : (e : Entry) {a b c : Option (List ℕ)} → Listed e → Read (entry_read left) a b (Some e) → Read (visit_riff place.names tt e) b c (tt, None) → ReadsCounted (chunk_taken here) a c (riff_left place e.left) (8 + (padded e.size + 0))
   riff_passed e {c = c} listed header visit =
-      counted_same (entry_read left >>= riff_taken here) _ (λ text. sym (riff_chunk place left more text))
+      counted_same (entry_read left >>= riff_taken here) _ (λ text. sym (riff_chunk place left known more text))
       (counted_then (entry_read left) (riff_taken here) (entry_counted plain left e header)
-      (counted_then (visit_riff place.names tt e) (λ p. movi_entered here e.left p.1) (reads_counted (padded e.size) (visit_takes place.names e listed) (omega arith) visit) (counted_given (riff_left place e.left) c)))
+      (counted_then (visit_riff place.names tt e) (λ p. movi_entered here e.left p.1) (reads_counted (padded e.size) (riff_takes place.names e listed) (omega arith) visit) (counted_given (riff_left place e.left) c)))
 
   pub riff_movi : (e : Entry) (movi : ℕ × ℕ) {a b c : Option (List ℕ)} → Listed e → Read (entry_read left) a b (Some e) → Read (visit_riff place.names tt e) b c (tt, Some movi) → ReadsCounted (chunk_taken here) a c (movi_at place movi) (8 + (4 + 0))
   riff_movi e movi {c = c} listed header visit =
-      let four : 4 ≤ e.size = ((visit_takes place.names e listed).only _ _ _ (visit.is [])).0 in
-      counted_same (entry_read left >>= riff_taken here) _ (λ text. sym (riff_chunk place left more text))
+      let four : 4 ≤ e.size = ((riff_takes place.names e listed).only _ _ _ (visit.is [])).0 in
+      counted_same (entry_read left >>= riff_taken here) _ (λ text. sym (riff_chunk place left known more text))
       (counted_then (entry_read left) (riff_taken here) (entry_counted plain left e header)
-      (counted_then (visit_riff place.names tt e) (λ p. movi_entered here e.left p.1) (reads_counted {x = (tt {0}, Some movi)} 4 (visit_takes place.names e listed) (omega (arith, four)) visit) (counted_given (movi_at place movi) c)))
+      (counted_then (visit_riff place.names tt e) (λ p. movi_entered here e.left p.1) (reads_counted {x = (tt {0}, Some movi)} 4 (riff_takes place.names e listed) (omega (arith, four)) visit) (counted_given (movi_at place movi) c)))
 
   reached : (old : Option (List ℕ)) (before : ℕ) → Goes (chunk_taken here) old before (entry_read left >>= riff_taken here) old before
-  reached old before = goes_same (chunk_taken here) (entry_read left >>= riff_taken here) (riff_chunk place left more) (goes_none (chunk_taken here) old before)
+  reached old before = goes_same (chunk_taken here) (entry_read left >>= riff_taken here) (riff_chunk place left known more) (goes_none (chunk_taken here) old before)
 
   pub riff_entry_refused : (old new : Option (List ℕ)) (before after : ℕ) (f : FileFault) → Refused (entry_read left) old new before after f → RefusedOrEnds (chunk_taken here) old new before after f
   riff_entry_refused old new before after f why = ends_refused (entry_read left) (riff_taken here) new after f (reached old before) why
@@ -89,29 +94,36 @@ begun_same : (place : Place) (text : List ℕ) → riff_begun (riff_left place 0
 unfolding riff_begun
 begun_same place text = refl
 
-riff_next_chunk : (place : Place) → 0 < place.input → (text : List ℕ) → chunk_taken (riff_left place 0) text ≡ (riff_begun place >>= riff_next) text
+riff_next_chunk : (place : Place) → place.open_in ≡ Sized → 0 < place.input → (text : List ℕ) → chunk_taken (riff_left place 0) text ≡ (riff_begun place >>= riff_next) text
 unfolding entry_in
-riff_next_chunk place more text = riff_chunk place 0 more text ∙ ap (λ z. read_on z riff_next) (begun_same place text)
+riff_next_chunk place known more text = riff_chunk place 0 known more text ∙ ap (λ z. read_on z riff_next) (begun_same place text)
 
 begun_counted : (place next : Place) {a b : Option (List ℕ)} → Read (riff_begun place) a b (Some next) → ReadsCounted (riff_begun place) a b (Some next) 12
 begun_counted place next read =
-    let found = begun_sound place (read.bytes ++ []) (Some next, []) (read.is []) in
-    let front = codes "RIFF" ++ found.size ++ codes "AVIX" in
-    let long : length front ≡ 12 = length-append (codes "RIFF" ++ found.size) (codes "AVIX") ∙ ap (λ n. n + length (codes "AVIX")) (length-append (codes "RIFF") found.size) ∙ (omega (arith, found.sized, spelled)) in
-    let count : length read.bytes ≡ 12 = omega (arith, ap length found.text_is, length-append read.bytes [], length-append front [], long) in
+    let count : length read.bytes ≡ 12 = on_found (begun_sound place (read.bytes ++ []) (Some next, []) (read.is [])) in
     record { bytes = read.bytes; consumed = read.consumed; is = read.is; counted = count }
   where
     spelled : (length (codes "RIFF") ≡ 4) × (length (codes "AVIX") ≡ 4)
     spelled = (refl, refl)
 
-next_counted : (place next : Place) {a b : Option (List ℕ)} → 0 < place.input → Read (riff_begun place) a b (Some next) → ReadsCounted (chunk_taken (riff_left place 0)) a b next (12 + 0)
-next_counted place next {b = b} more read =
-    counted_same (riff_begun place >>= riff_next) _ (λ text. sym (riff_next_chunk place more text))
+    twelve : (size : List ℕ) → length size ≡ 4 → read.bytes ++ [] ≡ (codes "RIFF" ++ size ++ codes "AVIX") ++ [] → length read.bytes ≡ 12
+    twelve size sized whole =
+        let front = codes "RIFF" ++ size ++ codes "AVIX" in
+        let long : length front ≡ 12 = length-append (codes "RIFF" ++ size) (codes "AVIX") ∙ ap (λ n. n + length (codes "AVIX")) (length-append (codes "RIFF") size) ∙ (omega (arith, sized, spelled)) in
+        omega (arith, ap length whole, length-append read.bytes [], length-append front [], long)
+
+    on_found : FoundRiff place (read.bytes ++ []) next [] ⊎ FoundOpen place (read.bytes ++ []) next [] → length read.bytes ≡ 12
+    on_found (inl found) = twelve found.size found.sized found.text_is
+    on_found (inr found) = twelve found.size found.sized found.text_is
+
+next_counted : (place next : Place) {a b : Option (List ℕ)} → place.open_in ≡ Sized → 0 < place.input → Read (riff_begun place) a b (Some next) → ReadsCounted (chunk_taken (riff_left place 0)) a b next (12 + 0)
+next_counted place next {b = b} known more read =
+    counted_same (riff_begun place >>= riff_next) _ (λ text. sym (riff_next_chunk place known more text))
     (counted_then (riff_begun place) riff_next (begun_counted place next read) (counted_given next b))
 
-pub next_reached : (place next : Place) {a b : Option (List ℕ)} {before after : ℕ} → 0 < place.input → Read (riff_begun place) a b (Some next) → after ≡ min (before + 12) (2 ^ 64 - 1) → ReadsUpTo (riff_left place 0) a b next before after
-next_reached place next {a = a} {before = before} {after = after} more read is =
-    (0 + (12 + 0), counts_more (reads_none chunk_taken (riff_left place 0) a) (next_counted place next more read), counts)
+pub next_reached : (place next : Place) {a b : Option (List ℕ)} {before after : ℕ} → place.open_in ≡ Sized → 0 < place.input → Read (riff_begun place) a b (Some next) → after ≡ min (before + 12) (2 ^ 64 - 1) → ReadsUpTo (riff_left place 0) a b next before after
+next_reached place next {a = a} {before = before} {after = after} known more read is =
+    (0 + (12 + 0), counts_more (reads_none chunk_taken (riff_left place 0) a) (next_counted place next known more read), counts)
   where
     twice : (n most : ℕ) → min (min n most + 12) most ≡ min (n + (0 + (12 + 0))) most
     twice n most = grind arith
@@ -120,16 +132,16 @@ next_reached place next {a = a} {before = before} {after = after} more read is =
     counts n same = is ∙ rw same (twice n (2 ^ 64 - 1))
 
 -- a refusal if the end of the input may be an answer
-over : {X : Type 0} (extent : Extent) (reading : Reading (Option X)) (old new : Option (List ℕ)) (before after : ℕ) (f : FileFault) → RefusedOrNone extent reading old new before after f → RefusedOrOver reading old new before after f
+pub over : {X : Type 0} (extent : Extent) (reading : Reading (Option X)) (old new : Option (List ℕ)) (before after : ℕ) (f : FileFault) → RefusedOrNone extent reading old new before after f → RefusedOrOver reading old new before after f
 over FirstMovi reading old new before after fault.Read (counted, inl wants) = (counted, inl wants)
 over FirstMovi reading old new before after fault.Read (counted, inr halts) = absurd halts
 over EveryRiff reading old new before after fault.Read why = why
 over extent reading old new before after f why = why
 
-pub next_refused : (place : Place) (old new : Option (List ℕ)) (before after : ℕ) (f : FileFault) → 0 < place.input → RefusedOrNone EveryRiff (riff_begun place) old new before after f → RefusedOrEnds (chunk_taken (riff_left place 0)) old new before after f
-next_refused place old new before after f more why =
+pub next_refused : (place : Place) (old new : Option (List ℕ)) (before after : ℕ) (f : FileFault) → place.open_in ≡ Sized → 0 < place.input → RefusedOrNone EveryRiff (riff_begun place) old new before after f → RefusedOrEnds (chunk_taken (riff_left place 0)) old new before after f
+next_refused place old new before after f known more why =
     ends_refused_none (riff_begun place) riff_next ended new after f (λ text. refl)
-    (goes_same (chunk_taken (riff_left place 0)) (riff_begun place >>= riff_next) (riff_next_chunk place more) (goes_none (chunk_taken (riff_left place 0)) old before))
+    (goes_same (chunk_taken (riff_left place 0)) (riff_begun place >>= riff_next) (riff_next_chunk place known more) (goes_none (chunk_taken (riff_left place 0)) old before))
     (over EveryRiff (riff_begun place) old new before after f why)
 
 -- up to a position, and on from there
@@ -173,40 +185,59 @@ counts_more_by before mid after m n more one is same k first = is ∙ rw (one k 
     all : (k most : ℕ) → min (min (k + m) most + more) most ≡ min (k + (m + n)) most
     all k most = grind (arith, same)
 
-pub passed_next : {from : Place} {a b c d : Option (List ℕ)} {first mid after : ℕ} (place : Place) (left : ℕ) (e : Entry) (more : 0 < place.input) → Listed e → ReadsUpTo from a b (riff_left place left) first mid → Read (entry_read left) b c (Some e) → Read (visit_riff place.names tt e) c d (tt, None) → after ≡ min (mid + (8 + padded e.size)) (2 ^ 64 - 1) →
+pub passed_next : {from : Place} {a b c d : Option (List ℕ)} {first mid after : ℕ} (place : Place) (left : ℕ) (e : Entry) (known : place.open_in ≡ Sized) (more : 0 < place.input) → Listed e → ReadsUpTo from a b (riff_left place left) first mid → Read (entry_read left) b c (Some e) → Read (visit_riff place.names tt e) c d (tt, None) → after ≡ min (mid + (8 + padded e.size)) (2 ^ 64 - 1) →
     ReadsUpTo from a d (riff_left place e.left) first after
-passed_next {first = first} {mid = mid} {after = after} place left e more listed h header visit is = (h.0 + (8 + (padded e.size + 0)), counts_more h.1 (riff_passed place left more e listed header visit), counts_more_by first mid after h.0 (8 + (padded e.size + 0)) (8 + padded e.size) h.2 is (omega arith))
+passed_next {first = first} {mid = mid} {after = after} place left e known more listed h header visit is = (h.0 + (8 + (padded e.size + 0)), counts_more h.1 (riff_passed place left known more e listed header visit), counts_more_by first mid after h.0 (8 + (padded e.size + 0)) (8 + padded e.size) h.2 is (omega arith))
 
-pub movi_next : {from : Place} {a b c d : Option (List ℕ)} {first mid after : ℕ} (place : Place) (left : ℕ) (e : Entry) (movi : ℕ × ℕ) (more : 0 < place.input) → Listed e → ReadsUpTo from a b (riff_left place left) first mid → Read (entry_read left) b c (Some e) → Read (visit_riff place.names tt e) c d (tt, Some movi) → after ≡ min (mid + 12) (2 ^ 64 - 1) →
+pub movi_next : {from : Place} {a b c d : Option (List ℕ)} {first mid after : ℕ} (place : Place) (left : ℕ) (e : Entry) (movi : ℕ × ℕ) (known : place.open_in ≡ Sized) (more : 0 < place.input) → Listed e → ReadsUpTo from a b (riff_left place left) first mid → Read (entry_read left) b c (Some e) → Read (visit_riff place.names tt e) c d (tt, Some movi) → after ≡ min (mid + 12) (2 ^ 64 - 1) →
     ReadsUpTo from a d (movi_at place movi) first after
-movi_next {first = first} {mid = mid} {after = after} place left e movi more listed h header visit is = (h.0 + (8 + (4 + 0)), counts_more h.1 (riff_movi place left more e movi listed header visit), counts_more_by first mid after h.0 (8 + (4 + 0)) 12 h.2 is refl)
+movi_next {first = first} {mid = mid} {after = after} place left e movi known more listed h header visit is = (h.0 + (8 + (4 + 0)), counts_more h.1 (riff_movi place left known more e movi listed header visit), counts_more_by first mid after h.0 (8 + (4 + 0)) 12 h.2 is refl)
 
 -- a frame more
-pub frame_next : {from : Place} {a b c d e : Option (List ℕ)} {first mid last : ℕ} (to : Place) (size left : ℕ) (bytes : List ℕ) → ReadsUpTo from a b to first mid → FrameBegins to b c (size, left) → Read (wanted Kept size) c d bytes → Read (passed (size % 2)) d e tt → last ≡ min (mid + (8 + padded size)) (2 ^ 64 - 1) →
-    ReadsUpTo from a e (frame_at to left) first last
-frame_next {first = first} {mid = mid} {last = last} to size left bytes h found read pad is =
-    (h.0 + (8 + (0 + (size + (size % 2 + 0) + 0))), counts_more h.1 (chunk_framed to found.entry size left bytes found.header found.visit read pad), counts_more_by first mid last h.0 (8 + (0 + (size + (size % 2 + 0) + 0))) (8 + padded size) h.2 is (omega arith))
+pub frame_next : {from : Place} {a b c d e : Option (List ℕ)} {first mid last : ℕ} (to : Place) (size : ℕ) (next : Place) (bytes : List ℕ) → ReadsUpTo from a b to first mid → FrameStarts to b c size next → Read (wanted Kept size) c d bytes → Read (passed (size % 2)) d e tt → last ≡ min (mid + (8 + padded size)) (2 ^ 64 - 1) →
+    ReadsUpTo from a e next first last
+frame_next {first = first} {mid = mid} {last = last} to size next bytes h found read pad is =
+    (h.0 + (8 + (size + (size % 2 + 0) + 0)), counts_more h.1 (chunk_started to size next bytes found read pad), counts_more_by first mid last h.0 (8 + (size + (size % 2 + 0) + 0)) (8 + padded size) h.2 is (omega arith))
 
 -- the frames end with an RIFF, after chunks that were read whole
-pub ends_behind : {from : Place} {a b c : Option (List ℕ)} {first mid : ℕ} {after : Option ℕ} (place : Place) → 0 < place.input → ReadsUpTo from a b (riff_left place 0) first mid → ReadOrNone EveryRiff (riff_begun place) b c None → StandAfter b c mid after → EndsBehind from a c first after
+pub ends_behind : {from : Place} {a b c : Option (List ℕ)} {first mid : ℕ} {after : Option ℕ} (place : Place) → place.open_in ≡ Sized → 0 < place.input → ReadsUpTo from a b (riff_left place 0) first mid → ReadOrNone EveryRiff (riff_begun place) b c None → StandAfter b c mid after → EndsOpen from a c first after false
 unfolding riff_begun
-ends_behind {b = b} {mid = mid} place some chunks over told = record { to = riff_left place 0; between = b; end = mid; chunks = chunks; movi = refl; riff = refl; every = extent_every (riff_left place 0) (λ e. omega (arith, e, some)); over = over; told = told }
+ends_behind {b = b} {c = c} {mid = mid} place known some chunks over told =
+    let to = riff_left place 0 in
+    let P : Open → Type 0 = λ o. OverAt o to b c in
+    let Q : Open → Type 0 = λ o. false ≡ is_open o in
+    (record { to = to; between = b; end = mid; chunks = chunks; movi = refl; riff = λ _. refl; every = extent_every to (λ e. omega (arith, e, some)); over = subst P (sym known) over; told = told }, subst Q (sym known) refl)
 
-pub behind_then : {from place : Place} {a b c : Option (List ℕ)} {first mid : ℕ} {after : Option ℕ} → ReadsUpTo from a b place first mid → EndsBehind place b c mid after → EndsBehind from a c first after
-behind_then chunks h = record { to = h.to; between = h.between; end = h.end; chunks = up_to_then chunks h.chunks; movi = h.movi; riff = h.riff; every = h.every; over = h.over; told = h.told }
+-- or in an RIFF or a movi without size
+pub ends_open : {from : Place} {a b c : Option (List ℕ)} {first mid : ℕ} (to : Place) → is_open to.open_in ≡ true → 0 < to.input → to.movi ≡ 0 → ReadsUpTo from a b to first mid → ReadOrNone EveryRiff (open_found to) b c None → Stand b c false → EndsOpen from a c first None true
+ends_open {b = b} {c = c} {mid = mid} to unknown some movi chunks over stand =
+    (record { to = to; between = b; end = mid; chunks = chunks; movi = movi; riff = λ sized. absurd (not_sized to.open_in sized unknown); every = extent_every to (λ e. omega (arith, e, some)); over = over_open to.open_in unknown; told = stand }, sym unknown)
+  where
+    over_open : (o : Open) → is_open o ≡ true → OverAt o to b c
+    over_open Sized e = absurd (cc)
+    over_open OpenRiff e = over
+    over_open OpenMovi e = over
 
-pub tells_then : {from place : Place} {a b : Option (List ℕ)} {first mid : ℕ} (c : Option (List ℕ)) (after : Option ℕ) (extent : Extent) → ReadsUpTo from a b place first mid → TellsBehind extent place b c mid after → TellsBehind extent from a c first after
-tells_then c after FirstMovi chunks h = h
-tells_then c after EveryRiff chunks h = behind_then chunks h
+    not_sized : (o : Open) → o ≡ Sized → is_open o ≡ true → ⊥
+    not_sized Sized sized e = absurd (cc)
+    not_sized OpenRiff sized e = absurd (cc)
+    not_sized OpenMovi sized e = absurd (cc)
+
+pub behind_then : {from place : Place} {a b c : Option (List ℕ)} {first mid : ℕ} {after : Option ℕ} {open_ended : Bool} → ReadsUpTo from a b place first mid → EndsOpen place b c mid after open_ended → EndsOpen from a c first after open_ended
+behind_then chunks (h, is) = (record { to = h.to; between = h.between; end = h.end; chunks = up_to_then chunks h.chunks; movi = h.movi; riff = h.riff; every = h.every; over = h.over; told = h.told }, is)
+
+pub tells_then : {from place : Place} {a b : Option (List ℕ)} {first mid : ℕ} (c : Option (List ℕ)) (after : Option ℕ) (open_ended : Bool) (extent : Extent) → ReadsUpTo from a b place first mid → TellsBehind extent place b c mid after open_ended → TellsBehind extent from a c first after open_ended
+tells_then c after open_ended FirstMovi chunks h = h
+tells_then c after open_ended EveryRiff chunks h = behind_then chunks h
 
 -- the same of an extent that is equal
-pub tells_same : (from : Place) (a b : Option (List ℕ)) (first : ℕ) (after : Option ℕ) (d e : Extent) → d ≡ e → TellsBehind d from a b first after → TellsBehind e from a b first after
-tells_same from a b first after d e same h = let P : Extent → Type 0 = λ z. TellsBehind z from a b first after in subst P same h
+pub tells_same : (from : Place) (a b : Option (List ℕ)) (first : ℕ) (after : Option ℕ) (open_ended : Bool) (d e : Extent) → d ≡ e → TellsBehind d from a b first after open_ended → TellsBehind e from a b first after open_ended
+tells_same from a b first after open_ended d e same h = let P : Extent → Type 0 = λ z. TellsBehind z from a b first after open_ended in subst P same h
 
 -- after the end of a movi
-pub moves_behind : {a b : Option (List ℕ)} {first mid : ℕ} (c : Option (List ℕ)) (before last : ℕ) (after : Option ℕ) (place : Place) (result : Result (Option Place) FileFault) → 0 < place.input → ReadsUpTo (riff_left place place.riff) a b (riff_left place 0) first mid →
+pub moves_behind : {a b : Option (List ℕ)} {first mid : ℕ} (c : Option (List ℕ)) (before last : ℕ) (after : Option ℕ) (place : Place) (result : Result (Option Place) FileFault) → place.open_in ≡ Sized → 0 < place.input → ReadsUpTo (riff_left place place.riff) a b (riff_left place 0) first mid →
     AnswersOrNone EveryRiff (λ (q : Option Place). q) (riff_begun place) (record { old = b; new = c; before = before; after = last }) result → IfOk result (λ o. o ≡ None → StandAfter b c mid after) →
-    IfOk result (λ o. o ≡ None → TellsBehind (extent_of place) (riff_left place place.riff) a c first after)
-moves_behind c before last after place (Ok None) some chunks answer told = λ none. rw (extent_every place (λ e. omega (arith, e, some))) (ends_behind place some chunks answer.1 (told refl))
-moves_behind c before last after place (Ok (Some next)) some chunks answer told = λ none. absurd (cc)
-moves_behind c before last after place (Err f) some chunks answer told = tt
+    IfOk result (λ o. o ≡ None → TellsBehind (extent_of place) (riff_left place place.riff) a c first after false)
+moves_behind c before last after place (Ok None) known some chunks answer told = λ none. rw (extent_every place (λ e. omega (arith, e, some))) (ends_behind place known some chunks answer.1 (told refl))
+moves_behind c before last after place (Ok (Some next)) known some chunks answer told = λ none. absurd (cc)
+moves_behind c before last after place (Err f) known some chunks answer told = tt

@@ -1,33 +1,35 @@
 -- Files of every RIFF that are refused before the first movi.
-use Rattle.std.proofs.Common.{◌≡◌, inl, inr, ℕ, suc, zero, ◌+◌, ◌-◌, ◌%◌, ◌<◌, nat_lt, true, Option, Some, None, Ok, Err, List, [], ◌∷◌, ◌++◌, length, take, codes, flat_map, if◌then◌else◌, ap, ◌∙◌, sym, subst, arith, refl, append_assoc}
+use Rattle.std.proofs.Common.{◌≡◌, inl, inr, ℕ, suc, zero, ◌+◌, ◌-◌, ◌%◌, ◌<◌, nat_lt, Bool, true, false, Option, Some, None, Ok, Err, List, [], ◌∷◌, ◌++◌, length, take, codes, flat_map, if◌then◌else◌, ap, ◌∙◌, sym, subst, arith, refl, append_assoc}
 use Rattle.std.proofs.lemmas.Bool.{le-ltb, lt-ltb}
 use Rattle.std.proofs.lemmas.List.{take_all}
 use Rattle.byteorder.specs.Endian.{little_number}
-use Rattle.ffv1_avi.specs.declared.chunk.Entry.{Entry}
 use Rattle.ffv1_reads.specs.declared.fault.FileFault.TheVariants as fault
 use Rattle.ffv1_avi.specs.declared.place.Extent.TheVariants.{EveryRiff}
 use Rattle.ffv1_avi.specs.declared.place.Place.{Place}
 use Rattle.ffv1_avi.specs.Begun.{HasShortFormat, HeaderBegins, RiffBegins, StreamBegins, streams_of}
 use Rattle.ffv1_avi.specs.Chunks.{AreOthers, Chunk, MoviBegins, Part, Passes, chunks_text, header_chunks, is_list, streams}
 use Rattle.ffv1_avi.specs.Counted.{AreCounted, ExtendedBegins, HasExtended}
-use Rattle.ffv1_avi.specs.Files.{Headers, extended_read, header_named, list_skipped, list_visited, movi_reached, no_headers, open_read, opened, stream_visited, visit_extended, visit_header, visit_top}
+use Rattle.ffv1_avi.specs.Files.{Headers, extended_read, header_named, movi_reached, no_headers, open_read, opened, stream_visited, visit_extended, visit_header, visit_top}
+use Rattle.ffv1_avi.specs.Opens.{list_skipped}
 use Rattle.ffv1_reads.specs.Head.{Head}
 use Rattle.ffv1_reads.specs.Reads.{Met, Reading, given, passed, read_on, taken, ◌>>=◌}
 use Rattle.ffv1_avi.specs.Padding.{padded}
 use Rattle.ffv1_avi.specs.Streams.{Known, nothing_known, stream_judged, stream_read, visit_field}
-use Rattle.ffv1_avi.specs.Walk.{entry_read, resumed, visited, walk}
+use Rattle.ffv1_avi.specs.Walk.{is_known, is_name, is_sizeless, resumed, visited, walk, walk_in}
+use Rattle.ffv1_avi.specs.Names.{riff_rule}
 use Rattle.ffv1_avi.proofs.Fields.{TakesField, field_complete}
 use Rattle.ffv1_avi.proofs.FrameLaws.{those_both}
 use Rattle.ffv1_avi.proofs.HeaderLaws.{StreamBytes, TakesHeader, stream_end, with_frames}
 use Rattle.ffv1_avi.proofs.HeaderRuns.{Counts, heads, total_exists}
-use Rattle.ffv1_avi.proofs.ListWalks.{Run, entry_complete, walk_complete}
-use Rattle.ffv1_avi.proofs.LongLaws.{header_fault, list_count, list_entry, open_begun, top_goes}
+use Rattle.ffv1_avi.proofs.ListWalks.{Run, walk_complete}
+use Rattle.ffv1_avi.proofs.LongLaws.{begun_room, header_fault, list_count, list_entry, open_begun}
+use Rattle.ffv1_avi.proofs.OpenLaws.{top_goes, top_listed}
 use Rattle.ffv1_avi.proofs.PartLaws.{parts_text, run_part}
 use Rattle.ffv1_reads.proofs.WantedBytes.{taken_complete}
-use Rattle.ffv1_avi.proofs.RefusalLaws.{entry_long}
+use Rattle.ffv1_avi.proofs.RefusalLaws.{entry_long, entry_long_in}
 use Rattle.ffv1_avi.proofs.StreamLaws.{run_exists}
 use Rattle.ffv1_avi.proofs.TotalLaws.{TakesTotal, total_complete}
-use Rattle.ffv1_avi.proofs.ChunkByChunk.{walk_step}
+use Rattle.ffv1_avi.proofs.ChunkByChunk.{walk_step, walk_step_in}
 use Rattle.ffv1_avi.specs.Files.{stream_came}
 
 -- what streams lead to
@@ -76,34 +78,37 @@ none_run cs are has =
     record { known = run.known; run = run.run; none = run.head_is; passed = run.number }
 
 pub every_no_stream : (file : List ℕ) (parts : List Part) (rest : List ℕ) → MoviBegins file parts rest → AreOthers EveryRiff (take 100 (streams parts)) → HasExtended (flat_map header_chunks parts) → open_read EveryRiff file ≡ Err (Met fault.NoFfv1 rest)
-unfolding visit_top
 every_no_stream file parts rest is are has =
     let run = none_run (flat_map header_chunks parts) are has in
     let text = (codes "LIST" ++ is.movi_size ++ codes "movi") ++ rest in
     let left = little_number 4 is.riff_size - (4 + length (parts_text parts)) in
     let size = little_number 4 is.movi_size in
+    let said = little_number 4 is.riff_size in
     let begun : RiffBegins file parts left text = record { riff_size = is.riff_size; bytes = is.bytes; sized = is.riff_sized; counted = omega (arith, is.fits); each = is.each } in
     let whole : text ≡ (codes "LIST" ++ is.movi_size) ++ (codes "movi" ++ rest) = append_assoc (codes "LIST" ++ is.movi_size) (codes "movi") rest in
-    let e : Entry = record { name = codes "LIST"; size = size; left = left - (8 + padded size) } in
-    let entry : entry_read left text ≡ Ok (Some e, codes "movi" ++ rest) = ap (entry_read left) whole ∙ entry_complete left (codes "LIST") is.movi_size (codes "movi" ++ rest) refl is.movi_sized (omega (arith, is.fits)) (λ l. is.movi_named) in
-    let own : taken 4 (codes "movi" ++ rest) ≡ Ok (codes "movi", rest) = taken_complete 4 (codes "movi") rest refl in
-    let on : Headers × Option (Head × Place) → Reading (Headers × Option (Head × Place)) = λ p. resumed (walk (visit_top EveryRiff) e.left) p.0 p.1 in
+    let more = left - (8 + padded size) in
+    let on : Headers × Option (Head × Place) → Reading (Headers × Option (Head × Place)) = λ p. resumed (walk_in (riff_rule EveryRiff) (visit_top EveryRiff) more) p.0 p.1 in
     open_begun EveryRiff file parts left text begun
-    ∙ top_goes EveryRiff parts run.known left text is.each run.run
-    ∙ ap (λ z. read_on z (λ p. opened p.1)) (walk_step (visit_top EveryRiff) left run.known text)
-    ∙ ap (λ z. read_on (read_on z (visited (visit_top EveryRiff) (walk (visit_top EveryRiff)) run.known)) (λ p. opened p.1)) entry
-    ∙ ap (λ z. read_on (read_on (read_on z (list_visited EveryRiff run.known e.left size)) on) (λ p. opened p.1)) own
-    ∙ ap (λ z. read_on (read_on (movi_reached EveryRiff run.known e.left size z rest) on) (λ p. opened p.1)) run.none
+    ∙ top_goes EveryRiff said parts run.known left text (begun_room EveryRiff file parts left text begun) is.each run.run
+    ∙ ap (λ z. read_on (walk_in (riff_rule EveryRiff) (visit_top EveryRiff) left run.known z) (λ p. opened EveryRiff said p.1)) whole
+    ∙ top_listed EveryRiff said run.known left is.movi_size (codes "movi") rest is.movi_sized refl is.movi_named (omega (arith, is.fits))
+    ∙ ap (λ z. read_on (read_on (movi_reached EveryRiff run.known more size z rest) on) (λ p. opened EveryRiff said p.1)) run.none
 
 pub every_riff_long : (file : List ℕ) (parts : List Part) (left : ℕ) (name size rest : List ℕ) → RiffBegins file parts left ((name ++ size) ++ rest) → AreCounted 100 (streams parts) → HasExtended (flat_map header_chunks parts) → Passes left name size →
-    open_read EveryRiff file ≡ Err (Met fault.Truncated rest)
-every_riff_long file parts left name size rest is are has passes =
+    (is_name name (codes "LIST") ≡ true → is_known (little_number 4 size) ≡ true) → open_read EveryRiff file ≡ Err (Met fault.Truncated rest)
+every_riff_long file parts left name size rest is are has passes told =
     let text = (name ++ size) ++ rest in
+    let rule = riff_rule EveryRiff in
+    let said = little_number 4 is.riff_size in
     let run = counted_run (flat_map header_chunks parts) are has in
     open_begun EveryRiff file parts left text is
-    ∙ top_goes EveryRiff parts run.0 left text is.each run.1
-    ∙ ap (λ z. read_on z (λ p. opened p.1)) (walk_step (visit_top EveryRiff) left run.0 text)
-    ∙ ap (λ z. read_on (read_on z (visited (visit_top EveryRiff) (walk (visit_top EveryRiff)) run.0)) (λ p. opened p.1)) (entry_long left name size rest passes.named passes.sized passes.header passes.passes)
+    ∙ top_goes EveryRiff said parts run.0 left text (begun_room EveryRiff file parts left text is) is.each run.1
+    ∙ ap (λ z. read_on z (λ p. opened EveryRiff said p.1)) (walk_step_in rule (visit_top EveryRiff) left run.0 text)
+    ∙ ap (λ z. read_on (read_on z (visited (visit_top EveryRiff) (walk_in rule (visit_top EveryRiff)) run.0)) (λ p. opened EveryRiff said p.1)) (entry_long_in rule left name size rest refl (known_size (is_name name (codes "LIST")) (little_number 4 size) refl told) passes.named passes.sized passes.header passes.passes)
+  where
+    known_size : (b : Bool) (n : ℕ) → is_name name (codes "LIST") ≡ b → (is_name name (codes "LIST") ≡ true → is_known n ≡ true) → is_sizeless (riff_rule EveryRiff) name n ≡ false
+    known_size false n p told = rw p refl
+    known_size true n p told = rw (p, told p) refl
 
 -- the streams of parts, and those of chunks of hdrl after them
 streams_both : (parts : List Part) (chunks : List Chunk) → streams_of (flat_map header_chunks parts ++ chunks) ≡ streams parts ++ streams_of chunks

@@ -13,7 +13,7 @@ use Rattle.ffv1_wire.proofs.Bytes.{consumes_then}
 use Rattle.ffv1_wire.specs.Reads.{Fills}
 use Rattle.ffv1_avi.specs.declared.place.Extent.TheVariants.{EveryRiff}
 use Rattle.ffv1_avi.specs.Behind.{Stand, StandAfter}
-use Rattle.ffv1_avi.specs.Files.{taken_or_end}
+use Rattle.ffv1_avi.specs.Opens.{taken_or_end}
 use Rattle.ffv1_avi.specs.Internal.Ending.{ReadOrNone}
 
 no_some : {X : Type 0} (x : X) → ◌≡◌ {A = Option X} (Some x) None → ⊥

@@ -135,7 +135,7 @@ pub taken_even : (b : Bool) (cs : List Chunk) → AreTaken b cs → length (chun
 taken_even b [] each = refl
 taken_even b (c ∷ cs) each =
     let first = taken_first b c cs each in
-    let is = taken_as (record { bars = λ name. false; opens = b }) c first.0 in
+    let is = taken_as (record { bars = λ name. false; opens = b; sizeless = false }) c first.0 in
     let more = taken_even b cs first.1 in
     let both : length (chunks_text (c ∷ cs)) ≡ length (chunk_text c) + length (chunks_text cs) = length-append (chunk_text c) (chunks_text cs) in
     let long = is.long in

@@ -1,22 +1,27 @@
 -- Reading a file: its head up to the first movi, and the frames, one after the other.
 use Rattle.std.specs.Prelude.{ℕ, suc, zero, ◌+◌, ◌-◌, ◌%◌, ◌==◌, ◌&&◌, Bool}
-use Rattle.std.specs.Prelude.{min, if◌then◌else◌, nat_lt, nat_le, List, [], ◌∷◌, length, take, drop}
-use Rattle.std.specs.Prelude.{codes, Option, Some, None, Ok, false, ◌^◌}
+use Rattle.std.specs.Prelude.{min, if◌then◌else◌, nat_lt, nat_le, List, [], ◌∷◌, take, drop}
+use Rattle.std.specs.Prelude.{codes, Option, Some, None, false, true, ◌^◌}
 use Rattle.byteorder.specs.Endian.{little_number}
 use Rattle.ffv1_reads.specs.declared.fault.FileFault.TheVariants as fault
 use Rattle.ffv1_avi.specs.declared.place.Extent.{Extent}
 use Rattle.ffv1_avi.specs.declared.place.Extent.TheVariants.{FirstMovi, EveryRiff}
 use Rattle.ffv1_avi.specs.declared.place.Names.{Names}
 use Rattle.ffv1_avi.specs.declared.place.Names.TheVariants.{Closed}
+use Rattle.ffv1_avi.specs.declared.place.Open.{Open}
+use Rattle.ffv1_avi.specs.declared.place.Open.TheVariants.{Sized, OpenRiff, OpenMovi}
 use Rattle.ffv1_avi.specs.declared.place.Place.{Place}
 use Rattle.ffv1_reads.specs.Behind.{begins_file}
 use Rattle.ffv1_reads.specs.Head.{Head}
-use Rattle.ffv1_avi.specs.Places.{amount, extent_of, first_place, frame_at, movi_at, riff_at}
-use Rattle.ffv1_reads.specs.Reads.{Kept, Looked, Reading, given, refused, taken, passed}
-use Rattle.ffv1_avi.specs.Names.{is_barred, is_frame, least_bytes, most_bytes, rule_of}
+use Rattle.ffv1_avi.specs.Places.{amount, extent_of, first_open, first_place, frame_at, movi_at}
+use Rattle.ffv1_avi.specs.Places.{riff_at, unsized}
+use Rattle.ffv1_reads.specs.Reads.{Kept, Reading, given, refused, taken, passed}
+use Rattle.ffv1_avi.specs.Names.{riff_rule, rule_of}
+use Rattle.ffv1_avi.specs.Opens.{Step, list_skipped, open_found, open_riff, or_end, taken_or_end}
+use Rattle.ffv1_avi.specs.Opens.{visit_movi, visit_riff}
 use Rattle.ffv1_avi.specs.Padding.{padded, content}
 use Rattle.ffv1_reads.specs.Reads.{◌>>=◌}
-use Rattle.ffv1_avi.specs.Walk.{is_name, Visit, walk, walk_in}
+use Rattle.ffv1_avi.specs.Walk.{Visit, is_known, is_name, walk, walk_in}
 use Rattle.ffv1_avi.specs.Streams.{begins_video, skipped, stream_read}
 
 -- what is known before the first movi: how many streams came that do not count, the head of the one
@@ -66,10 +71,6 @@ stream_came extent k =
       streams = one_more extent k.streams;
       others = k.others;
     }
-
--- what is left of a list of which its own name has been read, if it says nothing here
-abbrev pub list_skipped : {S Y : Type 0} → S → ℕ → Reading (S × Option Y)
-list_skipped s size = passed (padded size - 4) >>= λ _. given (s, None)
 
 -- a further stream that begins as FFV1 video is counted; in 8 bytes
 abbrev pub with_other : Headers → Bool → Headers
@@ -177,13 +178,30 @@ movi_reached extent k left size (Some head) =
       ),
     )
 
+-- the same, if its size is not known
+abbrev pub open_movi_reached : Headers → Option Head → Reading (Headers × Option (Head × Place))
+open_movi_reached k None = refused fault.NoFfv1
+open_movi_reached k (Some head) =
+    given (k, Some (head, first_open (Closed k.passed k.streams) (owed k.frames)))
+
+-- a list of RIFF without size, by its own name: movi alone has none
+abbrev pub sizeless_visited : Headers → List ℕ → Reading (Headers × Option (Head × Place))
+sizeless_visited k own =
+    if is_name own (codes "movi") then open_movi_reached k k.head else refused fault.NotAvi
+
+-- another one
+abbrev pub list_named : Extent → Headers → ℕ → ℕ → List ℕ →
+    Reading (Headers × Option (Head × Place))
+list_named extent k left size own =
+    if is_name own (codes "hdrl") then (header_read extent k size >>= λ found. given (found, None))
+    else if is_name own (codes "movi") then movi_reached extent k left size k.head
+    else list_skipped k size
+
 -- a list of RIFF, by its own name
 abbrev pub list_visited : Extent → Headers → ℕ → ℕ → List ℕ →
     Reading (Headers × Option (Head × Place))
 list_visited extent k left size own =
-    if is_name own (codes "hdrl") then (header_read extent k size >>= λ found. given (found, None))
-    else if is_name own (codes "movi") then movi_reached extent k left size k.head
-    else list_skipped k size
+    if size == 0 then sizeless_visited k own else list_named extent k left size own
 
 -- a chunk of RIFF, before its first movi
 unfoldable pub visit_top : Extent → Visit Headers (Head × Place)
@@ -191,25 +209,43 @@ visit_top extent k e =
     if is_name e.name (codes "LIST") then (taken 4 >>= list_visited extent k e.left e.size)
     else skipped k e.size
 
--- the head, and where the first movi stands
-abbrev pub opened : Option (Head × Place) → Reading (Head × Place)
-opened None = refused fault.NotAvi
-opened (Some p) = given p
+-- the first RIFF, of this size, has room for its form; if every RIFF is read, its size may not be
+-- known
+abbrev pub has_form : Extent → ℕ → Bool
+has_form FirstMovi size = nat_le 4 size
+has_form EveryRiff size = if size == 0 then true else nat_le 4 size
 
--- RIFF's chunks, with so many bytes, up to the first movi
+-- how many bytes it has after that: as many as four bytes can say, if its size is not known
+abbrev pub room_in : Extent → ℕ → ℕ
+room_in FirstMovi size = size - 4
+room_in EveryRiff size = if size == 0 then 4294967291 else size - 4
+
+-- where the first movi stands in it: an RIFF without size ends with the input
+abbrev pub place_in : Extent → ℕ → Place → Place
+place_in FirstMovi size place = place
+place_in EveryRiff size place = if is_known size then place else unsized place.open_in place
+
+-- the head, and where the first movi stands, in an RIFF of this size
+abbrev pub opened : Extent → ℕ → Option (Head × Place) → Reading (Head × Place)
+opened extent size None = refused fault.NotAvi
+opened extent size (Some p) = given (p.0, place_in extent size p.1)
+
+-- the chunks of an RIFF of this size, up to the first movi
 unfoldable pub top_read : Extent → ℕ → Reading (Head × Place)
-top_read extent room = walk (visit_top extent) room no_headers >>= λ p. opened p.1
+top_read extent size =
+    walk_in (riff_rule extent) (visit_top extent) (room_in extent size) no_headers
+    >>= λ p. opened extent size p.1
 
 -- the first twelve bytes of a file
-abbrev pub begins : List ℕ → Bool
-begins bytes =
-    (is_name (take 4 bytes) (codes "RIFF") && is_name (drop 8 bytes) (codes "AVI ")) && nat_le 4
-    (little_number 4 (drop 4 bytes))
+abbrev pub begins : Extent → List ℕ → Bool
+begins extent bytes =
+    (is_name (take 4 bytes) (codes "RIFF") && is_name (drop 8 bytes) (codes "AVI "))
+    && has_form extent (little_number 4 (drop 4 bytes))
 
 -- a file up to the first movi: the head, and where that stands
 unfoldable pub open_read : Extent → Reading (Head × Place)
 open_read extent = taken 12 >>= λ bytes.
-    if begins bytes then top_read extent (little_number 4 (drop 4 bytes) - 4)
+    if begins extent bytes then top_read extent (little_number 4 (drop 4 bytes))
     else refused fault.NotAvi
 
 -- how many streams after the one that counts begin as FFV1 video, of a file that is read up to its
@@ -219,37 +255,14 @@ others_of others None = refused fault.NotAvi
 others_of others (Some p) = given others
 
 unfoldable pub top_others : Extent → ℕ → Reading ℕ
-top_others extent room =
-    walk (visit_top extent) room no_headers >>= λ p. others_of p.0.others p.1
+top_others extent size =
+    walk_in (riff_rule extent) (visit_top extent) (room_in extent size) no_headers
+    >>= λ p. others_of p.0.others p.1
 
 unfoldable pub others_read : Extent → Reading ℕ
 others_read extent = taken 12 >>= λ bytes.
-    if begins bytes then top_others extent (little_number 4 (drop 4 bytes) - 4)
+    if begins extent bytes then top_others extent (little_number 4 (drop 4 bytes))
     else refused fault.NotAvi
-
--- a frame's size is judged before its bytes are read
-abbrev pub frame_judged : ℕ → ℕ → ℕ → ℕ → Reading (Unit {0} × Option (ℕ × ℕ))
-frame_judged least most size left =
-    if nat_lt most size then refused fault.ChunkTooLong
-    else if nat_lt size least then refused fault.EmptyFrame
-    else given (tt, Some (size, left))
-
--- a list of movi, by its own name: the chunks of a list `rec ` are those of movi
-abbrev pub list_opened : List ℕ → Reading (Unit {0} × Option (ℕ × ℕ))
-list_opened own =
-    if is_name own (codes "rec ") then given (tt, None) else refused fault.NotAvi
-
-abbrev pub list_entered : ℕ → Reading (Unit {0} × Option (ℕ × ℕ))
-list_entered size = content Looked size >>= list_opened
-
--- a chunk of movi: one that may not stand there is refused
-unfoldable pub visit_movi : Names → Visit (Unit {0}) (ℕ × ℕ)
-visit_movi names s e =
-    if is_barred names e.name then refused fault.NotAvi
-    else if is_frame names e.name
-    then frame_judged (least_bytes names) (most_bytes names) e.size e.left
-    else if is_name e.name (codes "LIST") then list_entered e.size
-    else skipped s e.size
 
 -- the size of the next frame, and what movi has left after it, if it has so many bytes left;
 -- none at its end
@@ -257,43 +270,25 @@ unfoldable pub movi_found : Names → ℕ → Reading (Option (ℕ × ℕ))
 movi_found names left =
     walk_in (rule_of names) (visit_movi names) left tt >>= λ p. given p.1
 
--- a list of RIFF after a movi, by its own name
-abbrev pub riff_list : ℕ → ℕ → List ℕ → Reading (Unit {0} × Option (ℕ × ℕ))
-riff_list left size own =
-    if is_name own (codes "movi") then given (tt, Some (size - 4, left)) else list_skipped tt size
-
--- a chunk of RIFF after a movi, where no frame may come
-unfoldable pub visit_riff : Names → Visit (Unit {0}) (ℕ × ℕ)
-visit_riff names s e =
-    if is_name e.name (codes "LIST") then (taken 4 >>= riff_list e.left e.size)
-    else if is_frame names e.name then refused fault.NotAvi
-    else skipped s e.size
-
 -- the bytes of the next movi, and what RIFF has left after it, if it has so many bytes left;
 -- none at its end
 unfoldable pub movi_sought : Names → ℕ → Reading (Option (ℕ × ℕ))
 movi_sought names left = walk (visit_riff names) left tt >>= λ p. given p.1
 
--- so many bytes; or the end of the input, if no frame is owed and fewer are left
-unfoldable pub taken_or_end : ℕ → ℕ → Reading (Option (List ℕ))
-taken_or_end n owes text =
-    if nat_lt (length text) n && owes == 0 then Ok (None, [])
-    else (taken n >>= λ bytes. given (Some bytes)) text
-
--- what is made of them; nothing more at the end
-abbrev pub or_end : {X : Type 0} → (List ℕ → Reading (Option X)) → Option (List ℕ) →
-    Reading (Option X)
-or_end next None = given None
-or_end next (Some bytes) = next bytes
+-- an RIFF after the first, of this size
+abbrev pub riff_of_size : Place → ℕ → Reading (Option Place)
+riff_of_size place size =
+    if nat_le 4 size
+    then (if nat_lt (8 + size) place.input
+    then given (Some (riff_at place size)) else refused fault.Truncated)
+    else refused fault.NotAvi
 
 -- the size and the form of an RIFF after the first; one of another form begins another file
 abbrev pub riff_judged : Place → List ℕ → Reading (Option Place)
 riff_judged place bytes =
     if is_name (drop 4 bytes) (codes "AVIX")
-    then (if nat_le 4 (little_number 4 bytes)
-    then (if nat_lt (8 + little_number 4 bytes) place.input
-    then given (Some (riff_at place (little_number 4 bytes))) else refused fault.Truncated)
-    else refused fault.NotAvi)
+    then (if is_known (little_number 4 bytes) then riff_of_size place (little_number 4 bytes)
+    else open_riff place)
     else refused fault.Another
 
 abbrev pub riff_entered : Place → Reading (Option Place)
@@ -330,9 +325,22 @@ abbrev pub sought_on : (Place → Reading (Option (ℕ × Place))) → Option Pl
 sought_on on None = given None
 sought_on on (Some place) = on place
 
+abbrev pub stepped : (Place → Reading (Option (ℕ × Place))) → Option Step →
+    Reading (Option (ℕ × Place))
+stepped on None = given None
+stepped on (Some (None, next)) = on next
+stepped on (Some (Some size, next)) = given (Some (size, next))
+
+-- what comes after a movi, by what has no size
+abbrev pub beyond : Open → (Place → Reading (Option (ℕ × Place))) → Place →
+    Reading (Option (ℕ × Place))
+beyond Sized on place = moved place >>= sought_on on
+beyond OpenRiff on place = open_found place >>= stepped on
+beyond OpenMovi on place = open_found place >>= stepped on
+
 abbrev pub found_or_on : (Place → Reading (Option (ℕ × Place))) → Place → Option (ℕ × ℕ) →
     Reading (Option (ℕ × Place))
-found_or_on on place None = moved place >>= sought_on on
+found_or_on on place None = beyond place.open_in on place
 found_or_on on place (Some p) = given (Some (p.0, frame_at place p.1))
 
 -- the next frame, in at most so many lists movi and RIFF

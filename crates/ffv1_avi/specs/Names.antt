@@ -82,7 +82,16 @@ opens (Closed stream streams) = true
 
 -- how movi takes its chunks
 abbrev pub rule_of : Names → Rule
-rule_of names = record { bars = bars names; opens = opens names }
+rule_of names = record { bars = bars names; opens = opens names; sizeless = false }
+
+-- whether RIFF may have a list movi without size: if every RIFF is read
+abbrev pub is_every : Extent → Bool
+is_every FirstMovi = false
+is_every EveryRiff = true
+
+-- how RIFF takes its chunks, where a movi may have no size
+abbrev pub riff_rule : Extent → Rule
+riff_rule extent = record { bars = bars_none; opens = false; sizeless = is_every extent }
 
 -- the most bytes of a frame that are read, by how far is read
 abbrev pub most_in : Extent → ℕ

@@ -13,13 +13,18 @@ use Rattle.ffv1_reads.specs.declared.fault.FileFault.{FileFault}
 use Rattle.ffv1_reads.specs.declared.fault.FileFault.TheVariants as fault
 use Rattle.ffv1_avi.specs.declared.chunk.Entry.{Entry}
 use Rattle.ffv1_avi.specs.declared.place.Extent.{Extent}
+use Rattle.ffv1_avi.specs.declared.place.Open.{Open}
+use Rattle.ffv1_avi.specs.declared.place.Open.TheVariants.{Sized, OpenRiff, OpenMovi}
 use Rattle.ffv1_avi.specs.declared.place.Place.{Place}
-use Rattle.ffv1_avi.specs.Files.{Headers, begins, no_headers, riff_begun, visit_movi, visit_riff}
-use Rattle.ffv1_avi.specs.Files.{visit_top}
+use Rattle.ffv1_avi.specs.Files.{Headers, begins, no_headers, place_in}
+use Rattle.ffv1_avi.specs.Opens.{Step, open_found}
+use Rattle.ffv1_avi.specs.Files.{riff_begun, room_in, visit_top}
+use Rattle.ffv1_avi.specs.Opens.{visit_riff}
+use Rattle.ffv1_avi.specs.Opens.{visit_movi}
 use Rattle.ffv1_avi.specs.Padding.{content}
 use Rattle.ffv1_avi.specs.Places.{ended, frame_at, movi_at}
 use Rattle.ffv1_avi.specs.Readers.{Standing}
-use Rattle.ffv1_avi.specs.Names.{rule_of}
+use Rattle.ffv1_avi.specs.Names.{riff_rule, rule_of}
 use Rattle.ffv1_avi.specs.Walk.{entry_in, entry_read}
 
 -- after a chunk of movi that is no frame of the stream
@@ -31,6 +36,7 @@ movi_left place left =
       movi = left;
       names = place.names;
       owed = place.owed;
+      open_in = place.open_in;
     }
 
 -- after a chunk of RIFF that is no movi
@@ -42,6 +48,7 @@ riff_left place left =
       movi = 0;
       names = place.names;
       owed = place.owed;
+      open_in = place.open_in;
     }
 
 -- a frame, with its bytes and their padding, if the chunk is one
@@ -64,10 +71,23 @@ abbrev pub riff_taken : Place → Option Entry → Reading Place
 riff_taken place (Some e) = visit_riff place.names tt e >>= λ p. movi_entered place e.left p.1
 riff_taken place None = riff_begun place >>= riff_next
 
+-- what is taken of an RIFF or a movi whose size is not known: a frame with its bytes and their
+-- padding, or another chunk; at the end of the input nothing
+abbrev pub open_taken : Option Step → Reading Place
+open_taken None = given ended
+open_taken (Some (None, next)) = given next
+open_taken (Some (Some size, next)) = content Kept size >>= λ bytes. given next
+
+-- after movi, by what has no size
+abbrev pub beyond_taken : Open → Place → Reading Place
+beyond_taken Sized place = entry_read place.riff >>= riff_taken place
+beyond_taken OpenRiff place = open_found place >>= open_taken
+beyond_taken OpenMovi place = open_found place >>= open_taken
+
 abbrev pub movi_taken : Place → Option Entry → Reading Place
 movi_taken place (Some e) = visit_movi place.names tt e >>= λ p. frame_taken place e.left p.1
 movi_taken place None =
-    if place.input == 0 then given place else (entry_read place.riff >>= riff_taken place)
+    if place.input == 0 then given place else beyond_taken place.open_in place
 
 -- a chunk from its first byte on, from the first movi on: one of movi, with its frame; if that
 -- has none left, one of RIFF. At the end nothing is read
@@ -106,32 +126,38 @@ OffsetAfter old p (Ok false) new = new.offset ≡ old.offset
 OffsetAfter old p (Err f) new = StopsAt old.place p f old.offset new.offset
 
 -- where a reader stands before the frames: before the file; in its first RIFF, that has so many
--- bytes left, with what is known so far; or in the first movi
+-- bytes left, of the size that it says, with what is known so far; or in the first movi
 pub data Spot : Type 0 where
   Start : Spot
-  InRiff : Headers → ℕ → Spot
+  InRiff : ℕ → Headers → ℕ → Spot
   BeforeFrames : Head → Place → Spot
 
-abbrev pub riff_begins : List ℕ → Reading Spot
-riff_begins bytes =
-    if begins bytes then given (InRiff no_headers (little_number 4 (drop 4 bytes) - 4))
+-- RIFF of a size begins
+abbrev pub riff_at_size : Extent → ℕ → Spot
+riff_at_size extent size = InRiff size no_headers (room_in extent size)
+
+abbrev pub riff_begins : Extent → List ℕ → Reading Spot
+riff_begins extent bytes =
+    if begins extent bytes then given (riff_at_size extent (little_number 4 (drop 4 bytes)))
     else refused fault.NotAvi
 
 -- after a chunk of RIFF with so many bytes after it; or in movi
-abbrev pub top_left : ℕ → Headers × Option (Head × Place) → Reading Spot
-top_left left (found, None) = given (InRiff found left)
-top_left left (found, Some p) = given (BeforeFrames p.0 p.1)
+abbrev pub top_left : Extent → ℕ → ℕ → Headers × Option (Head × Place) → Reading Spot
+top_left extent size left (found, None) = given (InRiff size found left)
+top_left extent size left (found, Some p) = given (BeforeFrames p.0 (place_in extent size p.1))
 
-abbrev pub top_taken : Extent → Headers → Option Entry → Reading Spot
-top_taken extent found None = refused fault.NotAvi
-top_taken extent found (Some e) = visit_top extent found e >>= top_left e.left
+abbrev pub top_taken : Extent → ℕ → Headers → Option Entry → Reading Spot
+top_taken extent size found None = refused fault.NotAvi
+top_taken extent size found (Some e) =
+    visit_top extent found e >>= top_left extent size e.left
 
 -- a chunk from its first byte on, before the frames: the first twelve bytes of the file; and a
 -- chunk of RIFF, the list hdrl with all that it has; of movi the header and its own name. If RIFF
 -- ends before any movi, the fault is at its end. Before the frames nothing is read
 unfoldable pub spot_taken : Extent → Spot → Reading Spot
-spot_taken extent Start = taken 12 >>= riff_begins
-spot_taken extent (InRiff found left) = entry_read left >>= top_taken extent found
+spot_taken extent Start = taken 12 >>= riff_begins extent
+spot_taken extent (InRiff size found left) =
+    entry_in (riff_rule extent) left >>= top_taken extent size found
 spot_taken extent (BeforeFrames head place) = given (BeforeFrames head place)
 
 -- the offset after opening: of the first frame's chunk, which begins after movi's own name; after a

@@ -1,9 +1,11 @@
 -- Where a reader stands in a file, and how far it reads.
-use Rattle.std.specs.Prelude.{ℕ, ◌+◌, ◌-◌, ◌==◌, if◌then◌else◌}
+use Rattle.std.specs.Prelude.{ℕ, ◌+◌, ◌-◌, ◌==◌, Bool, true, false, if◌then◌else◌}
 use Rattle.ffv1_avi.specs.declared.place.Extent.{Extent}
 use Rattle.ffv1_avi.specs.declared.place.Extent.TheVariants.{FirstMovi, EveryRiff}
 use Rattle.ffv1_avi.specs.declared.place.Names.{Names}
 use Rattle.ffv1_avi.specs.declared.place.Names.TheVariants.{Any}
+use Rattle.ffv1_avi.specs.declared.place.Open.{Open}
+use Rattle.ffv1_avi.specs.declared.place.Open.TheVariants.{Sized, OpenRiff, OpenMovi}
 use Rattle.ffv1_avi.specs.declared.place.Place.{Place}
 
 -- how far is read: bytes after this RIFF are looked at only if every RIFF is read
@@ -12,7 +14,7 @@ extent_of place = if place.input == 0 then FirstMovi else EveryRiff
 
 -- where a reader stands after the end
 abbrev pub ended : Place
-ended = record { input = 0; riff = 0; movi = 0; names = Any; owed = 0 }
+ended = record { input = 0; riff = 0; movi = 0; names = Any; owed = 0; open_in = Sized }
 
 -- a number of bytes that no reading from here passes
 abbrev pub amount : Place → ℕ
@@ -26,9 +28,73 @@ most_input = 18446744073709551615
 -- if every RIFF is read
 abbrev pub first_place : Extent → ℕ → ℕ → Names → ℕ → Place
 first_place FirstMovi riff movi names owed =
-    record { input = 0; riff = 0; movi = movi; names = Any; owed = 0 }
+    record { input = 0; riff = 0; movi = movi; names = Any; owed = 0; open_in = Sized }
 first_place EveryRiff riff movi names owed =
-    record { input = most_input; riff = riff; movi = movi; names = names; owed = owed }
+    record {
+      input = most_input;
+      riff = riff;
+      movi = movi;
+      names = names;
+      owed = owed;
+      open_in = Sized;
+    }
+
+-- whether a size is not known here
+abbrev pub is_open : Open → Bool
+is_open Sized = false
+is_open OpenRiff = true
+is_open OpenMovi = true
+
+-- the first movi, if its size is not known
+abbrev pub first_open : Names → ℕ → Place
+first_open names owed =
+    record {
+      input = most_input;
+      riff = 0;
+      movi = 0;
+      names = names;
+      owed = owed;
+      open_in = OpenMovi;
+    }
+
+-- the same place in an RIFF whose size is not known
+abbrev pub unsized : Open → Place → Place
+unsized Sized place =
+    record {
+      input = place.input;
+      riff = 0;
+      movi = place.movi;
+      names = place.names;
+      owed = place.owed;
+      open_in = OpenRiff;
+    }
+unsized OpenRiff place = place
+unsized OpenMovi place = place
+
+-- in an RIFF, or a movi, whose size is not known: so many bytes of the input are read at most,
+-- after those of a movi of so many
+abbrev pub open_at : Place → Open → ℕ → ℕ → Place
+open_at place open_in input movi =
+    record {
+      input = input;
+      riff = 0;
+      movi = movi;
+      names = place.names;
+      owed = place.owed;
+      open_in = open_in;
+    }
+
+-- after a frame of such a movi
+abbrev pub open_frame_at : Place → ℕ → Place
+open_frame_at place input =
+    record {
+      input = input;
+      riff = 0;
+      movi = 0;
+      names = place.names;
+      owed = place.owed - 1;
+      open_in = OpenMovi;
+    }
 
 -- a movi in the same RIFF
 abbrev pub movi_at : Place → ℕ × ℕ → Place
@@ -39,6 +105,7 @@ movi_at place p =
       movi = p.0;
       names = place.names;
       owed = place.owed;
+      open_in = place.open_in;
     }
 
 -- the next RIFF, of so many bytes, before its first movi
@@ -50,6 +117,7 @@ riff_at place size =
       movi = 0;
       names = place.names;
       owed = place.owed;
+      open_in = Sized;
     }
 
 -- after a frame, if movi has so many bytes left
@@ -61,4 +129,5 @@ frame_at place left =
       movi = left;
       names = place.names;
       owed = place.owed - 1;
+      open_in = place.open_in;
     }

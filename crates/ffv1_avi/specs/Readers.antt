@@ -13,8 +13,8 @@ use Rattle.ffv1_avi.specs.declared.place.Place.{Place}
 
 -- the head of its file, the place in that, the fault that it has met, for how many bytes its record
 -- has room, the bytes before that place, after the end the bytes before others that stand after
--- the last RIFF, how many frames so far had no bytes, and how many streams after the one that is
--- read begin as FFV1 video
+-- the last RIFF, how many frames so far had no bytes, how many streams after the one that is read
+-- begin as FFV1 video, and whether it came to an RIFF or a movi whose size is not known
 pub record Standing : Type 0 where
   pub head : Head
   pub place : Place
@@ -24,6 +24,7 @@ pub record Standing : Type 0 where
   pub after : Option ℕ
   pub repeated : ℕ
   pub others : ℕ
+  pub open_ended : Bool
 
 -- how many frames had no bytes, after one more with these; it is held in 8 bytes
 abbrev pub with_repeated : List ℕ → ℕ → ℕ

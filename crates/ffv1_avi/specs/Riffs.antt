@@ -1,5 +1,6 @@
 -- A file of one or more RIFFs as lists of chunks, apart from how it is walked.
-use Rattle.std.specs.Prelude.{◌≡◌, ℕ, ◌+◌, ◌≤◌, ◌<◌, ◌&&◌, Bool, false, min, nat_le, List, []}
+use Rattle.std.specs.Prelude.{◌≡◌, ℕ, ◌+◌, ◌≤◌, ◌<◌, ◌&&◌, Bool, true, false, min, nat_le}
+use Rattle.std.specs.Prelude.{List, []}
 use Rattle.std.specs.Prelude.{◌∷◌, ◌++◌}
 use Rattle.std.specs.Prelude.{length, codes, flat_map, Option, Some, None}
 use Rattle.byteorder.specs.Endian.{little_number}
@@ -12,6 +13,7 @@ use Rattle.ffv1_avi.specs.Chunks.{IsStream, Part, chunk_text, chunks_text, first
 use Rattle.ffv1_avi.specs.Chunks.{header_chunks, is_list, is_named, streams, those}
 use Rattle.ffv1_reads.specs.Head.{Head}
 use Rattle.ffv1_avi.specs.Places.{most_input}
+use Rattle.ffv1_avi.specs.Walk.{is_known}
 
 -- a chunk of an RIFF after its first movi, or of one of the RIFFs after the first: a list movi, by
 -- its size and its chunks, or another one
@@ -56,6 +58,7 @@ riff_text r = (codes "RIFF" ++ r.size ++ codes "AVIX") ++ sections_text r.sectio
 
 pub record IsRiff (names : Names) (r : Riff) : Type 0 where
   pub sized : length r.size ≡ 4
+  pub known : is_known (little_number 4 r.size) ≡ true
   pub counted : little_number 4 r.size ≡ 4 + length (sections_text r.sections)
   pub each : AreSections names r.sections
 
@@ -113,6 +116,7 @@ pub record RiffFile (file : List ℕ) (head : Head) (frames : List (List ℕ)) :
       ++ (parts_text parts ++ ((codes "LIST" ++ movi_size ++ codes "movi")
       ++ (chunks_text chunks ++ (sections_text sections ++ riffs_text riffs))))
   pub riff_sized : length riff_size ≡ 4
+  pub riff_known : is_known (little_number 4 riff_size) ≡ true
   pub movi_sized : length movi_size ≡ 4
   pub counted : little_number 4 movi_size ≡ 4 + length (chunks_text chunks)
   pub fit : Fit 0 chunks

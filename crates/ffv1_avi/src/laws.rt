@@ -3,7 +3,7 @@
 
 ghost use Rattle.std.specs.Prelude.{◌≡◌, ◌<◌, ◌≤◌, ◌+◌, ◌++◌, ℕ, List, codes, length, []};
 ghost use Rattle.std.specs.Prelude.{false, flat_map, take, true, Option, Some, None};
-ghost use Rattle.std.specs.Prelude.{Ok, Err, ◌∷◌, ◌-◌};
+ghost use Rattle.std.specs.Prelude.{Ok, Err, ◌∷◌, ◌-◌, ◌⊎◌};
 ghost use Rattle.byteorder.specs.Endian.{little_number};
 ghost use Rattle.ffv1_avi.specs.Chunks.{AreChunks, AreOthers, AviFile, Chunk, IsWritable};
 ghost use Rattle.ffv1_avi.specs.Chunks.{MoviBegins, Part, header_chunks, is_list};
@@ -12,27 +12,28 @@ ghost use Rattle.ffv1_avi.specs.Chunks.{streams, those};
 ghost use Rattle.ffv1_avi.specs.Begun.{AreReadable, HasShortFormat, HeaderBegins, RiffBegins};
 ghost use Rattle.ffv1_avi.specs.Begun.{StreamBegins, streams_of};
 ghost use Rattle.ffv1_avi.specs.Files.{file_read, open_read, frame_read, frames_read, more_frames};
-ghost use Rattle.ffv1_avi.specs.Behind.{EndsBehind, RiffFileThen};
+ghost use Rattle.ffv1_avi.specs.Behind.{EndsBehind, IsOver, RiffFileThen};
 ghost use Rattle.ffv1_reads.specs.Behind.{begins_file};
-ghost use Rattle.ffv1_reads.specs.Ends.{Ends, Stops};
 ghost use Rattle.ffv1_reads.specs.Head.{Head, without_colour};
 ghost use Rattle.ffv1_reads.specs.Offsets.{ReadsWhole};
 ghost use Rattle.ffv1_avi.specs.Names.{IsFrameName, IsListed, bars, is_barred, is_frame};
 ghost use Rattle.ffv1_avi.specs.Offsets.{BeforeFrames, ReadsUpTo, Start, chunk_taken, movi_left};
 ghost use Rattle.ffv1_avi.specs.Offsets.{spot_taken};
+ghost use Rattle.ffv1_avi.specs.OpenEdges.{IsFurther, IsNearOpen, IsPieceEdge, frames_before};
+ghost use Rattle.ffv1_avi.specs.OpenEdges.{frames_sized};
+ghost use Rattle.ffv1_avi.specs.OpenFiles.{OpenFile, Piece, pieces_text};
 ghost use Rattle.ffv1_avi.specs.Padding.{padded};
-ghost use Rattle.ffv1_avi.specs.Places.{ended, extent_of, first_place, frame_at};
-ghost use Rattle.ffv1_reads.specs.Reads.{EndsEarly, Faults, Lacks, Met, Read, Reading, Short, Want};
-ghost use Rattle.ffv1_reads.specs.Reads.{Looked, Stop, read_on};
+ghost use Rattle.ffv1_avi.specs.Places.{ended, extent_of, first_place, frame_at, is_open};
+ghost use Rattle.ffv1_reads.specs.Reads.{EndsEarly, Looked, Met, Short, Stop, read_on};
 ghost use Rattle.ffv1_avi.specs.Counted.{AreCounted, ExtendedBegins, HasExtended};
 ghost use Rattle.ffv1_avi.specs.Edges.{GivesThen, IsNearEdge, frames_to};
 ghost use Rattle.ffv1_avi.specs.Riffs.{Riff, RiffFile, riffs_text, total};
-ghost use Rattle.ffv1_avi.specs.Walk.{is_name};
+ghost use Rattle.ffv1_avi.specs.Walk.{is_known, is_name};
 ghost use Rattle.ffv1_avi.specs.Written.{file_of};
 ghost use Rattle.ffv1_reads.specs.declared.fault.FileFault.TheVariants as fault;
-ghost use Rattle.ffv1_reads.specs.declared.fault.FileFault.{FileFault};
 ghost use Rattle.ffv1_avi.specs.declared.place.Extent.TheVariants.{FirstMovi, EveryRiff};
 ghost use Rattle.ffv1_avi.specs.declared.place.Names.TheVariants.{Any, Closed};
+ghost use Rattle.ffv1_avi.specs.declared.place.Open.TheVariants.{Sized};
 ghost use Rattle.ffv1_avi.specs.declared.place.Place.{Place};
 
 /// The frames are the next one and those after it; at the end there is none, and nothing is read.
@@ -51,10 +52,12 @@ pub fn what_is_read_is_a_file()
 /// If every RIFF is read and the frames come to an end, the input begins with a file of that head
 /// and those frames, and after it stand bytes with which neither an RIFF nor another file begins,
 /// or none. Each chunk of the stream's frames, in every movi of every RIFF, was given, in order.
+/// Or an RIFF, or the first movi, has no size; then the file is all of the input.
 pub fn every_riff_is_read_whole()
     ensures { (file : List ℕ) (head : Head) (frames : List (List ℕ)) (rest : List ℕ) →
         file_read EveryRiff file ≡ Ok ((head, frames), rest) →
-        RiffFileThen file head frames rest }
+        RiffFileThen file head frames rest
+        ⊎ (OpenFile file head frames × (rest ≡ [])) }
 {}
 
 /// A beginning of a file that is read, up to the end of `movi`, ends when more bytes are wanted.
@@ -114,7 +117,7 @@ pub fn only_riffs_follow_riffs()
         (Met fault.Another rest) }
     ensures small { (file : List ℕ) (head : Head) (frames : List (List ℕ)) →
         RiffFile file head frames → (size rest : List ℕ) → length size ≡ 4 →
-        little_number 4 size < 4 →
+        0 < little_number 4 size → little_number 4 size < 4 →
         GivesThen (file ++ ((codes "RIFF" ++ size ++ codes "AVIX") ++ rest)) head frames
         (Met fault.NotAvi rest) }
     ensures owed { (file : List ℕ) (head : Head) (frames : List (List ℕ))
@@ -130,16 +133,22 @@ pub fn only_riffs_follow_riffs()
 {}
 
 /// If a reader came to the end and tells no bytes after the last RIFF, none stand there: whole
-/// chunks lead from where it stood to the end of the input, which is that of an RIFF.
+/// chunks lead from where it stood to the end of the input, which is that of an RIFF. An RIFF or a
+/// `movi` without size ends where the input does.
 pub fn no_bytes_told_are_none()
     ensures none { (from : Place) (text : List ℕ) (new : Option (List ℕ)) (before : ℕ) →
         EndsBehind from (Some text) new before None →
-        (new ≡ Some []) × (to : Place) × (end : ℕ) × (to.movi ≡ 0) × (to.riff ≡ 0)
+        (new ≡ Some []) × (to : Place) × (end : ℕ) × (to.movi ≡ 0)
+        × (to.open_in ≡ Sized → to.riff ≡ 0)
         × ReadsUpTo from (Some text) (Some []) to before end }
     ensures told { (from : Place) (text : List ℕ) (new : Option (List ℕ)) (before after : ℕ) →
         EndsBehind from (Some text) new before (Some after) →
-        (behind : List ℕ) × (to : Place) × (0 < length behind) × (to.movi ≡ 0) × (to.riff ≡ 0)
+        (behind : List ℕ) × (to : Place) × (0 < length behind) × (to.movi ≡ 0)
+        × (to.open_in ≡ Sized → to.riff ≡ 0)
         × ReadsUpTo from (Some text) (Some behind) to before after }
+    ensures open_ended { (place : Place) (text rest : List ℕ) → is_open place.open_in ≡ true →
+        extent_of place ≡ EveryRiff → IsOver place.open_in place text rest →
+        (text ≡ []) × (rest ≡ []) }
 {}
 
 /// When `movi` comes after no stream, the file has no FFV1, and nothing after the name of `movi`
@@ -188,11 +197,13 @@ pub fn movi_after_other_streams_is_refused()
 /// the one that counts; in a stream's list if none before it counts, after chunks of which no
 /// format is too long; in any `movi` after chunks that may stand there and are no frames, if it may
 /// stand there itself or is a list; and in RIFF after a `movi`, or in the next RIFF, after chunks
-/// that are no `movi` and no frames.
+/// that are no `movi` and no frames. The first RIFF may have a list whose size is not known, and
+/// after it all sizes are known.
 pub fn long_chunk_in_riffs_is_truncated()
     ensures riff { (file : List ℕ) (parts : List Part) (left : ℕ) (name size rest : List ℕ) →
         RiffBegins file parts left ((name ++ size) ++ rest) → AreCounted 100 (streams parts) →
         HasExtended (flat_map header_chunks parts) → Passes left name size →
+        (is_name name (codes "LIST") ≡ true → is_known (little_number 4 size) ≡ true) →
         open_read EveryRiff file ≡ Err (Met fault.Truncated rest) }
     ensures header { (file : List ℕ) (parts : List Part) (chunks : List Chunk) (left : ℕ)
         (name size rest : List ℕ) →
@@ -221,15 +232,16 @@ pub fn long_chunk_in_riffs_is_truncated()
         frame_read place (chunks_text chunks ++ ((name ++ size) ++ rest))
         ≡ Err (Met fault.Truncated rest) }
     ensures after { (place : Place) (chunks : List Chunk) (left : ℕ) (name size rest : List ℕ) →
-        extent_of place ≡ EveryRiff → place.movi ≡ 0 →
+        place.open_in ≡ Sized → extent_of place ≡ EveryRiff → place.movi ≡ 0 →
         place.riff ≡ length (chunks_text chunks) + left → AreChunks chunks →
         those (is_list (codes "movi")) chunks ≡ [] →
         those (frame_in place.names) chunks ≡ [] → Passes left name size →
         frame_read place (chunks_text chunks ++ ((name ++ size) ++ rest))
         ≡ Err (Met fault.Truncated rest) }
     ensures next { (place : Place) (riff_size : List ℕ) (chunks : List Chunk) (left : ℕ)
-        (name size rest : List ℕ) → extent_of place ≡ EveryRiff → place.movi ≡ 0 →
-        place.riff ≡ 0 → length riff_size ≡ 4 →
+        (name size rest : List ℕ) → place.open_in ≡ Sized → extent_of place ≡ EveryRiff →
+        place.movi ≡ 0 → place.riff ≡ 0 → length riff_size ≡ 4 →
+        is_known (little_number 4 riff_size) ≡ true →
         little_number 4 riff_size ≡ 4 + length (chunks_text chunks) + left →
         8 + little_number 4 riff_size < place.input → AreChunks chunks →
         those (is_list (codes "movi")) chunks ≡ [] →
@@ -258,6 +270,19 @@ pub fn file_is_read_as_its_frames()
         (rest more : List ℕ) →
         RiffFileThen file head frames rest → RiffFileThen file other others more →
         (head ≡ other) × (frames ≡ others) × (rest ≡ more) }
+{}
+
+/// A file of a head and frames, by its chunks, of which an RIFF, or the first movi, has no size, is
+/// read to its end as that head and those frames, if every RIFF is read, and it has no others.
+pub fn file_without_sizes_is_read()
+    ensures read { (file : List ℕ) (head : Head) (frames : List (List ℕ)) →
+        OpenFile file head frames → file_read EveryRiff file ≡ Ok ((head, frames), []) }
+    ensures only { (file : List ℕ) (head other : Head) (frames others : List (List ℕ)) →
+        OpenFile file head frames → OpenFile file other others →
+        (head ≡ other) × (frames ≡ others) }
+    ensures sized { (file : List ℕ) (head other : Head) (frames others : List (List ℕ))
+        (rest : List ℕ) → OpenFile file head frames → RiffFileThen file other others rest →
+        (head ≡ other) × (frames ≡ others) × (rest ≡ []) }
 {}
 
 /// If every RIFF is read, an empty chunk of the stream's frames is a frame of no bytes, which
@@ -322,7 +347,7 @@ pub fn written_file_is_read_back()
 {}
 
 /// Nothing stands after a written file: where its chunks, read whole from its beginning on, lead to
-/// the end of its movi, no bytes are left.
+/// the end of its movi, no bytes are left, and all sizes are known.
 pub fn nothing_stands_after_a_written_file()
     ensures { (head : Head) (frames : List (List ℕ)) → IsWritable EveryRiff head frames →
         (other : Head) (first to : Place) (between : Option (List ℕ)) (behind : List ℕ)
@@ -330,5 +355,52 @@ pub fn nothing_stands_after_a_written_file()
         ReadsWhole (spot_taken EveryRiff) Start (Some (file_of head frames)) between
         (BeforeFrames other first) before →
         ReadsWhole chunk_taken first between (Some behind) to after → to.movi ≡ 0 →
-        behind ≡ [] }
+        (behind ≡ []) × (to.open_in ≡ Sized) }
+{}
+
+/// A beginning of a file of which an RIFF, or the first movi, has no size, ends when more bytes are
+/// wanted, except at an edge of what stands behind the first such size: chunks, each movi of a
+/// known size as one, the first twelve bytes of a movi without size, and those of a further RIFF.
+/// Up to there it is such a file, too, and its frames are read, if they are not fewer than `dmlh`
+/// says; otherwise more bytes are wanted. If the first such size is that of a further RIFF, a
+/// beginning may also end at the edge of one of the RIFFs, or after fewer than twelve bytes of it.
+/// Then the frames of the RIFFs before it are read in the same way.
+pub fn shorter_file_without_sizes_wants_more_bytes()
+    ensures within { (file : List ℕ) (head : Head) (frames : List (List ℕ))
+        (is : OpenFile file head frames) (beginning more : List ℕ) → file ≡ beginning ++ more →
+        0 < length more → (IsPieceEdge is.pieces more → ⊥) →
+        (IsFurther is.opens_so × IsNearOpen is.riffs is.pieces more → ⊥) →
+        EndsEarly (file_read EveryRiff) beginning }
+    ensures edge { (file : List ℕ) (head : Head) (frames : List (List ℕ))
+        (is : OpenFile file head frames) (before after : List Piece) (beginning : List ℕ) →
+        is.pieces ≡ before ++ after → file ≡ beginning ++ pieces_text after →
+        (IsFurther is.opens_so → before ≡ [] → ⊥) →
+        total is.extended ≤ length (frames_before is before) →
+        OpenFile beginning head (frames_before is before) }
+    ensures read { (file : List ℕ) (head : Head) (frames : List (List ℕ))
+        (is : OpenFile file head frames) (before after : List Piece) (beginning : List ℕ) →
+        is.pieces ≡ before ++ after → file ≡ beginning ++ pieces_text after →
+        (IsFurther is.opens_so → before ≡ [] → ⊥) →
+        total is.extended ≤ length (frames_before is before) →
+        file_read EveryRiff beginning ≡ Ok ((head, frames_before is before), []) }
+    ensures owed { (file : List ℕ) (head : Head) (frames : List (List ℕ))
+        (is : OpenFile file head frames) (before after : List Piece) (beginning : List ℕ) →
+        is.pieces ≡ before ++ after → file ≡ beginning ++ pieces_text after →
+        (IsFurther is.opens_so → before ≡ [] → ⊥) →
+        length (frames_before is before) < total is.extended →
+        EndsEarly (file_read EveryRiff) beginning }
+    ensures near { (file : List ℕ) (head : Head) (frames : List (List ℕ))
+        (is : OpenFile file head frames) (before after : List Riff)
+        (beginning some more : List ℕ) →
+        is.riffs ≡ before ++ after → file ≡ (beginning ++ some) ++ more →
+        riffs_text after ++ pieces_text is.pieces ≡ some ++ more → length some < 12 →
+        IsFurther is.opens_so → total is.extended ≤ length (frames_sized is before) →
+        file_read EveryRiff (beginning ++ some) ≡ Ok ((head, frames_sized is before), []) }
+    ensures owed_near { (file : List ℕ) (head : Head) (frames : List (List ℕ))
+        (is : OpenFile file head frames) (before after : List Riff)
+        (beginning some more : List ℕ) →
+        is.riffs ≡ before ++ after → file ≡ (beginning ++ some) ++ more →
+        riffs_text after ++ pieces_text is.pieces ≡ some ++ more → length some < 12 →
+        IsFurther is.opens_so → length (frames_sized is before) < total is.extended →
+        EndsEarly (file_read EveryRiff) (beginning ++ some) }
 {}

@@ -14,19 +14,34 @@
 //! let mut frame = Vec::new(rt.alloc());
 //! while reader.next_frame(&mut input, &mut frame)? { .. }
 //! ```
+//!
+//! Of a file that may be damaged `AviReader::course` says where reading goes on, and each
+//! `Course::next_item` gives the next frame, or a fault that is told, until nothing more comes.
+//! `damage_laws` says that all bytes have items, that sound bytes give their frames, and that
+//! behind damage the next frame is found.
 #![tactic(auto)]
 
+mod came;
 mod chunk;
+mod course;
+pub mod damage_laws;
 mod field;
+mod header;
+mod items;
 pub mod laws;
+mod movi;
 mod names;
 mod open;
+mod opens;
 mod place;
 mod reader;
 mod riff;
+mod seeking;
 mod stream;
+mod turn;
 mod write;
 
+pub use course::Course;
 pub use place::Extent;
 pub use reader::AviReader;
 pub use write::write_avi;

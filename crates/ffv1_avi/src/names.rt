@@ -1,10 +1,10 @@
 //! Which chunks a movi has, by their names.
 
 ghost use Rattle.std.specs.Prelude.{◌≡◌, ◌+◌, ◌/◌, ◌%◌, ◌∷◌, [], codes, false, true};
-ghost use Rattle.ffv1_avi.specs.Names.{are_digits, bars, bitmap_name, frame_name, is_barred};
+ghost use Rattle.ffv1_avi.specs.Names.{are_digits, bars, is_barred};
 ghost use Rattle.ffv1_avi.specs.Names.{is_digit, least_bytes, most_bytes};
 ghost use Rattle.ffv1_avi.specs.Names.{is_frame, is_index, is_of_other, is_stream_frame};
-ghost use Rattle.ffv1_avi.specs.Names.{opens, palette_name, rule_of, stands_beside};
+ghost use Rattle.ffv1_avi.specs.Names.{opens, rule_of, stands_beside};
 ghost use Rattle.ffv1_avi.specs.Walk.{is_name, size_in};
 
 use crate::chunk::is_name;
@@ -46,7 +46,7 @@ fn is_of_other(stream: u8, streams: u8, name: [u8; 4]) -> bool
 
 /// Whether a chunk is an index of a stream.
 #[tactic(auto, unfolding(crate::specs::Names::is_index))]
-fn is_index(name: [u8; 4]) -> bool
+pub(crate) fn is_index(name: [u8; 4]) -> bool
     ensures { result ≡ is_index name }
 {
     is_name(&name[..2], b"ix") && are_digits(name[2], name[3])

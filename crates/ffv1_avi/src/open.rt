@@ -4,7 +4,8 @@ ghost use Rattle.std.specs.Prelude.{◌≡◌, ◌+◌, ◌<◌, ◌≤◌, ℕ,
 ghost use Rattle.std.specs.Prelude.{IfOk, OnOk};
 ghost use Rattle.std.specs.Vec.{vec_capacity};
 ghost use Rattle.ffv1_avi.specs.Files.{extended_read, extended_visited, header_list, header_read};
-ghost use Rattle.ffv1_avi.specs.Files.{movi_reached, open_read, owed};
+ghost use Rattle.ffv1_avi.specs.Files.{has_form, movi_reached, open_read, owed};
+ghost use Rattle.ffv1_avi.specs.Files.{sizeless_visited};
 ghost use Rattle.ffv1_avi.specs.Files.{stream_came, stream_known, stream_visited};
 ghost use Rattle.ffv1_avi.specs.Files.{others_read, top_others, top_read, with_other};
 ghost use Rattle.ffv1_avi.specs.Files.{total_read};
@@ -12,7 +13,7 @@ ghost use Rattle.ffv1_avi.specs.Files.{visit_extended, visit_header, visit_top};
 ghost use Rattle.ffv1_reads.specs.First.{bytes_with, passage_with};
 ghost use Rattle.ffv1_reads.specs.Head.{Head};
 ghost use Rattle.ffv1_avi.specs.Internal.Offsets.{OpensFrom, TopFrom};
-ghost use Rattle.ffv1_avi.specs.Places.{first_place};
+ghost use Rattle.ffv1_avi.specs.Places.{first_open, first_place};
 ghost use Rattle.ffv1_wire.specs.Passage.{at_rest, passage};
 ghost use Rattle.ffv1_reads.specs.Reads.{Answers, Read, taken};
 ghost use Rattle.ffv1_reads.specs.Room.{RoomRead};
@@ -22,8 +23,8 @@ ghost use Rattle.ffv1_avi.specs.Internal.Views.{top_with};
 ghost use Rattle.ffv1_avi.specs.declared.place.Names.TheVariants.{Closed};
 ghost use Rattle.ffv1_avi.specs.declared.place.Place.{Place};
 
-use crate::chunk::{Entry, is_name, next_entry, padded};
-use crate::place::{Extent, Names, Place};
+use crate::chunk::{Entry, is_name, next_entry, next_in_riff, padded};
+use crate::place::{Extent, Names, Open, Place, has_form, place_in, room_in};
 use crate::stream::{Sizes, read_other, read_stream};
 use byteorder::{ByteOrder, LittleEndian};
 use ffv1_reads::{FileFault, pass, take, take_after};
@@ -181,7 +182,7 @@ fn read_extended<R: ByteIn>(
         (passage R.remaining R.failures input.old input.new) result }
 {
     let mut frames = frames;
-    let mut left = size - 4;
+    let mut left = u64::from(size - 4);
     while let Some(entry) = next_entry(input, left)? {
         frames = visit_extended(input, frames, entry)?;
         left = entry.left;
@@ -276,7 +277,7 @@ fn read_header<R: ByteIn, A: Allocator>(
         (vec_capacity config.old) (vec_capacity config.new)) }
 {
     let mut found = found;
-    let mut left = size - 4;
+    let mut left = u64::from(size - 4);
     while let Some(entry) = next_entry(input, left)? {
         found = visit_header(input, extent, found, entry, config)?;
         left = entry.left;
@@ -293,7 +294,7 @@ pub(crate) enum Top {
 }
 
 /// The first movi, of so many bytes, if RIFF has so many after it.
-fn first_place(extent: Extent, riff: u32, movi: u32, found: Found) -> Place
+fn first_place(extent: Extent, riff: u64, movi: u64, found: Found) -> Place
     ensures { result ≡ first_place extent riff movi (Closed found.passed found.streams)
         (owed found.frames) }
 {
@@ -304,6 +305,7 @@ fn first_place(extent: Extent, riff: u32, movi: u32, found: Found) -> Place
             movi,
             names: Names::Any,
             owed: 0,
+            open_in: Open::Sized,
         },
         Extent::EveryRiff => Place {
             input: u64::MAX,
@@ -311,7 +313,22 @@ fn first_place(extent: Extent, riff: u32, movi: u32, found: Found) -> Place
             movi,
             names: Names::Closed(found.passed, found.streams),
             owed: found.frames.unwrap_or(0),
+            open_in: Open::Sized,
         },
+    }
+}
+
+/// The first movi, if its size is not known.
+fn first_open(found: Found) -> Place
+    ensures { result ≡ first_open (Closed found.passed found.streams) (owed found.frames) }
+{
+    Place {
+        input: u64::MAX,
+        riff: 0,
+        movi: 0,
+        names: Names::Closed(found.passed, found.streams),
+        owed: found.frames.unwrap_or(0),
+        open_in: Open::OpenMovi,
     }
 }
 
@@ -326,8 +343,24 @@ fn reach_movi(extent: Extent, found: Found, entry: Entry) -> Result<Top, FileFau
     let Some(sizes) = found.sizes else {
         return Err(FileFault::NoFfv1);
     };
-    let place = first_place(extent, entry.left, entry.size - 4, found);
+    let place = first_place(extent, entry.left, u64::from(entry.size - 4), found);
     Ok(Top::Movi(found, sizes, place))
+}
+
+/// A list of RIFF whose size is not known, by its own name: `NotAvi` if it is no movi; that wants a
+/// head before it.
+fn reach_open(found: Found, own: &[u8]) -> Result<Top, FileFault>
+    ensures { (bytes : List ℕ) (text : Option (List ℕ)) (failures : ℕ) →
+        Answers (λ (t : Top). top_with t bytes)
+        (sizeless_visited (headers_with found bytes) own.now) (at_rest text failures) result }
+{
+    if !is_name(own, b"movi") {
+        return Err(FileFault::NotAvi);
+    }
+    let Some(sizes) = found.sizes else {
+        return Err(FileFault::NoFfv1);
+    };
+    Ok(Top::Movi(found, sizes, first_open(found)))
 }
 
 /// A chunk of RIFF, before its first movi.
@@ -339,7 +372,8 @@ fn visit_top<R: ByteIn, A: Allocator>(
     entry: Entry,
     config: &mut Vec<u8, A>,
 ) -> Result<Top, FileFault>
-    requires { is_name entry.name (codes "LIST") ≡ true → 4 ≤ entry.size }
+    requires { is_name entry.name (codes "LIST") ≡ true → (entry.size ≡ 0 → ⊥) →
+        4 ≤ entry.size }
     ensures answer { Answers (λ (t : Top). top_with t config.new.items)
         (visit_top extent (headers_with found config.old.items) entry)
         (passage R.remaining R.failures input.old input.new) result }
@@ -351,6 +385,9 @@ fn visit_top<R: ByteIn, A: Allocator>(
         return Ok(Top::On(found));
     }
     let own = own_name(input)?;
+    if entry.size == 0 {
+        return reach_open(found, &own);
+    }
     if is_name(&own, b"hdrl") {
         let found = read_header(input, extent, found, entry.size, config)?;
         return Ok(Top::On(found));
@@ -362,25 +399,26 @@ fn visit_top<R: ByteIn, A: Allocator>(
     Ok(Top::On(found))
 }
 
-/// The chunks of RIFF, of so many bytes, up to the first movi. Those that were read whole are
-/// counted, and of movi its header and its own name. `others` is then how many streams after the
-/// one that counts begin as FFV1 video.
+/// The chunks of RIFF, of this size, up to the first movi. Those that were read whole are counted,
+/// and of movi its header and its own name. `others` is then how many streams after the one that
+/// counts begin as FFV1 video.
 #[tactic(auto, unfolding(crate::specs::Files::top_read))]
 fn read_top<R: ByteIn, A: Allocator>(
     input: &mut R,
     extent: Extent,
-    room: u32,
+    size: u32,
     offset: &mut u64,
     others: &mut u64,
     config: &mut Vec<u8, A>,
 ) -> Result<(Sizes, Place), FileFault>
+    requires { has_form extent size ≡ true }
     ensures answer { Answers (λ (p : Sizes × Place). (head_with p.0 config.new.items, p.1))
-        (top_read extent room) (passage R.remaining R.failures input.old input.new) result }
+        (top_read extent size) (passage R.remaining R.failures input.old input.new) result }
     ensures grown { OnOk result (RoomRead (R.remaining input.old) (R.remaining input.new)
         (vec_capacity config.old) (vec_capacity config.new)) }
-    ensures from { TopFrom extent room (passage R.remaining R.failures input.old input.new)
+    ensures from { TopFrom extent size (passage R.remaining R.failures input.old input.new)
         config.new.items result offset.old offset.new }
-    ensures others { IfOk result (λ p. Read (top_others extent room) (R.remaining input.old)
+    ensures others { IfOk result (λ p. Read (top_others extent size) (R.remaining input.old)
         (R.remaining input.new) others.new) }
 {
     let mut found = Found {
@@ -390,14 +428,14 @@ fn read_top<R: ByteIn, A: Allocator>(
         streams: 0,
         others: 0,
     };
-    let mut left = room;
-    while let Some(entry) = next_entry(input, left)? {
+    let mut left = room_in(extent, size);
+    while let Some(entry) = next_in_riff(input, extent, left)? {
         match visit_top(input, extent, found, entry, config)? {
             Top::On(more) => found = more,
             Top::Movi(known, sizes, place) => {
                 *offset = offset.saturating_add(12);
                 *others = known.others;
-                return Ok((sizes, place));
+                return Ok((sizes, place_in(extent, size, place)));
             }
         }
         *offset = offset.saturating_add(8 + padded(entry.size));
@@ -432,9 +470,9 @@ pub(crate) fn read_opening<R: ByteIn, A: Allocator>(
     *offset = 0;
     take_after(first, input, &mut head)?;
     let size = LittleEndian::read_u32(&head[4..]);
-    if !is_name(&head[..4], b"RIFF") || !is_name(&head[8..], b"AVI ") || size < 4 {
+    if !is_name(&head[..4], b"RIFF") || !is_name(&head[8..], b"AVI ") || !has_form(extent, size) {
         return Err(FileFault::NotAvi);
     }
     *offset = 12;
-    read_top(input, extent, size - 4, offset, others, config)
+    read_top(input, extent, size, offset, others, config)
 }

@@ -1,130 +1,46 @@
 //! Reads files, frame by frame.
 
 ghost use Rattle.std.specs.Prelude.{◌≡◌, ◌<◌, length, true, IfSome, OnSome, ◌+◌, ◌≤◌, ℕ, Bool};
-ghost use Rattle.std.specs.Prelude.{List, [], false, Option, None, Some, IfErr, IfOk, OnErr, Ok};
-ghost use Rattle.std.specs.Prelude.{Err, codes};
+ghost use Rattle.std.specs.Prelude.{[], false, Option, None, Some, IfErr, IfOk, OnErr, Ok};
+ghost use Rattle.std.specs.Prelude.{Err};
 ghost use Rattle.std.specs.Vec.{vec_capacity};
-ghost use Rattle.ffv1_avi.specs.Behind.{BehindAfter};
+ghost use Rattle.ffv1_avi.specs.Behind.{BehindAfter, OpenAfter};
 ghost use Rattle.ffv1_avi.specs.Extents.{AnswersFrom};
-ghost use Rattle.ffv1_avi.specs.Files.{frame_found, frame_judged, frame_read, list_entered};
-ghost use Rattle.ffv1_avi.specs.Files.{movi_found, open_read, visit_movi};
+ghost use Rattle.ffv1_avi.specs.Files.{frame_found, frame_read, open_read};
 ghost use Rattle.ffv1_avi.specs.Readers.{CountsOthers};
 ghost use Rattle.ffv1_reads.specs.First.{bytes_with, passage_with};
-ghost use Rattle.ffv1_reads.specs.Head.{Head, head_of};
-ghost use Rattle.ffv1_wire.specs.Passage.{at_rest, passage};
+ghost use Rattle.ffv1_reads.specs.Head.{head_of};
+ghost use Rattle.ffv1_wire.specs.Passage.{passage};
 ghost use Rattle.ffv1_avi.specs.Internal.Ending.{AnswersOrNone};
 ghost use Rattle.ffv1_avi.specs.Offsets.{OffsetAfter};
-ghost use Rattle.ffv1_avi.specs.Internal.Offsets.{FindsFrom, FindsInMovi, MovesTo, TellsBehind};
-ghost use Rattle.ffv1_avi.specs.Names.{is_barred, least_bytes, least_in, most_bytes, most_in};
-ghost use Rattle.ffv1_avi.specs.Walk.{is_name};
+ghost use Rattle.ffv1_avi.specs.Internal.Offsets.{FindsFrom, MovesTo, TellsBehind};
+ghost use Rattle.ffv1_avi.specs.Names.{least_bytes, least_in, most_bytes, most_in};
 ghost use Rattle.ffv1_avi.specs.Offsets.{OffsetOpened};
 ghost use Rattle.ffv1_avi.specs.Places.{amount, ended, extent_of, frame_at};
 ghost use Rattle.ffv1_reads.specs.Reads.{Answers};
 ghost use Rattle.ffv1_reads.specs.Room.{HasRoom, RoomRead};
+ghost use Rattle.ffv1_avi.specs.Items.{course_at};
 ghost use Rattle.ffv1_avi.specs.Readers.{is_frame_fault, is_opening_fault};
-ghost use Rattle.ffv1_avi.specs.Readers.{Leaves, Standing, StandsAfter, frame_with, next_of};
+ghost use Rattle.ffv1_avi.specs.Readers.{Leaves, Standing, StandsAfter, next_of};
 ghost use Rattle.ffv1_avi.specs.Readers.{next_with, opened_at, repeated_after, with_repeated};
 ghost use Rattle.ffv1_reads.specs.declared.fault.FileFault.{FileFault};
 ghost use Rattle.ffv1_avi.specs.declared.place.Extent.TheVariants.{FirstMovi, EveryRiff};
 ghost use Rattle.ffv1_avi.specs.declared.place.Place.{Place};
 
-use crate::chunk::{Entry, is_name, next_entry_in, padded};
-use crate::names::{is_barred, is_frame, least_bytes, most_bytes};
-use crate::open::{own_name, read_opening};
-use crate::place::{Extent, Names, Place, ended, others_in};
+use crate::chunk::padded;
+use crate::course::{Course, Pending};
+use crate::movi::find_in_movi;
+use crate::open::read_opening;
+use crate::opens::{next_open, step_size};
+use crate::place::{Extent, Place, ended, is_open, others_in};
 use crate::riff::move_on;
 use ffv1_reads::{Colour, FileFault, FileHead, fill, pass};
 use ffv1_wire::ByteIn;
 use std::alloc::{Allocator, Global};
 use std::marker::Model;
 
-/// The size of a frame: `ChunkTooLong` if it is too great, `EmptyFrame` if it is too small.
-fn judge_frame(names: Names, size: u32) -> Result<Option<u32>, FileFault>
-    ensures sized { IfOk result
-        (λ o. IfSome o (λ n. (least_bytes names ≤ n) × (n ≤ most_bytes names))) }
-    ensures answer { (left : ℕ) (text : Option (List ℕ)) (failures : ℕ) →
-        Answers (λ (size : Option ℕ). (tt, frame_with size left))
-        (frame_judged (least_bytes names) (most_bytes names) size left) (at_rest text failures)
-        result }
-{
-    if size > most_bytes(names) {
-        return Err(FileFault::ChunkTooLong);
-    }
-    if size < least_bytes(names) {
-        return Err(FileFault::EmptyFrame);
-    }
-    Ok(Some(size))
-}
-
-/// The own name of a list of movi: `NotAvi` if it is not `rec `.
-fn open_list<R: ByteIn>(input: &mut R) -> Result<Option<u32>, FileFault>
-    ensures sized { IfOk result (λ o. o ≡ None) }
-    ensures answer { (left : ℕ) → Answers (λ (size : Option ℕ). (tt, frame_with size left))
-        (list_entered 4) (passage R.remaining R.failures input.old input.new) result }
-{
-    let own = own_name(input)?;
-    if !is_name(&own, b"rec ") {
-        return Err(FileFault::NotAvi);
-    }
-    Ok(None)
-}
-
-/// A chunk of movi: the size of a frame, or None if it was passed. If every RIFF is read, a frame
-/// of no bytes repeats the one before it, and of a list `rec ` its own name is passed.
-#[tactic(auto, unfolding(crate::specs::Files::visit_movi))]
-fn visit_movi<R: ByteIn>(
-    input: &mut R,
-    names: Names,
-    entry: Entry,
-) -> Result<Option<u32>, FileFault>
-    requires { is_barred names entry.name ≡ false → is_name entry.name (codes "LIST") ≡ true →
-        entry.size ≡ 4 }
-    ensures sized { IfOk result
-        (λ o. IfSome o (λ n. (least_bytes names ≤ n) × (n ≤ most_bytes names))) }
-    ensures answer { Answers (λ (size : Option ℕ). (tt, frame_with size entry.left))
-        (visit_movi names tt entry) (passage R.remaining R.failures input.old input.new) result }
-{
-    if is_barred(names, entry.name) {
-        return Err(FileFault::NotAvi);
-    }
-    if is_frame(names, entry.name) {
-        return judge_frame(names, entry.size);
-    }
-    if is_name(&entry.name, b"LIST") {
-        return open_list(input);
-    }
-    pass(input, padded(entry.size))?;
-    Ok(None)
-}
-
-/// The size of a stream's next frame, and what movi has left after it; None at its end. The chunks
-/// before its own are counted.
-#[tactic(auto, unfolding(crate::specs::Files::movi_found))]
-fn find_in_movi<R: ByteIn>(
-    input: &mut R,
-    place: Place,
-    offset: &mut u64,
-) -> Result<Option<(u32, u32)>, FileFault>
-    ensures sized { IfOk result (λ o. IfSome o
-        (λ p. (least_bytes place.names ≤ p.0) × (p.0 ≤ most_bytes place.names))) }
-    ensures answer { Answers (λ (p : Option (ℕ × ℕ)). p) (movi_found place.names place.movi)
-        (passage R.remaining R.failures input.old input.new) result }
-    ensures from { FindsInMovi place (passage R.remaining R.failures input.old input.new) result
-        offset.old offset.new }
-{
-    let mut left = place.movi;
-    while let Some(entry) = next_entry_in(input, place.names, left)? {
-        if let Some(size) = visit_movi(input, place.names, entry)? {
-            return Ok(Some((size, entry.left)));
-        }
-        *offset = offset.saturating_add(8 + padded(entry.size));
-        left = entry.left;
-    }
-    Ok(None)
-}
-
 /// The place after a frame's header, if movi has so many bytes left.
-fn frame_at(place: Place, left: u32) -> Place
+fn frame_at(place: Place, left: u64) -> Place
     ensures { result ≡ frame_at place left }
 {
     Place {
@@ -133,17 +49,19 @@ fn frame_at(place: Place, left: u32) -> Place
         movi: left,
         names: place.names,
         owed: place.owed.saturating_sub(1),
+        open_in: place.open_in,
     }
 }
 
 /// The size of the next frame, and the place after its header; None at the end. The chunks before
 /// its own are counted, and at the end it is said where other bytes stand after the last RIFF, if
-/// any do.
+/// any do, and whether an RIFF or a movi there has no size.
 fn find_frame<R: ByteIn>(
     input: &mut R,
     place: Place,
     offset: &mut u64,
     after: &mut Option<u64>,
+    open_ended: &mut bool,
 ) -> Result<Option<(u32, Place)>, FileFault>
     ensures sized { IfOk result (λ o. IfSome o
         (λ p. (least_bytes place.names ≤ p.0) × (p.0 ≤ most_bytes place.names))) }
@@ -152,16 +70,34 @@ fn find_frame<R: ByteIn>(
     ensures from { FindsFrom place (passage R.remaining R.failures input.old input.new) result
         offset.old offset.new }
     ensures behind { IfOk result (λ o. o ≡ None → TellsBehind (extent_of place) place
-        (R.remaining input.old) (R.remaining input.new) offset.old after.new) }
+        (R.remaining input.old) (R.remaining input.new) offset.old after.new open_ended.new) }
 {
     let mut place = place;
     loop {
         if let Some((size, left)) = find_in_movi(input, place, offset)? {
             return Ok(Some((size, frame_at(place, left))));
         }
-        let Some(next) = move_on(input, place, offset, after)? else {
+        if place.input == 0 {
+            *after = None;
+            *open_ended = false;
+            return Ok(None);
+        }
+        *open_ended = is_open(place.open_in);
+        if !*open_ended {
+            let Some(next) = move_on(input, place, offset, after)? else {
+                return Ok(None);
+            };
+            place = next;
+            continue;
+        }
+        let Some((frame, next)) = next_open(input, place)? else {
+            *after = None;
             return Ok(None);
         };
+        if let Some(size) = frame {
+            return Ok(Some((size, next)));
+        }
+        *offset = offset.saturating_add(step_size(place, next));
         place = next;
     }
 }
@@ -174,6 +110,7 @@ fn read_frame<R: ByteIn, A: Allocator>(
     place: Place,
     offset: &mut u64,
     behind: &mut Option<u64>,
+    open_ended: &mut bool,
     frame: &mut Vec<u8, A>,
 ) -> Result<Option<Place>, FileFault>
     ensures answer { AnswersFrom place (λ (after : Option Place). next_with frame.new.items after)
@@ -191,10 +128,10 @@ fn read_frame<R: ByteIn, A: Allocator>(
     ensures from { MovesTo place (passage R.remaining R.failures input.old input.new) result
         offset.old offset.new }
     ensures behind { IfOk result (λ after. after ≡ None → TellsBehind (extent_of place) place
-        (R.remaining input.old) (R.remaining input.new) offset.old behind.new) }
+        (R.remaining input.old) (R.remaining input.new) offset.old behind.new open_ended.new) }
 {
     frame.clear();
-    let Some((size, after)) = find_frame(input, place, offset, behind)? else {
+    let Some((size, after)) = find_frame(input, place, offset, behind, open_ended)? else {
         return Ok(None);
     };
     fill(input, size as usize, frame)?;
@@ -227,6 +164,7 @@ pub struct AviReader<A: Allocator = Global> {
     after: Option<u64>,
     repeated: u64,
     others: u64,
+    open_ended: bool,
 }
 
 impl<A: Allocator> Model for AviReader<A> {
@@ -241,6 +179,7 @@ impl<A: Allocator> Model for AviReader<A> {
       after = r.after;
       repeated = r.repeated;
       others = r.others;
+      open_ended = r.open_ended;
     } };
 }
 
@@ -264,6 +203,7 @@ impl<A: Allocator> AviReader<A> {
             (R.remaining input.new) 0 r.room) }
         ensures none { IfOk result (λ r. r.after ≡ None) }
         ensures uncounted { IfOk result (λ r. r.repeated ≡ 0) }
+        ensures shut { IfOk result (λ r. r.open_ended ≡ false) }
     {
         let mut offset = 0;
         AviReader::open_located(alloc, Extent::FirstMovi, None, input, &mut offset)
@@ -273,6 +213,9 @@ impl<A: Allocator> AviReader<A> {
     /// of the first, `AVI `, and of the `AVIX` after it (OpenDML AVI File Format Extensions). It
     /// takes memory for the configuration record alone, with room for at most as many bytes as were
     /// read.
+    ///
+    /// A size of 0 or 4294967295 is not known: an RIFF that says it, or the first `movi`, goes on
+    /// to the end of the input. A further RIFF may stand there, whose size is not looked at then.
     ///
     /// The first `strl` that is FFV1 video counts, of the first 100; letters of that name may be
     /// small. The record ends where the first number of its format says, if that lies inside it.
@@ -292,6 +235,7 @@ impl<A: Allocator> AviReader<A> {
             (R.remaining input.new) 0 r.room) }
         ensures none { IfOk result (λ r. r.after ≡ None) }
         ensures uncounted { IfOk result (λ r. r.repeated ≡ 0) }
+        ensures shut { IfOk result (λ r. r.open_ended ≡ false) }
     {
         let mut offset = 0;
         AviReader::open_located(alloc, Extent::EveryRiff, None, input, &mut offset)
@@ -325,6 +269,7 @@ impl<A: Allocator> AviReader<A> {
         ensures uncounted { IfOk result (λ r. r.repeated ≡ 0) }
         ensures others { IfOk result (λ r. CountsOthers extent
             (bytes_with first (R.remaining input.old)) (R.remaining input.new) r.others) }
+        ensures shut { IfOk result (λ r. r.open_ended ≡ false) }
     {
         let mut config = Vec::new(alloc);
         let mut others = 0;
@@ -344,6 +289,7 @@ impl<A: Allocator> AviReader<A> {
             after: None,
             repeated: 0,
             others: others_in(extent, others),
+            open_ended: false,
         })
     }
 
@@ -381,6 +327,41 @@ impl<A: Allocator> AviReader<A> {
         self.others
     }
 
+    /// Whether the frames ended in an RIFF, or in a `movi`, whose size is not known, since it is
+    /// said to be 0 or 4294967295: nothing says then whether frames are missing at its end. It is
+    /// known once `next_frame` has answered false, of a reader that `open_all` made.
+    pub fn open_ended(&self) -> bool
+        ensures { result ≡ self.now.open_ended }
+    {
+        self.open_ended
+    }
+
+    /// How far is read: up to the end of the first `movi`, or every RIFF; after the end the former.
+    pub fn extent(&self) -> Extent
+        ensures { result ≡ extent_of self.now.place }
+    {
+        if self.place.input == 0 {
+            return Extent::FirstMovi;
+        }
+        Extent::EveryRiff
+    }
+
+    /// Where reading goes on from here in a file that may be damaged: `Course::next_item` gives its
+    /// frames and its faults. The reader stays where it is.
+    pub fn course(&self) -> Course
+        ensures { result ≡ course_at self.now }
+    {
+        Course {
+            place: self.place,
+            pending: Pending::Nothing,
+            lost: false,
+            begun: self.offset,
+            at: self.offset,
+            open_ended: false,
+            after: None,
+        }
+    }
+
     /// The head of the file.
     pub fn head(&self) -> &FileHead<A>
         ensures value { head_of result.now ≡ self.now.head }
@@ -400,12 +381,16 @@ impl<A: Allocator> AviReader<A> {
     /// the one before it: the answer is then true, and the vector is empty. `repeated` says how
     /// many there were so far; a fault leaves that as it was.
     ///
+    /// In an RIFF or a `movi` whose size is not known, the frames end with the input, where the
+    /// name of a chunk would begin; `idx1` ends such a `movi`, and its RIFF goes on with it.
+    ///
     /// The input has to be the one that the reader was opened on. `Truncated` if a chunk does not
     /// fit in its list or the input ends inside it, or before as many frames as `dmlh` says: then
     /// also if other bytes stand after the last RIFF. `NotAvi` if a list stands in `movi`, a list
     /// has no room for its own name, or an RIFF `AVIX` has none for its form. If `open_all` made
     /// the reader, the chunks of a list `rec ` are those of `movi`, and any other list there is
-    /// `NotAvi` after its own name; `Another` if another file begins after the last RIFF, with the
+    /// `NotAvi` after its own name; so is, in an RIFF whose size is not known, a list without size
+    /// that is no `movi`; `Another` if another file begins after the last RIFF, with the
     /// ID of EBML or as an RIFF of another form; and `NotAvi` also, after its header, if a chunk
     /// stands in `movi` that is no frame `NNdc` or `NNdb` of the stream, its `NNpc`, a chunk of
     /// another of the streams, `ixNN` or `JUNK`, whatever its size; or a frame in RIFF after a
@@ -458,6 +443,9 @@ impl<A: Allocator> AviReader<A> {
         ensures behind { self.old.fault ≡ None → BehindAfter self.old.place self.old.offset
             self.old.after (passage R.remaining R.failures input.old input.new) result
             self.new.after }
+        ensures open_ended { self.old.fault ≡ None → OpenAfter self.old.place self.old.offset
+            self.old.open_ended (passage R.remaining R.failures input.old input.new) result
+            self.new.after self.new.open_ended }
         ensures repeats { self.new.repeated
             ≡ repeated_after result frame.new.items self.old.repeated }
     {
@@ -471,7 +459,15 @@ impl<A: Allocator> AviReader<A> {
         }
         let mut offset = self.offset;
         let mut after = None;
-        match read_frame(input, self.place, &mut offset, &mut after, frame) {
+        let mut open_ended = false;
+        match read_frame(
+            input,
+            self.place,
+            &mut offset,
+            &mut after,
+            &mut open_ended,
+            frame,
+        ) {
             Ok(Some(place)) => {
                 self.offset = offset;
                 self.place = place;
@@ -481,6 +477,7 @@ impl<A: Allocator> AviReader<A> {
             Ok(None) => {
                 self.place = ended();
                 self.after = after;
+                self.open_ended = open_ended;
                 Ok(false)
             }
             Err(fault) => {

@@ -1,10 +1,11 @@
 //! What follows a movi: the next one in its RIFF, or the next RIFF.
 
 ghost use Rattle.std.specs.Prelude.{◌≡◌, ◌+◌, ◌<◌, ◌≤◌, ℕ, List, Option, Some, None, codes, true};
-ghost use Rattle.std.specs.Prelude.{IfOk, if◌then◌else◌, length, nat_lt};
+ghost use Rattle.std.specs.Prelude.{IfOk, false, if◌then◌else◌, length, nat_lt};
 ghost use Rattle.ffv1_avi.specs.Behind.{Stand, StandAfter};
-ghost use Rattle.ffv1_avi.specs.Files.{moved, movi_sought, riff_begun, riff_entered, taken_or_end};
-ghost use Rattle.ffv1_avi.specs.Files.{visit_riff};
+ghost use Rattle.ffv1_avi.specs.Files.{moved, movi_sought, riff_begun, riff_entered};
+ghost use Rattle.ffv1_avi.specs.Opens.{open_riff, taken_or_end};
+ghost use Rattle.ffv1_avi.specs.Opens.{visit_riff};
 ghost use Rattle.ffv1_avi.specs.Internal.Ending.{AnswersOrNone, all_of};
 ghost use Rattle.ffv1_avi.specs.Offsets.{movi_left, riff_left};
 ghost use Rattle.ffv1_avi.specs.Internal.Offsets.{MovesTo, SeeksMovi, TellsBehind};
@@ -12,25 +13,26 @@ ghost use Rattle.ffv1_avi.specs.Places.{extent_of};
 ghost use Rattle.ffv1_reads.specs.Reads.{Answers};
 ghost use Rattle.ffv1_avi.specs.Walk.{is_name};
 ghost use Rattle.ffv1_avi.specs.declared.place.Extent.TheVariants.{EveryRiff};
+ghost use Rattle.ffv1_avi.specs.declared.place.Open.TheVariants.{Sized};
 ghost use Rattle.ffv1_avi.specs.declared.place.Place.{Place};
-ghost use Rattle.ffv1_wire.specs.Passage.{passage};
+ghost use Rattle.ffv1_wire.specs.Passage.{at_rest, passage};
 
-use crate::chunk::{Entry, is_name, next_entry, padded};
+use crate::chunk::{Entry, is_known, is_name, next_entry, padded};
 use crate::names::is_frame;
 use crate::open::own_name;
-use crate::place::{Names, Place};
+use crate::place::{Names, Open, Place, open_at};
 use byteorder::{ByteOrder, LittleEndian};
 use ffv1_reads::{FileFault, begins_file, pass};
 use ffv1_wire::{ByteIn, read_full};
 
 /// A chunk of RIFF after a movi: the bytes of the next movi, or None if it was passed. None is a
 /// frame.
-#[tactic(auto, unfolding(crate::specs::Files::visit_riff))]
-fn visit_riff<R: ByteIn>(
+#[tactic(auto, unfolding(crate::specs::Opens::visit_riff))]
+pub(crate) fn visit_riff<R: ByteIn>(
     input: &mut R,
     names: Names,
     entry: Entry,
-) -> Result<Option<(u32, u32)>, FileFault>
+) -> Result<Option<(u64, u64)>, FileFault>
     requires { is_name entry.name (codes "LIST") ≡ true → 4 ≤ entry.size }
     ensures { Answers (λ (p : Option (ℕ × ℕ)). (tt, p)) (visit_riff names tt entry)
         (passage R.remaining R.failures input.old input.new) result }
@@ -44,7 +46,7 @@ fn visit_riff<R: ByteIn>(
     }
     let own = own_name(input)?;
     if is_name(&own, b"movi") {
-        return Ok(Some((entry.size - 4, entry.left)));
+        return Ok(Some((u64::from(entry.size - 4), entry.left)));
     }
     pass(input, padded(entry.size) - 4)?;
     Ok(None)
@@ -57,10 +59,10 @@ fn seek_movi<R: ByteIn>(
     input: &mut R,
     place: Place,
     offset: &mut u64,
-) -> Result<Option<(u32, u32)>, FileFault>
+) -> Result<Option<(u64, u64)>, FileFault>
     ensures answer { Answers (λ (p : Option (ℕ × ℕ)). p) (movi_sought place.names place.riff)
         (passage R.remaining R.failures input.old input.new) result }
-    ensures from { 0 < place.input → SeeksMovi place
+    ensures from { place.open_in ≡ Sized → 0 < place.input → SeeksMovi place
         (passage R.remaining R.failures input.old input.new) result offset.old offset.new }
 {
     let mut left = place.riff;
@@ -77,7 +79,11 @@ fn seek_movi<R: ByteIn>(
 
 /// Fills the bytes, at least one, and answers how many stand at their front: fewer only if no frame
 /// is owed, and the input ends after them.
-fn take_some<R: ByteIn>(input: &mut R, owed: u32, bytes: &mut [u8]) -> Result<usize, FileFault>
+pub(crate) fn take_some<R: ByteIn>(
+    input: &mut R,
+    owed: u32,
+    bytes: &mut [u8],
+) -> Result<usize, FileFault>
     requires { 0 < length bytes.old }
     ensures answer { AnswersOrNone EveryRiff (λ (n : ℕ). all_of (length bytes.old) n bytes.new)
         (taken_or_end (length bytes.old) owed)
@@ -97,6 +103,17 @@ fn take_some<R: ByteIn>(input: &mut R, owed: u32, bytes: &mut [u8]) -> Result<us
     Ok(n)
 }
 
+/// An RIFF after the first whose size is not known, of which twelve bytes were read.
+pub(crate) fn enter_open(place: Place) -> Result<Place, FileFault>
+    ensures { (text : Option (List ℕ)) (failures : ℕ) →
+        Answers (λ (p : Place). Some p) (open_riff place) (at_rest text failures) result }
+{
+    if place.input <= 12 {
+        return Err(FileFault::Truncated);
+    }
+    Ok(open_at(place, Open::OpenRiff, place.input - 12, 0))
+}
+
 /// The size and the form of an RIFF after the first, after its name; or None if no frame is owed,
 /// and the input ends before.
 fn enter_riff<R: ByteIn>(input: &mut R, place: Place) -> Result<Option<Place>, FileFault>
@@ -112,6 +129,9 @@ fn enter_riff<R: ByteIn>(input: &mut R, place: Place) -> Result<Option<Place>, F
         return Err(FileFault::Another);
     }
     let size = LittleEndian::read_u32(&head);
+    if !is_known(size) {
+        return Ok(Some(enter_open(place)?));
+    }
     if size < 4 {
         return Err(FileFault::NotAvi);
     }
@@ -121,10 +141,11 @@ fn enter_riff<R: ByteIn>(input: &mut R, place: Place) -> Result<Option<Place>, F
     }
     Ok(Some(Place {
         input: place.input - whole,
-        riff: size - 4,
+        riff: u64::from(size - 4),
         movi: 0,
         names: place.names,
         owed: place.owed,
+        open_in: Open::Sized,
     }))
 }
 
@@ -177,7 +198,7 @@ fn count_riff<R: ByteIn>(
 ) -> Result<Option<Place>, FileFault>
     ensures answer { AnswersOrNone EveryRiff (λ (p : Option Place). p) (riff_begun place)
         (passage R.remaining R.failures input.old input.new) result }
-    ensures from { 0 < place.input → MovesTo (riff_left place 0)
+    ensures from { place.open_in ≡ Sized → 0 < place.input → MovesTo (riff_left place 0)
         (passage R.remaining R.failures input.old input.new) result offset.old offset.new }
     ensures told { IfOk result (λ o. o ≡ None →
         StandAfter (R.remaining input.old) (R.remaining input.new) offset.old after.new) }
@@ -204,13 +225,14 @@ pub(crate) fn move_on<R: ByteIn>(
     offset: &mut u64,
     after: &mut Option<u64>,
 ) -> Result<Option<Place>, FileFault>
+    requires { place.open_in ≡ Sized }
     ensures answer { AnswersOrNone (extent_of place) (λ (p : Option Place). p) (moved place)
         (passage R.remaining R.failures input.old input.new) result }
     ensures from { MovesTo (movi_left place 0)
         (passage R.remaining R.failures input.old input.new) result offset.old offset.new }
     ensures behind { IfOk result (λ o. o ≡ None →
         TellsBehind (extent_of place) (movi_left place 0) (R.remaining input.old)
-        (R.remaining input.new) offset.old after.new) }
+        (R.remaining input.new) offset.old after.new false) }
 {
     if place.input == 0 {
         *after = None;
@@ -225,5 +247,6 @@ pub(crate) fn move_on<R: ByteIn>(
         movi,
         names: place.names,
         owed: place.owed,
+        open_in: place.open_in,
     }))
 }

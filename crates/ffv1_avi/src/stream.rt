@@ -234,7 +234,7 @@ pub(crate) fn read_stream<R: ByteIn, A: Allocator>(
         rates: None,
         format: None,
     };
-    let mut left = room;
+    let mut left = u64::from(room);
     while let Some(entry) = next_entry(input, left)? {
         fields = visit_field(input, extent, fields, entry, config)?;
         left = entry.left;

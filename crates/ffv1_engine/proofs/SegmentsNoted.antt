@@ -43,11 +43,11 @@ frames_stay from text [] to rest h = ap (λ (z : Place). is_segment (container_o
 frames_stay from text (f ∷ fs) to rest h = frames_stay h.0 h.1 fs to rest h.3 ∙ frame_stays from text f h.0 h.1 h.2
 
 -- so none are noted there
-none_at : (r : Standing) (place : Place) (notes : Notes) (rest : List ℕ) → is_segment (container_of place) ≡ true → notes_told r.times.off place r.end r.cued r.after r.repeated r.others [] ≡ Ok (notes, rest) → notes.after ≡ None
+none_at : (r : Standing) (place : Place) (notes : Notes) (rest : List ℕ) → is_segment (container_of place) ≡ true → notes_told r.times.off place r.end r.cued r.after r.repeated r.others r.open_ended [] ≡ Ok (notes, rest) → notes.after ≡ None
 unfolding notes_told
 none_at r (InAvi place) notes rest is h = absurd (let no : false ≡ true = is in cc)
 none_at r (InMatroska segment track place) notes rest is h =
-    let nothing = nothing_behind (record { head = r.head; place = InMatroska segment track place; offset = r.offset; fault = r.fault; room = r.room; end = r.end; cued = r.cued; after = None; repeated = r.repeated; others = r.others; times = r.times }) in
+    let nothing = nothing_behind (record { head = r.head; place = InMatroska segment track place; offset = r.offset; fault = r.fault; room = r.room; end = r.end; cued = r.cued; after = None; repeated = r.repeated; others = r.others; times = r.times; open_ended = r.open_ended }) in
     let both : (notes, rest) ≡ (nothing.0, []) = ok_is (notes, rest) (nothing.0, []) (sym h ∙ nothing.1) in
     ap (λ (z : Notes × List ℕ). z.0.after) both ∙ nothing.2 refl
 

@@ -17,6 +17,7 @@ use Rattle.ffv1_matroska.specs.Readers as matroska
 use Rattle.ffv1_matroska.specs.Readers.{segment_behind}
 use Rattle.ffv1_reads.specs.Known.{Known}
 use Rattle.ffv1_reads.specs.Reads.{Faults, Met, Short, Stop, Want, given, refused}
+use Rattle.ffv1_avi.specs.declared.place.Open.TheVariants.{Sized}
 use Rattle.ffv1_avi.specs.declared.place.Place.{Place as AviPlace}
 use Rattle.ffv1_files.specs.Answers.{ReadsAs, StopsReading}
 use Rattle.ffv1_files.specs.Behind.{any_value, behind_after, is_behind_fault, noted, notes_of, notes_read, notes_told}
@@ -26,12 +27,12 @@ use Rattle.ffv1_files.specs.declared.notes.Notes.{Notes}
 use Rattle.ffv1_files.proofs.Answering.{ends_known, ends_stops, made_reads, made_stops}
 
 -- an AVI tells where they stand
-pub lists_noted : (times : Option ℕ) (place : AviPlace) (end : ℕ) (cued : Bool) (after : Option ℕ) (repeated others : ℕ) (p : Passage) → p.new ≡ p.old → p.after ≡ p.before → ReadsAs (notes_told times (InAvi place) end cued after repeated others) p (record { is_open = false; others = others; times = None; repeated = repeated; after = after })
+pub lists_noted : (times : Option ℕ) (place : AviPlace) (end : ℕ) (cued : Bool) (after : Option ℕ) (repeated others : ℕ) (open_ended : Bool) (p : Passage) → p.new ≡ p.old → p.after ≡ p.before → ReadsAs (notes_told times (InAvi place) end cued after repeated others open_ended) p (record { is_open = open_ended; others = others; times = None; repeated = repeated; after = after })
 unfolding notes_told
-lists_noted times place end cued after repeated others p same counted = (counted, rw same (itself p.old))
+lists_noted times place end cued after repeated others open_ended p same counted = (counted, rw same (itself p.old))
   where
     told : Notes
-    told = record { is_open = false; others = others; times = None; repeated = repeated; after = after }
+    told = record { is_open = open_ended; others = others; times = None; repeated = repeated; after = after }
 
     itself : (text : Option (List ℕ)) → Known text text (λ text rest. given told text ≡ Ok (told, rest))
     itself None = tt
@@ -41,16 +42,16 @@ pub lists_end : (r : Result Bool FileFault) → IfOk r (λ more. more ≡ true �
 lists_end (Ok more) = λ is. tt
 lists_end (Err f) = tt
 
-pub segment_noted : (r : matroska.Standing) (times : Option ℕ) (cued : Bool) (p : Passage) (some : Bool) → AnswersOrEnds (λ (b : Bool). b) (segment_behind r.segment) p (Ok some) → ReadsAs (notes_told times (InMatroska r.segment r.track.numbers r.place) r.end cued None 0 0) p (noted times r.track.numbers.others r.segment cued r.end some)
+pub segment_noted : (r : matroska.Standing) (times : Option ℕ) (cued : Bool) (p : Passage) (some : Bool) → AnswersOrEnds (λ (b : Bool). b) (segment_behind r.segment) p (Ok some) → ReadsAs (notes_told times (InMatroska r.segment r.track.numbers r.place) r.end cued None 0 0 false) p (noted times r.track.numbers.others r.segment cued r.end some)
 unfolding notes_told
 segment_noted r times cued p some h = made_reads (segment_behind r.segment) (noted times r.track.numbers.others r.segment cued r.end) p some (h.0, ends_known (segment_behind r.segment) p some h.1)
 
-pub segment_refused : (r : matroska.Standing) (times : Option ℕ) (cued : Bool) (p : Passage) (f : FileFault) → AnswersOrEnds (λ (b : Bool). b) (segment_behind r.segment) p (Err f) → StopsReading any_value (notes_told times (InMatroska r.segment r.track.numbers r.place) r.end cued None 0 0) p f
+pub segment_refused : (r : matroska.Standing) (times : Option ℕ) (cued : Bool) (p : Passage) (f : FileFault) → AnswersOrEnds (λ (b : Bool). b) (segment_behind r.segment) p (Err f) → StopsReading any_value (notes_told times (InMatroska r.segment r.track.numbers r.place) r.end cued None 0 0 false) p f
 unfolding notes_told
 segment_refused r times cued p f h = made_stops (segment_behind r.segment) (noted times r.track.numbers.others r.segment cued r.end) p any_value any_value (λ x over. tt) (λ e over. over) f (ends_stops (segment_behind r.segment) p f h)
 
 -- if no bytes are noted, none stand there
-pub lists_bare : ((from : AviPlace) (text : List ℕ) (new : Option (List ℕ)) (before : ℕ) → EndsBehind from (Some text) new before None → (new ≡ Some []) × (to : AviPlace) × (end : ℕ) × (to.movi ≡ 0) × (to.riff ≡ 0) × ReadsUpTo from (Some text) (Some []) to before end) →
+pub lists_bare : ((from : AviPlace) (text : List ℕ) (new : Option (List ℕ)) (before : ℕ) → EndsBehind from (Some text) new before None → (new ≡ Some []) × (to : AviPlace) × (end : ℕ) × (to.movi ≡ 0) × (to.open_in ≡ Sized → to.riff ≡ 0) × ReadsUpTo from (Some text) (Some []) to before end) →
     (from : AviPlace) (text : List ℕ) (new : Option (List ℕ)) (before failed : ℕ) (was : Option ℕ) → extent_of from ≡ EveryRiff → behind_after (InAvi from) before was (record { old = Some text; new = new; before = failed; after = failed }) (Ok false) None → new ≡ Some []
 lists_bare told from text new before failed was every h =
     let P : Extent → Type 0 = λ z. BehindEnd z from before was (record { old = Some text; new = new; before = failed; after = failed }) None in
@@ -60,7 +61,7 @@ no_some : {X : Type 0} (x : X) → ◌≡◌ {A = Option X} (Some x) None → �
 no_some x e = absurd (cc)
 
 pub segment_bare : ((text rest : List ℕ) → behind_read text ≡ Ok (false, rest) → text ≡ []) →
-    (size end : ℕ) (track : TrackNumbers) (place : MatroskaPlace) (cued : Bool) (text rest : List ℕ) (notes : Notes) → notes_read (InMatroska (Some size) track place) end cued None 0 0 text ≡ Ok (notes, rest) → notes.after ≡ None → text ≡ []
+    (size end : ℕ) (track : TrackNumbers) (place : MatroskaPlace) (cued : Bool) (text rest : List ℕ) (notes : Notes) → notes_read (InMatroska (Some size) track place) end cued None 0 0 false text ≡ Ok (notes, rest) → notes.after ≡ None → text ≡ []
 unfolding notes_read notes_told segment_behind
 segment_bare nothing size end track place cued text rest notes h none =
     let first = read_on_ok (behind_read text) (λ some. given (noted None track.others (Some size) cued end some)) (notes, rest) h in
@@ -131,12 +132,12 @@ module _ (r : matroska.Standing) (p : Passage) where
 
 -- ---- where nothing stands after
 
-nothing_at : (times : Option ℕ) (place : Place) (end : ℕ) (cued : Bool) (after : Option ℕ) (repeated others : ℕ) → (notes : Notes) × (notes_told times place end cued after repeated others [] ≡ Ok (notes, [])) × (after ≡ None → notes.after ≡ None)
+nothing_at : (times : Option ℕ) (place : Place) (end : ℕ) (cued : Bool) (after : Option ℕ) (repeated others : ℕ) (open_ended : Bool) → (notes : Notes) × (notes_told times place end cued after repeated others open_ended [] ≡ Ok (notes, [])) × (after ≡ None → notes.after ≡ None)
 unfolding notes_told segment_behind behind_read begins_file
-nothing_at times (InAvi place) end cued after repeated others = (record { is_open = false; others = others; times = None; repeated = repeated; after = after }, refl, λ none. none)
-nothing_at times (InMatroska None track place) end cued after repeated others = (noted times track.others None cued end false, refl, λ none. refl)
-nothing_at times (InMatroska (Some size) track place) end cued after repeated others = (noted times track.others (Some size) cued end false, refl, λ none. refl)
+nothing_at times (InAvi place) end cued after repeated others open_ended = (record { is_open = open_ended; others = others; times = None; repeated = repeated; after = after }, refl, λ none. none)
+nothing_at times (InMatroska None track place) end cued after repeated others open_ended = (noted times track.others None cued end false, refl, λ none. refl)
+nothing_at times (InMatroska (Some size) track place) end cued after repeated others open_ended = (noted times track.others (Some size) cued end false, refl, λ none. refl)
 
 -- nothing is met, and no bytes are noted
 pub nothing_behind : (r : Standing) → (notes : Notes) × (notes_of r [] ≡ Ok (notes, [])) × (r.after ≡ None → notes.after ≡ None)
-nothing_behind r = nothing_at r.times.off r.place r.end r.cued r.after r.repeated r.others
+nothing_behind r = nothing_at r.times.off r.place r.end r.cued r.after r.repeated r.others r.open_ended

@@ -1,9 +1,10 @@
 -- Files of either container are read as those of it.
-use Rattle.std.proofs.Common.{◌≡◌, refl, ℕ, Bool, true, false, Option, Some, None, Result, Ok, Err, List, [], ◌++◌, inl, inr, ap, sym, ◌∙◌}
+use Rattle.std.proofs.Common.{◌≡◌, ◌⊎◌, refl, ℕ, Bool, true, false, Option, Some, None, Result, Ok, Err, List, [], ◌++◌, inl, inr, ap, sym, ◌∙◌}
 use Rattle.ffv1_reads.specs.Head.{Head, without_colour}
 use Rattle.ffv1_reads.specs.Reads.{Stop, read_on, given}
 use Rattle.ffv1_avi.specs.Chunks.{AviFile, IsWritable}
 use Rattle.ffv1_avi.specs.Behind.{RiffFileThen}
+use Rattle.ffv1_avi.specs.OpenFiles.{OpenFile}
 use Rattle.ffv1_avi.specs.Riffs.{RiffFile}
 use Rattle.ffv1_avi.specs.Files as avi
 use Rattle.ffv1_avi.specs.Written.{file_of}
@@ -86,7 +87,7 @@ unfolding open_read
 whole_matroska text is = rw is (matroska_same text)
 
 -- a file that is read whole
-module _ (whole : (file : List ℕ) (head : Head) (frames : List (List ℕ)) (rest : List ℕ) → avi.file_read EveryRiff file ≡ Ok ((head, frames), rest) → RiffFileThen file head frames rest)
+module _ (whole : (file : List ℕ) (head : Head) (frames : List (List ℕ)) (rest : List ℕ) → avi.file_read EveryRiff file ≡ Ok ((head, frames), rest) → RiffFileThen file head frames rest ⊎ (OpenFile file head frames × (rest ≡ [])))
     (elements : (file : List ℕ) (head : Head) (frames : List (List ℕ)) (rest : List ℕ) → file_again_read file ≡ Ok ((head, frames), rest) → (is : SegmentFile file head frames) × (is.rest ≡ rest)) where
   pub read_whole : (file : List ℕ) (head : Head) (frames : List (List ℕ)) (rest : List ℕ) → file_read scope.Whole file ≡ Ok ((head, frames), rest) → IsWhole file head frames rest
   read_whole file head frames rest h = on_first (is_matroska file) refl
@@ -120,10 +121,15 @@ riff_first file head frames is = ap is_matroska is.bytes
 then_first : (file : List ℕ) (head : Head) (frames : List (List ℕ)) (rest : List ℕ) → RiffFileThen file head frames rest → is_matroska file ≡ false
 then_first file head frames rest h = ap is_matroska (h.bytes ∙ ap (λ z. z ++ h.behind) h.is.bytes)
 
+open_first : (file : List ℕ) (head : Head) (frames : List (List ℕ)) → OpenFile file head frames → is_matroska file ≡ false
+open_first file head frames is = ap is_matroska is.bytes
+
 module _ (every_then : (file : List ℕ) (head : Head) (frames : List (List ℕ)) (rest : List ℕ) → RiffFileThen file head frames rest → avi.file_read EveryRiff file ≡ Ok ((head, frames), rest))
+    (every_open : (file : List ℕ) (head : Head) (frames : List (List ℕ)) → OpenFile file head frames → avi.file_read EveryRiff file ≡ Ok ((head, frames), []))
     (elements : (file : List ℕ) (head : Head) (frames : List (List ℕ)) (is : SegmentFile file head frames) → file_again_read file ≡ Ok ((head, frames), is.rest)) where
   pub whole_read : (file : List ℕ) (head : Head) (frames : List (List ℕ)) (rest : List ℕ) → IsWhole file head frames rest → file_read scope.Whole file ≡ Ok ((head, frames), rest)
-  whole_read file head frames rest (inl h) = whole_avi file (then_first file head frames rest h) ∙ every_then file head frames rest h
+  whole_read file head frames rest (inl (inl h)) = whole_avi file (then_first file head frames rest h) ∙ every_then file head frames rest h
+  whole_read file head frames rest (inl (inr h)) = whole_avi file (open_first file head frames h.0) ∙ every_open file head frames h.0 ∙ ap (λ z. Ok ((head, frames), z)) (sym h.1)
   whole_read file head frames rest (inr h) = whole_matroska file h.0 ∙ elements file head frames h.1.0 ∙ ap (λ z. Ok ((head, frames), z)) h.1.1
 
 module _ (first : (head : Head) (frames : List (List ℕ)) → IsWritable FirstMovi head frames → avi.file_read FirstMovi (file_of head frames) ≡ Ok ((without_colour head, frames), []))

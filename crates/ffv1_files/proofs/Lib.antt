@@ -9,6 +9,7 @@ mod ItemNexts
 pub mod Behinds
 mod NotedStreams
 mod NotedTimes
+mod NotedOpenings
 mod Noted
 mod NotedLaws
 mod NotedOnce

@@ -45,10 +45,10 @@ opening_with {to = to} first old mid new before now after f same gives h =
 
 -- readers of their containers
 abbrev pub in_avi : avi_reader.Standing → Standing
-in_avi r = record { head = r.head; place = InAvi r.place; offset = r.offset; fault = r.fault; room = r.room; end = 0; cued = false; after = r.after; repeated = r.repeated; others = r.others; times = times_begun 0 }
+in_avi r = record { head = r.head; place = InAvi r.place; offset = r.offset; fault = r.fault; room = r.room; end = 0; cued = false; after = r.after; repeated = r.repeated; others = r.others; times = times_begun 0; open_ended = r.open_ended }
 
 abbrev pub in_matroska : matroska_reader.Standing → Standing
-in_matroska r = record { head = r.track.head; place = InMatroska r.segment r.track.numbers r.place; offset = r.offset; fault = r.fault; room = r.room; end = r.end; cued = r.cued; after = None; repeated = 0; others = 0; times = r.times }
+in_matroska r = record { head = r.track.head; place = InMatroska r.segment r.track.numbers r.place; offset = r.offset; fault = r.fault; room = r.room; end = r.end; cued = r.cued; after = None; repeated = 0; others = 0; times = r.times; open_ended = false }
 
 -- that were opened
 avi_begins : (extent : Extent) (text left : Option (List ℕ)) (r : avi_reader.Standing) (count : ℕ) → ReadsWhole (avi.spot_taken extent) avi.Start text left (avi.BeforeFrames r.head r.place) count → r.offset ≡ offset_after 0 count → AviReached extent text left r.head r.place r.offset

@@ -6,55 +6,53 @@ use Rattle.ffv1_wire.specs.Passage.{Passage}
 use Rattle.ffv1_reads.specs.Ends.{ReadOrNone}
 use Rattle.ffv1_reads.specs.Head.{Head}
 use Rattle.ffv1_reads.specs.Known.{Known}
-use Rattle.ffv1_reads.specs.Offsets.{ReadsWhole, all_bytes, offset_after}
-use Rattle.ffv1_reads.specs.Reads.{Reading, given, read_on, ◌>>=◌}
+use Rattle.ffv1_reads.specs.Offsets.{ReadsWhole, offset_after}
+use Rattle.ffv1_reads.specs.Reads.{given, read_on}
 use Rattle.ffv1_reads.specs.declared.fault.FileFault.{FileFault}
-use Rattle.ffv1_reads.proofs.OffsetLaws.{reads_none, reads_then}
-use Rattle.ffv1_reads.proofs.Results.{ok_is, read_on_ok}
-use Rattle.ffv1_avi.specs.Behind.{BehindEnd, EndsBehind, StandAfter}
+use Rattle.ffv1_reads.proofs.OffsetLaws.{reads_then}
+use Rattle.ffv1_reads.proofs.Results.{ok_is}
+use Rattle.ffv1_avi.specs.Behind.{BehindEnd, EndsOpen, IsOver, OpenEnd, OverAt, StandAfter}
 use Rattle.ffv1_avi.specs.Behind as avi_behind
 use Rattle.ffv1_avi.specs.Files as avi
 use Rattle.ffv1_avi.specs.Extents.{AnswersFrom}
 use Rattle.ffv1_avi.specs.Files.{others_read, riff_begun}
 use Rattle.ffv1_avi.specs.Names as names
 use Rattle.ffv1_avi.specs.Offsets.{ReadsUpTo}
-use Rattle.ffv1_avi.specs.Places.{extent_of, first_place}
+use Rattle.ffv1_avi.specs.Opens.{open_found}
+use Rattle.ffv1_avi.specs.Places.{extent_of, is_open}
 use Rattle.ffv1_avi.specs.Readers as avi_reader
 use Rattle.ffv1_avi.specs.Readers.{with_repeated}
 use Rattle.ffv1_avi.specs.declared.place.Extent.{Extent}
 use Rattle.ffv1_avi.specs.declared.place.Extent.TheVariants.{FirstMovi, EveryRiff}
-use Rattle.ffv1_avi.specs.declared.place.Names.{Names}
+use Rattle.ffv1_avi.specs.declared.place.Open.{Open}
+use Rattle.ffv1_avi.specs.declared.place.Open.TheVariants.{Sized, OpenRiff, OpenMovi}
 use Rattle.ffv1_avi.specs.declared.place.Place.{Place as AviPlace}
 use Rattle.ffv1_avi.proofs.FrameTurns.{frames_step}
-use Rattle.ffv1_avi.proofs.OpenLaws.{open_sound}
 use Rattle.ffv1_matroska.specs.Cues.{CuedNext, cued_taken}
-use Rattle.ffv1_matroska.specs.Offsets.{BeforeFrames, InSegment, Start, element_taken, spot_taken}
-use Rattle.ffv1_matroska.specs.Opening.{segment_begun}
-use Rattle.ffv1_matroska.specs.Late.{again_read}
 use Rattle.ffv1_matroska.specs.Opened.{Opened}
 use Rattle.ffv1_matroska.specs.Places.{amount}
 use Rattle.ffv1_matroska.specs.Readers as matroska_reader
 use Rattle.ffv1_matroska.specs.Readers.{segment_behind}
-use Rattle.ffv1_matroska.specs.Segments.{header_read, step_read}
+use Rattle.ffv1_matroska.specs.Segments.{step_read}
 use Rattle.ffv1_matroska.specs.Tracks.{Track}
 use Rattle.ffv1_matroska.specs.declared.place.Place.{Place as MatroskaPlace}
 use Rattle.ffv1_matroska.specs.declared.track.TrackNumbers.{TrackNumbers}
 use Rattle.ffv1_matroska.proofs.LastSteps.{IsLast, again_sized, last_nothing, read_to_end, step_last}
-use Rattle.ffv1_matroska.proofs.ReadSegments.{headed_sound}
 use Rattle.ffv1_files.specs.Answers.{FileAnswers}
-use Rattle.ffv1_files.specs.Behind.{EndsThere, any_value, ends_there, notes_of, notes_told}
-use Rattle.ffv1_files.specs.Files.{avi_opened, file_read, frames_read, is_matroska, matroska_begun, matroska_opened, open_read}
-use Rattle.ffv1_files.specs.Noted.{FramesBefore, IsNotedOf, NotedOf, NotesEnd, NotesNext, NotesReached, RiffsEnd, SegmentRead, SegmentReached, StreamsReached, TimesBegin, bytes_before, frames_reached, notes_reached, repeated_in, repeats, stands_after, streams_reached}
-use Rattle.ffv1_files.specs.Offsets.{AviReached, EndsEarly, EndsKnown, Layout, MatroskaReached, PlaceReached, Reached, ReadsKnown, ReadsThrough}
-use Rattle.ffv1_files.specs.Places.{InAvi, InMatroska, Place, least_bytes, least_in}
-use Rattle.ffv1_files.specs.Readers.{Standing, opened_at}
+use Rattle.ffv1_files.specs.Behind.{any_value, notes_of, notes_told}
+use Rattle.ffv1_files.specs.Files.{file_read, frames_read}
+use Rattle.ffv1_files.specs.Noted.{FramesBefore, IsNotedOf, NotedOf, NotesEnd, NotesNext, NotesReached, RiffsEnd, SegmentRead, SegmentReached, bytes_before, frames_reached, notes_reached, repeated_in, repeats, stands_after, streams_reached}
+use Rattle.ffv1_files.specs.Offsets.{AviReached, Reached}
+use Rattle.ffv1_files.specs.Places.{InAvi, InMatroska, least_bytes}
+use Rattle.ffv1_files.specs.Readers.{Standing}
 use Rattle.ffv1_files.specs.declared.container.Scope.{Scope}
 use Rattle.ffv1_files.specs.declared.container.Scope.TheVariants as scope
 use Rattle.ffv1_files.specs.declared.notes.Notes.{Notes}
 use Rattle.ffv1_files.proofs.Answering.{known_map, none_known}
 use Rattle.ffv1_files.proofs.Locations.{counts_on, in_avi, in_matroska, through_on}
 use Rattle.ffv1_files.proofs.Nexts.{by_reads}
-use Rattle.ffv1_files.proofs.NotedTimes.{opens_timed, times_end, times_go, times_lists}
+use Rattle.ffv1_files.proofs.NotedOpenings.{counted_before, through_counts, whole_counts}
+use Rattle.ffv1_files.proofs.NotedTimes.{times_end, times_go, times_lists}
 use Rattle.ffv1_matroska.specs.Times.{TimedAfter, timed_taken, times_begun}
 
 -- what is known from one position to the next, and from there on
@@ -71,171 +69,6 @@ Goes old new = Known old new (λ a b. Unit {0})
 pub noted_answer : (s : Scope) (text : Option (List ℕ)) (r : Standing) (p : Passage) (result : Result Notes FileFault) → FileAnswers any_value (λ (n : Notes). n) (notes_of r) p result → NotesEnd s text p.old r → IfOk result (NotedOf s text p.new)
 noted_answer s text r p (Ok notes) h e = known_then text p.old p.new (λ file behind. (n : Notes) (rest : List ℕ) → notes_of r behind ≡ Ok (n, rest) → IsNotedOf s file rest n) (λ a b. notes_of r a ≡ Ok (notes, b)) (λ file rest. IsNotedOf s file rest notes) (λ file a b all is. all notes b is) e.known h.1
 noted_answer s text r p (Err f) h e = tt
-
--- an offset is what comes before what is left
-whole_counts : {S : Type 0} {element : S → Reading S} {from to : S} {count : ℕ} (file left : List ℕ) → ReadsWhole element from (Some file) (Some left) to count → length file ≡ count + length left
-whole_counts file left h = ap length h.consumed ∙ omega (arith, length-append (all_bytes h.elements) left, h.counted)
-
-abbrev Counted : List ℕ → List ℕ → ℕ → Type 0
-Counted file left offset = (n : ℕ) × (length file ≡ n + length left) × (offset ≡ offset_after 0 n)
-
-counted_before : (file left : List ℕ) (offset : ℕ) → Counted file left offset → offset ≡ bytes_before file left
-counted_before file left offset (n, long, is) = all (length file) (length left) (2 ^ 64 - 1) long is
-  where
-    all : (f l most : ℕ) → f ≡ n + l → offset ≡ min (0 + n) most → offset ≡ min (0 + (f - l)) most
-    all f l most long is = grind (arith, long, is)
-
-through_counts : {S T : Type 0} {layout : Layout S T} {place : T} {offset : ℕ} (file left : List ℕ) → ReadsThrough layout (Some file) (Some left) place offset → Counted file left offset
-through_counts {layout = layout} {place = place} {offset = offset} file left h = on_between h.between h.opened h.framed
-  where
-    on_between : (between : Option (List ℕ)) → ReadsWhole layout.opening layout.start (Some file) between (layout.begun h.first) h.before → ReadsWhole layout.frames h.first between (Some left) place h.after → Counted file left offset
-    on_between None opened framed = absurd opened.consumed
-    on_between (Some mid) opened framed =
-        let one = whole_counts file mid opened in
-        let two = whole_counts mid left framed in
-        (h.before + h.after, omega (arith, one, two), h.offset_is)
-
--- of a Segment, which may have ended before any Cluster
-pub header_over : (place : MatroskaPlace) (text rest : List ℕ) → header_read place text ≡ Ok (None, rest) → text ≡ rest
-unfolding header_read
-header_over place text rest h = (headed_sound place false place.segment text None rest h).0
-
-early_counts : (file left : List ℕ) (track : Track) (offset : ℕ) → EndsEarly (Some file) (Some left) track offset → Counted file left offset
-early_counts file left track offset (count, ends, is) = on_between ends.between ends.before ends.none
-  where
-    on_between : (between : Option (List ℕ)) → ReadsWhole spot_taken Start (Some file) between (InSegment (Some track) ends.here) count → ReadOrNone (header_read ends.here) between (Some left) None → Counted file left offset
-    on_between None before none = absurd before.consumed
-    on_between (Some mid) before none =
-        let over = header_over ends.here mid left (none_known (header_read ends.here) (record { old = Some mid; new = Some left; before = 0; after = 0 }) None none) in
-        (count, whole_counts file mid before ∙ ap (λ (z : List ℕ). count + length z) over, is)
-
--- of a file that was begun again
-known_counts : (file left : List ℕ) (track : Track) (place : MatroskaPlace) (offset : ℕ) → ReadsKnown (Some file) (Some left) track place offset → Counted file left offset
-known_counts file left track place offset h = on_between h.between h.begun h.entered h.opened h.framed
-  where
-    on_between : (between begun : Option (List ℕ)) → ReadsWhole spot_taken Start (Some file) between (InSegment None (segment_begun h.size)) h.before → ReadsWhole spot_taken (InSegment (Some h.known) (segment_begun h.size)) between begun (BeforeFrames track h.first) h.count →
-        ReadsWhole (element_taken track.numbers) h.first begun (Some left) place h.after → Counted file left offset
-    on_between None begun entered opened framed = absurd entered.consumed
-    on_between (Some mid) None entered opened framed = absurd opened.consumed
-    on_between (Some mid) (Some near) entered opened framed =
-        let one = whole_counts file mid entered in
-        let two = whole_counts mid near opened in
-        let three = whole_counts near left framed in
-        (h.before + (h.count + h.after), omega (arith, one, two, three), h.offset_is)
-
-ends_counts : (file left : List ℕ) (track : Track) (offset : ℕ) → EndsKnown (Some file) (Some left) track offset → Counted file left offset
-ends_counts file left track offset h = on_between h.between h.goes.1.between h.entered h.goes.1.before h.goes.1.none
-  where
-    on_between : (between near : Option (List ℕ)) → ReadsWhole spot_taken Start (Some file) between (InSegment None (segment_begun h.size)) h.before → ReadsWhole spot_taken (InSegment (Some h.goes.0) (segment_begun h.size)) between near (InSegment (Some track) h.goes.1.here) h.after →
-        ReadOrNone (header_read h.goes.1.here) near (Some left) None → Counted file left offset
-    on_between None near entered before none = absurd entered.consumed
-    on_between (Some mid) None entered before none = absurd before.consumed
-    on_between (Some mid) (Some near) entered before none =
-        let over = header_over h.goes.1.here near left (none_known (header_read h.goes.1.here) (record { old = Some near; new = Some left; before = 0; after = 0 }) None none) in
-        let one = whole_counts file mid entered in
-        let two = whole_counts mid near before in
-        let same = ap (λ (z : List ℕ). length z) over in
-        (h.before + h.after, omega (arith, one, two, same), h.offset_is)
-
-matroska_counts : (file left : List ℕ) (numbers : TrackNumbers) (place : MatroskaPlace) (offset : ℕ) → MatroskaReached (Some file) (Some left) numbers place offset → Counted file left offset
-matroska_counts file left numbers place offset (inl h) = through_counts file left h.1
-matroska_counts file left numbers place offset (inr (inl h)) = early_counts file left (record { numbers = numbers; head = h.1 }) offset h.2
-matroska_counts file left numbers place offset (inr (inr (inl (head, h)))) = known_counts file left (record { numbers = numbers; head = head }) place offset h
-matroska_counts file left numbers place offset (inr (inr (inr (is, head, h)))) = ends_counts file left (record { numbers = numbers; head = head }) offset h
-
--- where a file was opened
-module _ (file left : List ℕ) (end offset : ℕ) (cued : Bool) (after : Option ℕ) (uncued : cued ≡ false) (untold : after ≡ None) where
-  avi_extent : (extent : Extent) (head : Head) (place : AviPlace) → avi_opened extent file ≡ Ok ((head, InAvi place), left) → extent_of place ≡ extent
-  avi_extent extent head place h =
-      let first = read_on_ok (avi.open_read extent file) (λ p. given (p.0, InAvi p.1)) ((head, InAvi place), left) h in
-      let same : InAvi first.0.0.1 ≡ InAvi place = ap (λ (z : (Head × Place) × List ℕ). z.0.1) (ok_is ((first.0.0.0, InAvi first.0.0.1), first.0.1) ((head, InAvi place), left) first.2) in
-      let there : first.0.0.1 ≡ place = ap (in_place place) same in
-      ap (λ (z : AviPlace). extent_of z) (sym there) ∙ ap (λ (z : AviPlace). extent_of z) (open_sound extent file first.0 first.1).top.place ∙ first_extent extent _ _ _ _
-    where
-      in_place : AviPlace → Place → AviPlace
-      in_place other (InAvi p) = p
-      in_place other (InMatroska segment track p) = other
-
-      first_extent : (extent : Extent) (riff movi owed : ℕ) (names : Names) → extent_of (first_place extent riff movi names owed) ≡ extent
-      first_extent FirstMovi riff movi owed names = refl
-      first_extent EveryRiff riff movi owed names = refl
-
-  segment_opened : (head : Head) (segment : Option ℕ) (track : TrackNumbers) (place : MatroskaPlace) → matroska_opened file ≡ Ok ((head, InMatroska segment track place), left) → MatroskaReached (Some file) (Some left) track place offset → end ≡ offset_after offset (amount place) →
-      notes_reached scope.Whole (InMatroska segment track place) end cued after file left
-  segment_opened head segment track place h reached there =
-      let first = read_on_ok (again_read file) matroska_begun ((head, InMatroska segment track place), left) h in
-      let o : Opened = first.0.0 in
-      let all = ok_is ((o.track.head, InMatroska o.segment o.track.numbers o.place), first.0.1) ((head, InMatroska segment track place), left) first.2 in
-      let same : InMatroska o.segment o.track.numbers o.place ≡ InMatroska segment track place = ap (λ (z : (Head × Place) × List ℕ). z.0.1) all in
-      let rest : first.0.1 ≡ left = ap (λ (z : (Head × Place) × List ℕ). z.1) all in
-      let P : Place → Type 0 = λ z. notes_reached scope.Whole z end cued after file left in
-      let Q : Place → Type 0 = λ z. ends_there z offset end in
-      let here : end ≡ offset_after offset (amount o.place) = subst Q (sym same) there in
-      let counts : Counted file left offset = matroska_counts file left track place offset reached in
-      let before : offset ≡ bytes_before file left = counted_before file left offset counts in
-      let none = subst (λ c. ReadsWhole (cued_taken o.track.numbers) (o.place, false) (Some left) (Some left) (o.place, c) 0) (sym uncued) (reads_none (cued_taken o.track.numbers) (o.place, false) (Some left)) in
-      let read : SegmentRead file left o o.place cued = record { begun = left; count = 0; opens = first.1 ∙ ap (λ z. Ok (o, z)) rest; elements = none } in
-      subst P same (
-        o,
-        refl,
-        refl,
-        record {
-          read = read;
-          fits = omega (arith, counts.1);
-          end_is = here ∙ ap (λ n. offset_after n (amount o.place)) before;
-        },
-      )
-
-  opened_at_once : (s : Scope) (head : Head) (place : Place) → open_read s file ≡ Ok ((head, place), left) → PlaceReached s (Some file) (Some left) head place offset → ends_there place offset end → notes_reached s place end cued after file left
-  unfolding open_read
-  opened_at_once scope.FirstMovi head (InAvi place) h reached there = (avi_extent FirstMovi head place h, untold)
-  opened_at_once scope.FirstMovi head (InMatroska segment track place) h reached there = absurd reached
-  opened_at_once scope.Whole head (InAvi place) h reached there = on_first (is_matroska file) refl
-    where
-      on_first : (b : Bool) → is_matroska file ≡ b → extent_of place ≡ EveryRiff
-      on_first false is = avi_extent EveryRiff head place (rw is at h)
-      on_first true is = absurd (no_avi (rw is at h))
-        where
-          no_avi : matroska_opened file ≡ Ok ((head, InAvi place), left) → ⊥
-          no_avi k =
-              let first = read_on_ok (again_read file) matroska_begun ((head, InAvi place), left) k in
-              let o : Opened = first.0.0 in
-              let same : InMatroska o.segment o.track.numbers o.place ≡ InAvi place = ap (λ (z : (Head × Place) × List ℕ). z.0.1) (ok_is ((o.track.head, InMatroska o.segment o.track.numbers o.place), first.0.1) ((head, InAvi place), left) first.2) in
-              cc
-  opened_at_once scope.Whole head (InMatroska segment track place) h reached there = on_first (is_matroska file) refl
-    where
-      on_first : (b : Bool) → is_matroska file ≡ b → notes_reached scope.Whole (InMatroska segment track place) end cued after file left
-      on_first true is = segment_opened head segment track place (rw is at h) reached there
-      on_first false is = absurd (no_segment (rw is at h))
-        where
-          no_segment : avi_opened EveryRiff file ≡ Ok ((head, InMatroska segment track place), left) → ⊥
-          no_segment k =
-              let first = read_on_ok (avi.open_read EveryRiff file) (λ p. given (p.0, InAvi p.1)) ((head, InMatroska segment track place), left) k in
-              let same : InAvi first.0.0.1 ≡ InMatroska segment track place = ap (λ (z : (Head × Place) × List ℕ). z.0.1) (ok_is ((first.0.0.0, InAvi first.0.0.1), first.0.1) ((head, InMatroska segment track place), left) first.2) in
-              cc
-
--- no frame comes before
-opened_frames : (s : Scope) (file left : List ℕ) (head : Head) (place : Place) (repeated : ℕ) → open_read s file ≡ Ok ((head, place), left) → least_in s ≤ least_bytes place → repeated ≡ 0 → frames_reached s head place repeated file left
-unfolding frames_read
-opened_frames scope.FirstMovi file left head place repeated is least none = (least, none)
-opened_frames scope.Whole file left head (InMatroska segment track place) repeated is least none = tt
-opened_frames scope.Whole file left head (InAvi place) repeated is least none = (
-  [],
-  λ more rest reads.
-      ap (λ z. read_on z (λ p. frames_read p.1 >>= λ frames. given (p.0, frames))) is
-      ∙ ap (λ z. read_on z (λ frames. given (head, frames))) reads,
-  omega (arith, none),
-)
-
-pub opens_noted : (s : Scope) (text left : Option (List ℕ)) (r : Standing) → Known text left (λ file rest. open_read s file ≡ Ok (opened_at r, rest)) → Reached s text left r → EndsThere r → r.cued ≡ false → r.after ≡ None → least_in s ≤ least_bytes r.place → r.repeated ≡ 0 → StreamsReached s text left r → TimesBegin text left r → NotesReached s text left r
-opens_noted s None left r h reached there uncued untold least none streams times = record { known = tt; frames = tt; streams = tt; times = tt }
-opens_noted s (Some file) None r h reached there uncued untold least none streams times = absurd h
-opens_noted s (Some file) (Some left) r h reached there uncued untold least none streams times = record {
-  streams = streams;
-  times = opens_timed s file left r.head r.place r.times h times;
-  known = opened_at_once file left r.end r.offset r.cued r.after uncued untold s r.head r.place h reached.whole there;
-  frames = opened_frames s file left r.head r.place r.repeated h least none;
-}
 
 -- ---- how many frames have no bytes
 
@@ -301,21 +134,21 @@ all_frames file a b head place repeated is (before, leads, are) = record {
 }
 
 -- after a frame of an AVI
-avi_goes : (s : Scope) (text old new : Option (List ℕ)) (from to : avi_reader.Standing) → Goes old new → extent_of to.place ≡ extent_of from.place → to.after ≡ from.after → NotesReached s text old (in_avi from) → Known text new (notes_reached s (InAvi to.place) 0 false to.after)
-avi_goes s text old new from to goes same kept h = known_then text old new (notes_reached s (InAvi from.place) 0 false from.after) (λ a b. Unit {0}) (notes_reached s (InAvi to.place) 0 false to.after) (on s) h.known goes
+avi_goes : (s : Scope) (text old new : Option (List ℕ)) (from to : avi_reader.Standing) → Goes old new → extent_of to.place ≡ extent_of from.place → to.after ≡ from.after → to.open_ended ≡ from.open_ended → NotesReached s text old (in_avi from) → Known text new (notes_reached s (InAvi to.place) 0 false to.after to.open_ended)
+avi_goes s text old new from to goes same kept shut h = known_then text old new (notes_reached s (InAvi from.place) 0 false from.after from.open_ended) (λ a b. Unit {0}) (notes_reached s (InAvi to.place) 0 false to.after to.open_ended) (on s) h.known goes
   where
-    on : (s : Scope) (file a b : List ℕ) → notes_reached s (InAvi from.place) 0 false from.after file a → Unit {0} → notes_reached s (InAvi to.place) 0 false to.after file b
-    on scope.FirstMovi file a b (e, none) u = (same ∙ e, kept ∙ none)
+    on : (s : Scope) (file a b : List ℕ) → notes_reached s (InAvi from.place) 0 false from.after from.open_ended file a → Unit {0} → notes_reached s (InAvi to.place) 0 false to.after to.open_ended file b
+    on scope.FirstMovi file a b (e, none, never) u = (same ∙ e, kept ∙ none, shut ∙ never)
     on scope.Whole file a b e u = same ∙ e
 
 -- what an AVI tells
-abbrev avi_notes : ℕ → ℕ → Option ℕ → Notes
-avi_notes others repeated after = record { is_open = false; others = others; times = None; repeated = repeated; after = after }
+abbrev avi_notes : Bool → ℕ → ℕ → Option ℕ → Notes
+avi_notes open_ended others repeated after = record { is_open = open_ended; others = others; times = None; repeated = repeated; after = after }
 
-avi_told : (place : AviPlace) (after : Option ℕ) (repeated others : ℕ) (behind rest : List ℕ) (notes : Notes) → notes_told None (InAvi place) 0 false after repeated others behind ≡ Ok (notes, rest) → (notes ≡ avi_notes others repeated after) × (rest ≡ behind)
+avi_told : (place : AviPlace) (after : Option ℕ) (repeated others : ℕ) (open_ended : Bool) (behind rest : List ℕ) (notes : Notes) → notes_told None (InAvi place) 0 false after repeated others open_ended behind ≡ Ok (notes, rest) → (notes ≡ avi_notes open_ended others repeated after) × (rest ≡ behind)
 unfolding notes_told
-avi_told place after repeated others behind rest notes h =
-    let told : Notes = avi_notes others repeated after in
+avi_told place after repeated others open_ended behind rest notes h =
+    let told : Notes = avi_notes open_ended others repeated after in
     let both = ok_is (told, behind) (notes, rest) h in
     (sym (ap (λ (z : Notes × List ℕ). z.0) both), sym (ap (λ (z : Notes × List ℕ). z.1) both))
 
@@ -331,10 +164,16 @@ told_after file behind rest end (Some n) is (same, (bytes, some, taken)) = other
     others [] none at = let long : 0 ≡ length bytes + length rest = ap length none ∙ length-append bytes rest in absurd (omega (arith, long, some))
     others (b ∷ bs) is at = ap Some at
 
-riffs_end : (file a b : List ℕ) (from : avi_reader.Standing) (after : Option ℕ) (repeated others : ℕ) (notes : Notes) → (begun : List ℕ) × (others_read EveryRiff file ≡ Ok (others, begun)) → AviReached EveryRiff (Some file) (Some a) from.head from.place from.offset → EndsBehind from.place (Some a) (Some b) from.offset after → AllFrames file b from.head repeated → notes ≡ avi_notes others repeated after → RiffsEnd file b notes
-riffs_end file a b from after repeated others notes streams h ends all are = on_between ends.between ends.chunks ends.over ends.told
+-- where the frames end
+over_known : (o : Open) (place : AviPlace) (behind b : List ℕ) → OverAt o place (Some behind) (Some b) → IsOver o place behind b
+over_known Sized place behind b over = none_known (riff_begun place) (record { old = Some behind; new = Some b; before = 0; after = 0 }) None over
+over_known OpenRiff place behind b over = none_known (open_found place) (record { old = Some behind; new = Some b; before = 0; after = 0 }) None over
+over_known OpenMovi place behind b over = none_known (open_found place) (record { old = Some behind; new = Some b; before = 0; after = 0 }) None over
+
+riffs_end : (file a b : List ℕ) (from : avi_reader.Standing) (after : Option ℕ) (repeated others : ℕ) (open_ended : Bool) (notes : Notes) → (begun : List ℕ) × (others_read EveryRiff file ≡ Ok (others, begun)) → AviReached EveryRiff (Some file) (Some a) from.head from.place from.offset → EndsOpen from.place (Some a) (Some b) from.offset after open_ended → AllFrames file b from.head repeated → notes ≡ avi_notes open_ended others repeated after → RiffsEnd file b notes
+riffs_end file a b from after repeated others open_ended notes streams h (ends, shut) all are = on_between ends.between ends.chunks ends.over ends.told
   where
-    on_between : (between : Option (List ℕ)) → ReadsUpTo from.place (Some a) between ends.to from.offset ends.end → ReadOrNone (riff_begun ends.to) between (Some b) None → StandAfter between (Some b) ends.end after → RiffsEnd file b notes
+    on_between : (between : Option (List ℕ)) → ReadsUpTo from.place (Some a) between ends.to from.offset ends.end → OverAt ends.to.open_in ends.to between (Some b) → StandAfter between (Some b) ends.end after → RiffsEnd file b notes
     on_between None chunks over told = absurd chunks.1.consumed
     on_between (Some behind) (n, whole, counts) over told =
         let chunks : AviReached EveryRiff (Some file) (Some behind) from.head ends.to ends.end = through_on n h whole (counts_on h.before h.after n h.offset_is counts) in
@@ -348,38 +187,40 @@ riffs_end file a b from after repeated others notes streams h ends all are = on_
           movi = ends.movi;
           riff = ends.riff;
           every = ends.every;
-          over = none_known (riff_begun ends.to) (record { old = Some behind; new = Some b; before = 0; after = 0 }) None over;
+          over = over_known ends.to.open_in ends.to behind b over;
           frames = all.frames;
           gives = all.gives;
           others = others;
           begun = streams.0;
           counts = streams.1;
-          notes_are = are ∙ ap (avi_notes others repeated) where_from ∙ ap (λ (n : ℕ). avi_notes others n (stands_after file behind)) all.counted;
+          notes_are = are ∙ ap (λ (o : Bool). avi_notes o others repeated after) shut ∙ ap (avi_notes (is_open ends.to.open_in) others repeated) where_from ∙ ap (λ (n : ℕ). avi_notes (is_open ends.to.open_in) others n (stands_after file behind)) all.counted;
         }
 
 -- at the end of an AVI
-avi_over : (s : Scope) (text old new : Option (List ℕ)) (before failed : ℕ) (from to : avi_reader.Standing) → Known old new (λ a b. avi.frame_read from.place a ≡ Ok (None, b)) → to.repeated ≡ from.repeated → to.others ≡ from.others → BehindEnd (extent_of from.place) from.place from.offset from.after (record { old = old; new = new; before = before; after = failed }) to.after → Reached s text old (in_avi from) →
+avi_over : (s : Scope) (text old new : Option (List ℕ)) (before failed : ℕ) (from to : avi_reader.Standing) → Known old new (λ a b. avi.frame_read from.place a ≡ Ok (None, b)) → to.repeated ≡ from.repeated → to.others ≡ from.others → BehindEnd (extent_of from.place) from.place from.offset from.after (record { old = old; new = new; before = before; after = failed }) to.after → OpenEnd (extent_of from.place) from.place from.offset from.open_ended (record { old = old; new = new; before = before; after = failed }) to.after to.open_ended → Reached s text old (in_avi from) →
     NotesReached s text old (in_avi from) → NotesEnd s text new (in_avi to)
-avi_over s None old new before failed from to goes counted streams ends reached h = record { known = tt }
-avi_over s (Some file) None new before failed from to goes counted streams ends reached h = absurd h.known
-avi_over s (Some file) (Some a) None before failed from to goes counted streams ends reached h = absurd goes
-avi_over scope.FirstMovi (Some file) (Some a) (Some b) before failed from to goes counted streams ends reached h =
+avi_over s None old new before failed from to goes counted streams ends opens reached h = record { known = tt }
+avi_over s (Some file) None new before failed from to goes counted streams ends opens reached h = absurd h.known
+avi_over s (Some file) (Some a) None before failed from to goes counted streams ends opens reached h = absurd goes
+avi_over scope.FirstMovi (Some file) (Some a) (Some b) before failed from to goes counted streams ends opens reached h =
     let P : Extent → Type 0 = λ z. BehindEnd z from.place from.offset from.after (record { old = Some a; new = Some b; before = before; after = failed }) to.after in
     let none : to.after ≡ None = (subst P h.known.0 ends) h.known.1 in
+    let Q : Extent → Type 0 = λ z. OpenEnd z from.place from.offset from.open_ended (record { old = Some a; new = Some b; before = before; after = failed }) to.after to.open_ended in
+    let shut : to.open_ended ≡ false = (subst Q h.known.0 opens) h.known.2 in
     record {
       known = λ notes rest read.
-          (avi_told to.place to.after to.repeated to.others b rest notes read).0 ∙ ap (avi_notes to.others to.repeated) none
-          ∙ ap (λ (n : ℕ). avi_notes to.others n None) (counted ∙ h.frames.1) ∙ ap (λ (n : ℕ). avi_notes n 0 None) (streams ∙ h.streams);
+          (avi_told to.place to.after to.repeated to.others to.open_ended b rest notes read).0 ∙ ap (λ (o : Bool). avi_notes o to.others to.repeated to.after) shut ∙ ap (avi_notes false to.others to.repeated) none
+          ∙ ap (λ (n : ℕ). avi_notes false to.others n None) (counted ∙ h.frames.1) ∙ ap (λ (n : ℕ). avi_notes false n 0 None) (streams ∙ h.streams);
     }
-avi_over scope.Whole (Some file) (Some a) (Some b) before failed from to goes counted streams ends reached h =
-    let P : Extent → Type 0 = λ z. BehindEnd z from.place from.offset from.after (record { old = Some a; new = Some b; before = before; after = failed }) to.after in
-    let there : EndsBehind from.place (Some a) (Some b) from.offset to.after = subst P h.known ends in
+avi_over scope.Whole (Some file) (Some a) (Some b) before failed from to goes counted streams ends opens reached h =
+    let P : Extent → Type 0 = λ z. OpenEnd z from.place from.offset from.open_ended (record { old = Some a; new = Some b; before = before; after = failed }) to.after to.open_ended in
+    let there : EndsOpen from.place (Some a) (Some b) from.offset to.after to.open_ended = subst P h.known opens in
     let all : AllFrames file b from.head from.repeated = all_frames file a b from.head from.place from.repeated goes h.frames in
     record {
       known = λ notes rest read.
-          (let told = avi_told to.place to.after to.repeated to.others b rest notes read in
-          inl (rw told.1 (riffs_end file a b from to.after from.repeated from.others notes h.streams reached.whole there all
-          (told.0 ∙ ap (λ (n : ℕ). avi_notes to.others n to.after) counted ∙ ap (λ (n : ℕ). avi_notes n from.repeated to.after) streams))));
+          (let told = avi_told to.place to.after to.repeated to.others to.open_ended b rest notes read in
+          inl (rw told.1 (riffs_end file a b from to.after from.repeated from.others to.open_ended notes h.streams reached.whole there all
+          (told.0 ∙ ap (λ (n : ℕ). avi_notes to.open_ended to.others n to.after) counted ∙ ap (λ (n : ℕ). avi_notes to.open_ended n from.repeated to.after) streams))));
     }
 
 -- how many further streams there are stays
@@ -400,19 +241,19 @@ pub record AviCalled (from to : avi_reader.Standing) (bytes : List ℕ) (p : Pas
   pub streams : to.others ≡ from.others
 
 pub avi_noted : (s : Scope) (text : Option (List ℕ)) (from to : avi_reader.Standing) (bytes : List ℕ) (p : Passage) (r : Result Bool FileFault) → AviCalled from to bytes p r → IfOk r (λ more. more ≡ true → extent_of to.place ≡ extent_of from.place) →
-    avi_behind.BehindAfter from.place from.offset from.after p r to.after → Reached s text p.old (in_avi from) → NotesReached s text p.old (in_avi from) → NotesNext s text p r (in_avi to)
-avi_noted s text from to bytes p (Ok true) called same behind reached h =
+    avi_behind.BehindAfter from.place from.offset from.after p r to.after → avi_behind.OpenAfter from.place from.offset from.open_ended p r to.after to.open_ended → Reached s text p.old (in_avi from) → NotesReached s text p.old (in_avi from) → NotesNext s text p r (in_avi to)
+avi_noted s text from to bytes p (Ok true) called same behind opens reached h =
     let reads = by_reads (avi.frame_read from.place) (λ (more : Bool). avi_reader.next_of more bytes to.place) p (extent_of from.place) true called.answer in
     record {
-      known = avi_goes s text p.old p.new from to (known_map p.old p.new (λ a b. avi.frame_read from.place a ≡ Ok (Some (bytes, to.place), b)) (λ a b. Unit {0}) (λ a b is. tt) reads.1) (same refl) behind h;
+      known = avi_goes s text p.old p.new from to (known_map p.old p.new (λ a b. avi.frame_read from.place a ≡ Ok (Some (bytes, to.place), b)) (λ a b. Unit {0}) (λ a b is. tt) reads.1) (same refl) behind opens h;
       frames = avi_frames s text p.old p.new from to bytes reads.1 called.stands.2 called.least (called.sized refl).0 called.counted h.frames;
       streams = streams_kept s text p.old p.new (λ a b. avi.frame_read from.place a ≡ Ok (Some (bytes, to.place), b)) from.place to.place from.others to.others called.streams reads.1 h.streams;
       times = times_lists s text p.old p.new (λ a b. avi.frame_read from.place a ≡ Ok (Some (bytes, to.place), b)) from.place to.place (times_begun 0) reads.1 h.times;
     }
-avi_noted s text from to bytes p (Ok false) called same behind reached h =
+avi_noted s text from to bytes p (Ok false) called same behind opens reached h =
     let reads = by_reads (avi.frame_read from.place) (λ (more : Bool). avi_reader.next_of more bytes to.place) p (extent_of from.place) false called.answer in
-    avi_over s text p.old p.new p.before p.after from to reads.1 called.counted called.streams behind reached h
-avi_noted s text from to bytes p (Err f) called same behind reached h = tt
+    avi_over s text p.old p.new p.before p.after from to reads.1 called.counted called.streams behind opens reached h
+avi_noted s text from to bytes p (Err f) called same behind opens reached h = tt
 
 -- after a frame of a Segment
 segment_goes : (s : Scope) (text old new : Option (List ℕ)) (from to : matroska_reader.Standing) (count : ℕ) → to.track ≡ from.track → to.segment ≡ from.segment → to.end ≡ from.end → ReadsWhole (cued_taken from.track.numbers) (from.place, from.cued) old new (to.place, to.cued) count →
@@ -441,7 +282,7 @@ segment_goes scope.Whole (Some file) (Some a) (Some b) from to count track segme
     }
 
 -- notes are read of a Segment by its size, and if that is known by where it ends
-notes_same : (times : Option ℕ) (s : Option ℕ) (track numbers : TrackNumbers) (here there : MatroskaPlace) (end other : ℕ) (cued : Bool) (text : List ℕ) → track.others ≡ numbers.others → ((size : ℕ) → s ≡ Some size → end ≡ other) → notes_told times (InMatroska s track here) end cued None 0 0 text ≡ notes_told times (InMatroska s numbers there) other cued None 0 0 text
+notes_same : (times : Option ℕ) (s : Option ℕ) (track numbers : TrackNumbers) (here there : MatroskaPlace) (end other : ℕ) (cued : Bool) (text : List ℕ) → track.others ≡ numbers.others → ((size : ℕ) → s ≡ Some size → end ≡ other) → notes_told times (InMatroska s track here) end cued None 0 0 false text ≡ notes_told times (InMatroska s numbers there) other cued None 0 0 false text
 unfolding notes_told segment_behind
 notes_same times None track numbers here there end other cued text others same = rw others refl
 notes_same times (Some size) track numbers here there end other cued text others same = rw (others, same size refl) refl
@@ -501,7 +342,7 @@ segment_over scope.Whole (Some file) (Some a) new from to place (Some mid) count
           times = to.times;
           timed = times_end file a b from.track.numbers from.place last from.times to.times near n h.times timed ended;
           noted = sym (notes_same to.times.off opened.segment to.track.numbers opened.track.numbers to.place place to.end (bytes_before file mid) to.cued mid (ap (λ (t : TrackNumbers). t.others) (ap (λ (t : Track). t.numbers) track ∙ sym numbers)) (λ size has. at_end size (same ∙ there.end_is) has))
-              ∙ ap (λ (z : Option ℕ). notes_told to.times.off (InMatroska z to.track.numbers to.place) to.end to.cued None 0 0 mid) (h.known.1 ∙ sym segment)
+              ∙ ap (λ (z : Option ℕ). notes_told to.times.off (InMatroska z to.track.numbers to.place) to.end to.cued None 0 0 false mid) (h.known.1 ∙ sym segment)
               ∙ ap (notes_of (in_matroska to)) nothing ∙ looked;
         })
 

@@ -1,13 +1,17 @@
 -- What is noted of an AVI is told by its bytes: its chunks end in one place.
-use Rattle.std.proofs.Common.{◌≡◌, ◌⊎◌, ◌==◌, ◌++◌, ℕ, Bool, true, false, Option, Some, None, Ok, List, [], ◌∷◌, inl, inr, refl, sym, ap, ◌∙◌, subst, append_assoc}
+use Rattle.std.proofs.Common.{◌≡◌, ◌⊎◌, ◌==◌, if◌then◌else◌, ◌++◌, ℕ, Bool, true, false, Option, Some, None, Ok, List, [], ◌∷◌, inl, inr, refl, sym, ap, ◌∙◌, subst, append_assoc}
 use Rattle.ffv1_reads.specs.Head.{Head}
 use Rattle.ffv1_reads.specs.Offsets.{Leads, ReadsWhole, all_bytes}
-use Rattle.ffv1_reads.specs.Reads.{Reading}
+use Rattle.ffv1_reads.specs.Reads.{Reading, given, read_on}
 use Rattle.ffv1_reads.proofs.Results.{ok_is}
+use Rattle.ffv1_avi.specs.Behind.{IsOver}
 use Rattle.ffv1_avi.specs.Files.{riff_begun}
-use Rattle.ffv1_avi.specs.Offsets.{BeforeFrames, InRiff, Spot, Start, chunk_taken, spot_taken}
-use Rattle.ffv1_avi.specs.Places.{ended, extent_of}
-use Rattle.ffv1_avi.specs.Walk.{entry_in}
+use Rattle.ffv1_avi.specs.Names.{rule_of}
+use Rattle.ffv1_avi.specs.declared.place.Open.{Open}
+use Rattle.ffv1_avi.specs.declared.place.Open.TheVariants.{Sized, OpenRiff, OpenMovi}
+use Rattle.ffv1_avi.specs.Offsets.{BeforeFrames, InRiff, Spot, Start, beyond_taken, chunk_taken, movi_taken, open_taken, riff_next, riff_taken, spot_taken}
+use Rattle.ffv1_avi.specs.Places.{ended, extent_of, is_open}
+use Rattle.ffv1_avi.specs.Walk.{entry_in, entry_read}
 use Rattle.ffv1_avi.specs.declared.place.Extent.{Extent}
 use Rattle.ffv1_avi.specs.declared.place.Extent.TheVariants.{FirstMovi, EveryRiff}
 use Rattle.ffv1_avi.specs.declared.place.Place.{Place as AviPlace}
@@ -55,7 +59,7 @@ module _ {S : Type 0} (element : S → Reading S) (Stop : S → List ℕ → Typ
 abbrev Begun : Spot → List ℕ → Type 0
 Begun (BeforeFrames head place) text = Unit {0}
 Begun Start text = ⊥
-Begun (InRiff found left) text = ⊥
+Begun (InRiff said found left) text = ⊥
 
 abbrev Nowhere : Spot → Type 0
 Nowhere s = ⊥
@@ -66,15 +70,15 @@ begun_stops (BeforeFrames head place) next text more begun h =
     let both = ok_is (BeforeFrames head place, text) (next, more) h in
     inl (sym (ap (λ (z : Spot × List ℕ). z.0) both), sym (ap (λ (z : Spot × List ℕ). z.1) both))
 begun_stops Start next text more begun h = absurd begun
-begun_stops (InRiff found left) next text more begun h = absurd begun
+begun_stops (InRiff said found left) next text more begun h = absurd begun
 
 -- and they end in one
 pub record Over (s : AviPlace) (text : List ℕ) : Type 0 where
   pub movi : s.movi ≡ 0
-  pub riff : s.riff ≡ 0
+  pub riff : s.open_in ≡ Sized → s.riff ≡ 0
   pub every : extent_of s ≡ EveryRiff
   pub rest : List ℕ
-  pub over : riff_begun s text ≡ Ok (None, rest)
+  pub over : IsOver s.open_in s text rest
 
 abbrev Ended : AviPlace → Type 0
 Ended s = s ≡ ended
@@ -90,10 +94,19 @@ has_input s every = on (s.input == 0) refl
     on false is = refl
 
 over_stops : (s next : AviPlace) (text more : List ℕ) → Over s text → chunk_taken s text ≡ Ok (next, more) → ((next ≡ s) × (more ≡ text)) ⊎ Ended next
-unfolding chunk_taken entry_in riff_begun
+unfolding chunk_taken entry_in
 over_stops s next text more h read =
-    let there : chunk_taken s text ≡ Ok (ended, h.rest) = rw (h.movi, h.riff, has_input s h.every, h.over) refl in
+    let first : entry_in (rule_of s.names) s.movi text ≡ Ok (None, text) = ap (λ n. entry_in (rule_of s.names) n text) h.movi in
+    let there : chunk_taken s text ≡ Ok (ended, h.rest) =
+    ap (λ z. read_on z (movi_taken s)) first
+    ∙ ap (λ b. (if b then given s else beyond_taken s.open_in s) text) (has_input s h.every)
+    ∙ beyond s.open_in h.riff h.over in
     inr (sym (ap (λ (z : AviPlace × List ℕ). z.0) (ok_is (ended, h.rest) (next, more) (sym there ∙ read))))
+  where
+    beyond : (o : Open) → (o ≡ Sized → s.riff ≡ 0) → IsOver o s text h.rest → beyond_taken o s text ≡ Ok (ended, h.rest)
+    beyond Sized riff over = ap (λ n. read_on (entry_read n text) (riff_taken s)) (riff refl) ∙ ap (λ z. read_on z riff_next) over
+    beyond OpenRiff riff over = ap (λ z. read_on z open_taken) over
+    beyond OpenMovi riff over = ap (λ z. read_on z open_taken) over
 
 ended_stays : (s next : AviPlace) (text more : List ℕ) → Ended s → chunk_taken s text ≡ Ok (next, more) → Ended next
 unfolding chunk_taken entry_in riff_begun
@@ -116,7 +129,7 @@ riffs_once file rest left notes others h k = on_between h.chunks.between k.chunk
     same_place : AviPlace → Spot → AviPlace
     same_place other (BeforeFrames head place) = place
     same_place other Start = other
-    same_place other (InRiff found n) = other
+    same_place other (InRiff said found n) = other
 
     on_between : (a b : Option (List ℕ)) → ReadsWhole (spot_taken EveryRiff) Start (Some file) a (BeforeFrames h.head h.chunks.first) h.chunks.before → ReadsWhole chunk_taken h.chunks.first a (Some h.behind) h.to h.chunks.after →
         ReadsWhole (spot_taken EveryRiff) Start (Some file) b (BeforeFrames k.head k.chunks.first) k.chunks.before → ReadsWhole chunk_taken k.chunks.first b (Some k.behind) k.to k.chunks.after → (notes ≡ others) × (rest ≡ left)
@@ -127,14 +140,14 @@ riffs_once file rest left notes others h k = on_between h.chunks.between k.chunk
         let place : h.chunks.first ≡ k.chunks.first = ap (same_place h.chunks.first) begins.0 in
         let moved : ReadsWhole chunk_taken h.chunks.first (Some a) (Some k.behind) k.to k.chunks.after = rw (place, begins.1) second in
         let end = reads_once chunk_taken Over Ended over_stops ended_stays ended_never a h.behind k.behind first there moved here in
-        let over : riff_begun h.to h.behind ≡ riff_begun k.to k.behind = rw (end.0, end.1) refl in
         let gives = ok_is ((h.head, h.frames), rest) ((k.head, k.frames), left) (sym h.gives ∙ k.gives) in
         let others : h.others ≡ k.others = ap (λ (z : ℕ × List ℕ). z.0) (ok_is (h.others, h.begun) (k.others, k.begun) (sym h.counts ∙ k.counts)) in
         let frames : h.frames ≡ k.frames = ap (λ (z : (Head × List (List ℕ)) × List ℕ). z.0.1) gives in (
           h.notes_are
-              ∙ ap (λ (n : ℕ). record { is_open = false; others = n; times = None; repeated = repeated_in h.frames; after = stands_after file h.behind }) others
-              ∙ ap (λ (z : List (List ℕ)). record { is_open = false; others = k.others; times = None; repeated = repeated_in z; after = stands_after file h.behind }) frames
-              ∙ ap (λ (z : List ℕ). record { is_open = false; others = k.others; times = None; repeated = repeated_in k.frames; after = stands_after file z }) end.1
+              ∙ ap (λ (n : ℕ). record { is_open = is_open h.to.open_in; others = n; times = None; repeated = repeated_in h.frames; after = stands_after file h.behind }) others
+              ∙ ap (λ (z : List (List ℕ)). record { is_open = is_open h.to.open_in; others = k.others; times = None; repeated = repeated_in z; after = stands_after file h.behind }) frames
+              ∙ ap (λ (z : List ℕ). record { is_open = is_open h.to.open_in; others = k.others; times = None; repeated = repeated_in k.frames; after = stands_after file z }) end.1
+              ∙ ap (λ (p : AviPlace). record { is_open = is_open p.open_in; others = k.others; times = None; repeated = repeated_in k.frames; after = stands_after file k.behind }) end.0
               ∙ sym k.notes_are,
-          ap (λ (z : Option AviPlace × List ℕ). z.1) (ok_is (None, rest) (None, left) (sym h.over ∙ over ∙ k.over)),
+          ap (λ (z : (Head × List (List ℕ)) × List ℕ). z.1) gives,
         )

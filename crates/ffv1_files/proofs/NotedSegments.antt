@@ -43,6 +43,6 @@ segments_once file rest left notes others h k =
     let to : h.to ≡ k.to = ap (λ (z : Place × Bool). z.0) end.0 in
     let cued : h.cued ≡ k.cued = ap (λ (z : Place × Bool). z.1) end.0 in
     let times : h.times ≡ k.times = times_once file h.times k.times h.timed k.timed in
-    let same : notes_told h.times.off (InMatroska h.opened.segment h.opened.track.numbers h.to) (bytes_before file h.behind) h.cued None 0 0 h.behind ≡ notes_told k.times.off (InMatroska k.opened.segment k.opened.track.numbers k.to) (bytes_before file k.behind) k.cued None 0 0 k.behind = rw (opened, to, cued, times, end.1) refl in
+    let same : notes_told h.times.off (InMatroska h.opened.segment h.opened.track.numbers h.to) (bytes_before file h.behind) h.cued None 0 0 false h.behind ≡ notes_told k.times.off (InMatroska k.opened.segment k.opened.track.numbers k.to) (bytes_before file k.behind) k.cued None 0 0 false k.behind = rw (opened, to, cued, times, end.1) refl in
     let both = ok_is (notes, rest) (others, left) (sym h.noted ∙ same ∙ k.noted) in
     (ap (λ (z : Notes × List ℕ). z.0) both, ap (λ (z : Notes × List ℕ). z.1) both)

@@ -10,7 +10,10 @@ use Rattle.ffv1_avi.specs.Riffs.{RiffFile}
 use Rattle.ffv1_avi.specs.Written.{file_of}
 use Rattle.ffv1_avi.specs.Offsets.{BeforeFrames, Start, chunk_taken, spot_taken}
 use Rattle.ffv1_avi.specs.declared.place.Extent.TheVariants.{EveryRiff}
+use Rattle.ffv1_avi.specs.declared.place.Open.{Open}
+use Rattle.ffv1_avi.specs.declared.place.Open.TheVariants.{Sized}
 use Rattle.ffv1_avi.specs.declared.place.Place.{Place as AviPlace}
+use Rattle.ffv1_avi.specs.Places.{is_open}
 use Rattle.ffv1_reads.specs.Offsets.{ReadsWhole}
 use Rattle.ffv1_matroska.specs.Late.{again_read}
 use Rattle.ffv1_matroska.specs.Opened.{ebml_read, open_read}
@@ -40,7 +43,7 @@ no_segment file head frames is rest notes ends =
 -- what is known of each file that was written
 pub record WrittenLaws : Type 0 where
   pub nothing : (head : Head) (frames : List (List ℕ)) → IsWritable EveryRiff head frames → (other : Head) (first to : AviPlace) (between : Option (List ℕ)) (behind : List ℕ) (before after : ℕ) →
-      ReadsWhole (spot_taken EveryRiff) Start (Some (file_of head frames)) between (BeforeFrames other first) before → ReadsWhole chunk_taken first between (Some behind) to after → to.movi ≡ 0 → behind ≡ []
+      ReadsWhole (spot_taken EveryRiff) Start (Some (file_of head frames)) between (BeforeFrames other first) before → ReadsWhole chunk_taken first between (Some behind) to after → to.movi ≡ 0 → (behind ≡ []) × (to.open_in ≡ Sized)
   pub riff : (head : Head) (frames : List (List ℕ)) → IsWritable EveryRiff head frames → RiffFile (file_of head frames) (without_colour head) frames
 
 pub none_after : WrittenLaws → (extent : Scope) (head : Head) (frames : List (List ℕ)) (rest : List ℕ) (notes : Notes) → IsWritable (extent_in extent) head frames → IsNotedOf extent (file_of head frames) rest notes → notes.after ≡ None
@@ -48,5 +51,14 @@ none_after laws scope.FirstMovi head frames rest notes is noted = ap (λ (z : No
 none_after laws scope.Whole head frames rest notes is (inl ends) =
     let chunks = ends.chunks in
     let none = laws.nothing head frames is ends.head chunks.first ends.to chunks.between ends.behind chunks.before chunks.after chunks.opened chunks.framed ends.movi in
-    ap (λ (z : Notes). z.after) ends.notes_are ∙ ap (stands_after (file_of head frames)) none
+    ap (λ (z : Notes). z.after) ends.notes_are ∙ ap (stands_after (file_of head frames)) none.0
 none_after laws scope.Whole head frames rest notes is (inr ends) = absurd (no_segment (file_of head frames) (without_colour head) frames (laws.riff head frames is) rest notes ends)
+
+-- nor that it was left open
+pub never_open : WrittenLaws → (extent : Scope) (head : Head) (frames : List (List ℕ)) (rest : List ℕ) (notes : Notes) → IsWritable (extent_in extent) head frames → IsNotedOf extent (file_of head frames) rest notes → notes.is_open ≡ false
+never_open laws scope.FirstMovi head frames rest notes is noted = ap (λ (z : Notes). z.is_open) noted
+never_open laws scope.Whole head frames rest notes is (inl ends) =
+    let chunks = ends.chunks in
+    let none = laws.nothing head frames is ends.head chunks.first ends.to chunks.between ends.behind chunks.before chunks.after chunks.opened chunks.framed ends.movi in
+    ap (λ (z : Notes). z.is_open) ends.notes_are ∙ ap (λ (o : Open). is_open o) none.1
+never_open laws scope.Whole head frames rest notes is (inr ends) = absurd (no_segment (file_of head frames) (without_colour head) frames (laws.riff head frames is) rest notes ends)

@@ -14,6 +14,8 @@ use Rattle.ffv1_matroska.specs.Readers.{is_open, segment_behind}
 use Rattle.ffv1_files.specs.Answers.{Endings}
 use Rattle.ffv1_files.specs.Places.{InAvi, InMatroska, Place}
 use Rattle.ffv1_files.specs.Readers.{Standing}
+use Rattle.ffv1_files.specs.declared.course.Course.{Course}
+use Rattle.ffv1_files.specs.declared.course.Course.TheVariants as course
 use Rattle.ffv1_files.specs.declared.notes.Notes.{Notes}
 
 -- a Segment whose frame of this number comes too early or too late, or none does, with so many
@@ -30,32 +32,65 @@ noted times others segment cued end some =
     }
 
 -- what stands after the end, as notes, with what is noted of times of a Segment; after an AVI it
--- was looked at before, and so many of its frames had no bytes, and so many further streams begin
--- as FFV1 video
-unfoldable pub notes_told : Option ℕ → Place → ℕ → Bool → Option ℕ → ℕ → ℕ → Reading Notes
-notes_told times (InAvi place) end cued after repeated others =
+-- was looked at before, and so many of its frames had no bytes, so many further streams begin as
+-- FFV1 video, and an RIFF or a movi there has no size or each has one
+unfoldable pub notes_told : Option ℕ → Place → ℕ → Bool → Option ℕ → ℕ → ℕ → Bool → Reading Notes
+notes_told times (InAvi place) end cued after repeated others open_ended =
     given (record {
-      is_open = false;
+      is_open = open_ended;
       others = others;
       times = None;
       repeated = repeated;
       after = after;
     })
-notes_told times (InMatroska segment track place) end cued after repeated others =
+notes_told times (InMatroska segment track place) end cued after repeated others open_ended =
     segment_behind segment >>= λ some. given (noted times track.others segment cued end some)
 
 -- the same, if nothing is noted of times
-unfoldable pub notes_read : Place → ℕ → Bool → Option ℕ → ℕ → ℕ → Reading Notes
-notes_read place end cued after repeated others =
-    notes_told None place end cued after repeated others
+unfoldable pub notes_read : Place → ℕ → Bool → Option ℕ → ℕ → ℕ → Bool → Reading Notes
+notes_read place end cued after repeated others open_ended =
+    notes_told None place end cued after repeated others open_ended
 
 abbrev pub notes_of : Standing → Reading Notes
-notes_of r = notes_told r.times.off r.place r.end r.cued r.after r.repeated r.others
+notes_of r =
+    notes_told r.times.off r.place r.end r.cued r.after r.repeated r.others r.open_ended
 
 -- the same where Cues came after the last Cluster, or did not, as the items of the file say; then
--- times are not looked at
-abbrev pub items_noted : Standing → Bool → Reading Notes
-items_noted r cued = notes_read r.place r.end cued r.after r.repeated r.others
+-- times are not looked at. Of an AVI of which every RIFF is read the course says where other bytes
+-- stand, how many of its frames had no bytes, and whether an RIFF or a movi has no size
+abbrev pub items_noted : Standing → Course → Bool → Reading Notes
+items_noted r (course.Avi c repeated) cued =
+    notes_read r.place r.end cued c.after repeated r.others c.open_ended
+items_noted r course.Plain cued =
+    notes_read r.place r.end cued r.after r.repeated r.others r.open_ended
+items_noted r (course.Matroska c) cued =
+    notes_read r.place r.end cued r.after r.repeated r.others r.open_ended
+
+-- what is noted of an AVI: by its reader whether such a size ends it, how many further streams
+-- begin as FFV1 video, how many of its frames had no bytes, and where other bytes stand; but what a
+-- course says of that, if every RIFF is read by it
+abbrev pub avi_noted : Bool → ℕ → ℕ → Option ℕ → Course → Notes
+avi_noted open_ended others repeated after (course.Avi c count) = record {
+  is_open = c.open_ended;
+  others = others;
+  times = None;
+  repeated = count;
+  after = c.after;
+}
+avi_noted open_ended others repeated after course.Plain = record {
+  is_open = open_ended;
+  others = others;
+  times = None;
+  repeated = repeated;
+  after = after;
+}
+avi_noted open_ended others repeated after (course.Matroska c) = record {
+  is_open = open_ended;
+  others = others;
+  times = None;
+  repeated = repeated;
+  after = after;
+}
 
 -- the end of the input may be any answer
 abbrev pub any_value : {X : Type 0} → Endings X
@@ -102,6 +137,17 @@ behind_after (InMatroska size track from) before was p result after = after ≡ 
 
 abbrev pub BehindAfter : Standing → Passage → Result Bool FileFault → Standing → Type 0
 BehindAfter old p result new = behind_after old.place old.offset old.after p result new.after
+
+-- whether an RIFF or a movi without size ends an AVI, after a call for a frame
+abbrev pub open_after : Place → ℕ → Bool → Passage → Result Bool FileFault → Option ℕ → Bool →
+    Type 0
+open_after (InAvi from) before was p result after open_ended =
+    avi.OpenAfter from before was p result after open_ended
+open_after (InMatroska size track from) before was p result after open_ended = open_ended ≡ was
+
+abbrev pub OpenAfter : Standing → Passage → Result Bool FileFault → Standing → Type 0
+OpenAfter old p result new =
+    open_after old.place old.offset old.open_ended p result new.after new.open_ended
 
 -- how many frames of an AVI had no bytes, after a call for one; no frame of a Segment has none
 abbrev pub repeated_after : Place → Result Bool FileFault → List ℕ → ℕ → ℕ

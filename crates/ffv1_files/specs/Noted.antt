@@ -8,8 +8,10 @@ use Rattle.ffv1_reads.specs.Head.{Head}
 use Rattle.ffv1_reads.specs.Known.{Known}
 use Rattle.ffv1_reads.specs.Offsets.{ReadsWhole, offset_after}
 use Rattle.ffv1_reads.specs.declared.fault.FileFault.{FileFault}
-use Rattle.ffv1_avi.specs.Files.{frames_read, others_read, riff_begun}
-use Rattle.ffv1_avi.specs.Places.{extent_of}
+use Rattle.ffv1_avi.specs.Behind.{IsOver}
+use Rattle.ffv1_avi.specs.Files.{frames_read, others_read}
+use Rattle.ffv1_avi.specs.Places.{extent_of, is_open}
+use Rattle.ffv1_avi.specs.declared.place.Open.TheVariants.{Sized}
 use Rattle.ffv1_avi.specs.declared.place.Extent.TheVariants.{FirstMovi, EveryRiff}
 use Rattle.ffv1_avi.specs.declared.place.Place.{Place as AviPlace}
 use Rattle.ffv1_matroska.specs.Cues.{cued_taken}
@@ -55,8 +57,9 @@ abbrev pub repeated_in : List (List ℕ) → ℕ
 repeated_in frames = min (repeats frames) (2 ^ 64 - 1)
 
 -- an AVI: its chunks are read whole up to the end of an RIFF, after which no further one begins,
--- nor another file, and no frame is owed. What stands there is noted, and is no chunk; and it is
--- noted how many of its frames have no bytes, and how many further streams begin as FFV1 video
+-- nor another file, and no frame is owed; in an RIFF or a movi without size, to the end of the
+-- input. What stands there is noted, and is no chunk; and it is noted whether such a size ended it,
+-- how many of its frames have no bytes, and how many further streams begin as FFV1 video
 pub record RiffsEnd (file rest : List ℕ) (notes : Notes) : Type 0 where
   pub head : Head
   pub to : AviPlace
@@ -64,16 +67,16 @@ pub record RiffsEnd (file rest : List ℕ) (notes : Notes) : Type 0 where
   pub behind : List ℕ
   pub chunks : AviReached EveryRiff (Some file) (Some behind) head to offset
   pub movi : to.movi ≡ 0
-  pub riff : to.riff ≡ 0
+  pub riff : to.open_in ≡ Sized → to.riff ≡ 0
   pub every : extent_of to ≡ EveryRiff
-  pub over : riff_begun to behind ≡ Ok (None, rest)
+  pub over : IsOver to.open_in to behind rest
   pub frames : List (List ℕ)
   pub gives : file_read scope.Whole file ≡ Ok ((head, frames), rest)
   pub others : ℕ
   pub begun : List ℕ
   pub counts : others_read EveryRiff file ≡ Ok (others, begun)
   pub notes_are : notes ≡ record {
-    is_open = false;
+    is_open = is_open to.open_in;
     others = others;
     times = None;
     repeated = repeated_in frames;
@@ -122,7 +125,7 @@ pub record SegmentEnds (file rest : List ℕ) (notes : Notes) : Type 0 where
   pub times : Times
   pub timed : TimesEnd file times
   pub noted : notes_told times.off (InMatroska opened.segment opened.track.numbers to)
-      (bytes_before file behind) cued None 0 0 behind ≡ Ok (notes, rest)
+      (bytes_before file behind) cued None 0 0 false behind ≡ Ok (notes, rest)
 
 -- what is noted of a file, and what is left after the bytes that were looked at for that. Up to
 -- its first movi alone nothing is looked at, and nothing is noted
@@ -138,12 +141,14 @@ pub record SegmentReached (file left : List ℕ) (opened : Opened) (place : Matr
   pub end_is : end ≡ offset_after (bytes_before file read.begun) (amount opened.place)
 
 -- what a reader knows of that where it stands, with this left of the file
-abbrev pub notes_reached : Scope → Place → ℕ → Bool → Option ℕ → List ℕ → List ℕ → Type 0
-notes_reached scope.FirstMovi (InAvi place) end cued after file left =
-    (extent_of place ≡ FirstMovi) × (after ≡ None)
-notes_reached scope.FirstMovi (InMatroska segment track place) end cued after file left = ⊥
-notes_reached scope.Whole (InAvi place) end cued after file left = extent_of place ≡ EveryRiff
-notes_reached scope.Whole (InMatroska segment track place) end cued after file left =
+abbrev pub notes_reached : Scope → Place → ℕ → Bool → Option ℕ → Bool → List ℕ → List ℕ → Type 0
+notes_reached scope.FirstMovi (InAvi place) end cued after open_ended file left =
+    (extent_of place ≡ FirstMovi) × (after ≡ None) × (open_ended ≡ false)
+notes_reached scope.FirstMovi (InMatroska segment track place) end cued after open_ended file left =
+    ⊥
+notes_reached scope.Whole (InAvi place) end cued after open_ended file left =
+    extent_of place ≡ EveryRiff
+notes_reached scope.Whole (InMatroska segment track place) end cued after open_ended file left =
     (opened : Opened) × (opened.segment ≡ segment) × (opened.track.numbers ≡ track)
     × SegmentReached file left opened place cued end
 
@@ -192,7 +197,7 @@ times_reached scope.Whole (InMatroska segment track place) times file left =
 
 -- if the bytes of the file are known
 pub record NotesReached (scope : Scope) (text left : Option (List ℕ)) (r : Standing) : Type 0 where
-  pub known : Known text left (notes_reached scope r.place r.end r.cued r.after)
+  pub known : Known text left (notes_reached scope r.place r.end r.cued r.after r.open_ended)
   pub frames : Known text left (frames_reached scope r.head r.place r.repeated)
   pub streams : StreamsReached scope text left r
   pub times : Known text left (times_reached scope r.place r.times)

@@ -17,8 +17,9 @@ use Rattle.ffv1_files.specs.Places.{InAvi, InMatroska, Place}
 -- the head of its file, where it stands in that, how many bytes come before, the fault that it has
 -- met, for how many bytes its record has room; of a Segment how many bytes come before its end, and
 -- whether Cues came after the last Cluster so far; of an AVI, after its end, how many bytes come
--- before others that stand after its last RIFF, how many frames so far had no bytes, and how many
--- further streams begin as FFV1 video; and of a Segment what is known of when frames come
+-- before others that stand after its last RIFF, how many frames so far had no bytes, how many
+-- further streams begin as FFV1 video, and, after its end, whether an RIFF or a movi there has no
+-- size; and of a Segment what is known of when frames come
 pub record Standing : Type 0 where
   pub head : Head
   pub place : Place
@@ -31,6 +32,7 @@ pub record Standing : Type 0 where
   pub repeated : ℕ
   pub others : ℕ
   pub times : Times
+  pub open_ended : Bool
 
 abbrev pub opened_at : Standing → Head × Place
 opened_at r = (r.head, r.place)
@@ -81,6 +83,7 @@ standing_of (inner.Avi r) = record {
   repeated = r.repeated;
   others = r.others;
   times = times_begun 0;
+  open_ended = r.open_ended;
 }
 standing_of (inner.Matroska r) = record {
   head = r.track.head;
@@ -94,4 +97,5 @@ standing_of (inner.Matroska r) = record {
   repeated = 0;
   others = 0;
   times = r.times;
+  open_ended = false;
 }

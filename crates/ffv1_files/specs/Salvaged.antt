@@ -6,7 +6,7 @@ use Rattle.ffv1_reads.specs.Head.{Head}
 use Rattle.ffv1_reads.specs.Known.{Known}
 use Rattle.ffv1_reads.specs.Offsets.{offset_after}
 use Rattle.ffv1_reads.specs.declared.fault.FileFault.TheVariants as fault
-use Rattle.ffv1_matroska.specs.Items.{Given, Tells}
+use Rattle.ffv1_reads.specs.Items.{Given, Tells}
 use Rattle.ffv1_matroska.specs.Salvaged.{NeverBegins, Salvaged, data_at, salvage_read}
 use Rattle.ffv1_matroska.specs.declared.told.ToldFault.{ToldFault}
 use Rattle.ffv1_files.specs.Answers.{Endings}

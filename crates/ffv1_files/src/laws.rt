@@ -1,10 +1,10 @@
 //! Laws of files: what is read is a file, by its chunks or its elements, such a file is read, and
 //! so is an AVI that was written.
 
-ghost use Rattle.std.specs.Prelude.{◌≡◌, ◌<◌, ℕ, Bool, false, not, List, [], length, Option, Some};
-ghost use Rattle.std.specs.Prelude.{None, Ok};
+ghost use Rattle.std.specs.Prelude.{◌≡◌, ◌<◌, ℕ, Bool, true, false, not, List, [], length};
+ghost use Rattle.std.specs.Prelude.{Option, Some, None, Ok};
 ghost use Rattle.ffv1_avi.specs.Chunks.{AviFile, IsWritable};
-ghost use Rattle.ffv1_avi.specs.Places.{extent_of};
+ghost use Rattle.ffv1_avi.specs.Places.{extent_of, is_open};
 ghost use Rattle.ffv1_avi.specs.declared.place.Extent.TheVariants.{EveryRiff};
 ghost use Rattle.ffv1_avi.specs.declared.place.Place.{Place as AviPlace};
 ghost use Rattle.ffv1_matroska.specs.declared.place.Place.{Place as MatroskaPlace};
@@ -61,6 +61,7 @@ pub fn file_is_read_as_its_frames()
         IsWhole file head frames rest → file_read scope.Whole file ≡ Ok ((head, frames), rest) }
 {
     avi_laws::file_is_read_as_its_frames();
+    avi_laws::file_without_sizes_is_read();
     again_laws::file_is_read_wherever_its_tracks_stand();
 }
 
@@ -78,7 +79,8 @@ pub fn no_bytes_noted_are_none()
         }) (Ok false) None → new ≡ Some [] }
     ensures matroska { (size end : ℕ) (track : TrackNumbers) (place : MatroskaPlace) (cued : Bool)
         (text rest : List ℕ) (notes : Notes) →
-        notes_read (InMatroska (Some size) track place) end cued None 0 0 text ≡ Ok (notes, rest) →
+        notes_read (InMatroska (Some size) track place) end cued None 0 0 false text ≡
+        Ok (notes, rest) →
         notes.after ≡ None → text ≡ [] }
 {
     avi_laws::no_bytes_told_are_none();
@@ -88,14 +90,22 @@ pub fn no_bytes_noted_are_none()
 /// What is noted of a whole file says no more than its end does, and how many of its frames repeat
 /// the one before them, how many further tracks of a Segment or streams of an AVI are FFV1 video,
 /// and which frame of a Segment comes too early or too late. Of an AVI after which no bytes stand
-/// it is the first two numbers alone, and of a Segment of known size after which none stand the
+/// it is the first two numbers, and whether an RIFF or a movi without size ended it, after which
+/// none stand; and of a Segment of known size after which none stand the
 /// last two. Of a Segment of unknown size it is also whether Cues came after its last
 /// Cluster, and never bytes after it. If bytes stand after an AVI, it is noted how many come before
 /// them. No frame of a Segment repeats another.
 pub fn notes_say_what_the_end_leaves()
     ensures avi { (file rest : List ℕ) (notes : Notes) (is : RiffsEnd file rest notes) →
         is.behind ≡ [] →
-        notes ≡ record no_notes { others = is.others; repeated = repeated_in is.frames } }
+        notes ≡ record no_notes {
+          is_open = is_open is.to.open_in;
+          others = is.others;
+          repeated = repeated_in is.frames;
+        } }
+    ensures open_ended { (file rest : List ℕ) (notes : Notes) (is : RiffsEnd file rest notes) →
+        is_open is.to.open_in ≡ true → (notes.is_open ≡ true) × (notes.after ≡ None)
+        × (is.behind ≡ []) × (rest ≡ []) }
     ensures repeated { (file rest : List ℕ) (notes : Notes) (is : RiffsEnd file rest notes) →
         notes.repeated ≡ repeated_in is.frames }
     ensures none { (file rest : List ℕ) (notes : Notes) → SegmentEnds file rest notes →
@@ -126,6 +136,7 @@ pub fn notes_say_what_the_end_leaves()
         × (rest ≡ is.behind) }
 {
     read_laws::what_stands_behind_is_known();
+    avi_laws::no_bytes_told_are_none();
 }
 
 /// What is noted of a file is told by its bytes, and so is what is left after those that were
@@ -152,6 +163,16 @@ pub fn nothing_is_noted_after_a_written_avi()
     ensures { (scope : Scope) (head : Head) (frames : List (List ℕ)) (rest : List ℕ)
         (notes : Notes) → IsWritable (extent_in scope) head frames →
         IsNotedOf scope (file_of head frames) rest notes → notes.after ≡ None }
+{
+    avi_laws::nothing_stands_after_a_written_file();
+    avi_laws::written_file_is_read_back();
+}
+
+/// No RIFF or movi without size ends an AVI that was written.
+pub fn written_avi_is_not_left_open()
+    ensures { (scope : Scope) (head : Head) (frames : List (List ℕ)) (rest : List ℕ)
+        (notes : Notes) → IsWritable (extent_in scope) head frames →
+        IsNotedOf scope (file_of head frames) rest notes → notes.is_open ≡ false }
 {
     avi_laws::nothing_stands_after_a_written_file();
     avi_laws::written_file_is_read_back();

@@ -6,7 +6,8 @@
 //! `FileReader::next_frame` gives the next frame, until it answers false. A reader holds no input,
 //! each call is lent the same one. Then `FileReader::look_behind` says what stands after its end,
 //! and what that leaves in doubt. `laws` says that what is read is a file by its chunks or its
-//! elements, and that such a file is read.
+//! elements, and that such a file is read. A file that may be damaged gives its frames and its
+//! faults by `FileReader::course` and `FileReader::next_item`.
 //!
 //! ```text
 //! let mut reader = FileReader::open(rt.alloc(), Scope::Whole, &mut input)?;
@@ -17,6 +18,8 @@
 #![tactic(auto)]
 
 mod container;
+mod course;
+mod items;
 pub mod laws;
 mod notes;
 mod opening;
@@ -24,6 +27,8 @@ mod reader;
 mod salvaging;
 
 pub use container::{Container, Scope};
-pub use ffv1_matroska::{Course, Item, ToldFault, ToldFaults};
+pub use course::Course;
+pub use ffv1_matroska::{ToldFault, ToldFaults};
+pub use ffv1_reads::Item;
 pub use notes::Notes;
 pub use reader::FileReader;

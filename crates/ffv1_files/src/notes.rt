@@ -4,7 +4,8 @@
 #[derive(Clone, Copy, Debug, PartialEq, Eq)]
 pub struct Notes {
     /// Nothing says that the file is whole: its Segment is of unknown size, and no Cues stand
-    /// after its last Cluster.
+    /// after its last Cluster; or an RIFF or a `movi` of an AVI has no size, and it was read to the
+    /// end of the input.
     pub is_open: bool,
     /// How many further tracks of a Segment are FFV1 video, or further streams of an AVI begin as
     /// it; they are not read. A count of 64 bits stays at its greatest value.

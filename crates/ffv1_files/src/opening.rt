@@ -50,6 +50,7 @@ fn open_once<R: ByteIn, A: Allocator + Copy>(
     ensures uncued { IfOk result (λ r. r.cued ≡ false) }
     ensures untold { IfOk result (λ r. r.after ≡ None) }
     ensures uncounted { IfOk result (λ r. r.repeated ≡ 0) }
+    ensures shut { IfOk result (λ r. r.open_ended ≡ false) }
     ensures streams { IfOk result
         (StreamsReached Whole (R.remaining input.old) (R.remaining input.new)) }
     ensures times { IfOk result (TimesBegin (R.remaining input.old) (R.remaining input.new)) }
@@ -107,6 +108,7 @@ pub(crate) fn open_whole<R: AgainIn, A: Allocator + Copy>(
     ensures uncued { IfOk result (λ r. r.cued ≡ false) }
     ensures untold { IfOk result (λ r. r.after ≡ None) }
     ensures uncounted { IfOk result (λ r. r.repeated ≡ 0) }
+    ensures shut { IfOk result (λ r. r.open_ended ≡ false) }
     ensures streams { IfOk result
         (StreamsReached Whole (R.remaining input.old) (R.remaining input.new)) }
     ensures times { IfOk result (TimesBegin (R.remaining input.old) (R.remaining input.new)) }

@@ -14,14 +14,17 @@ ghost use Rattle.ffv1_files.specs.declared.container.Scope.TheVariants.{FirstMov
 ghost use Rattle.ffv1_files.specs.Again.{OpensAs, RoomWithin};
 ghost use Rattle.ffv1_files.specs.Answers.{FileAnswers};
 ghost use Rattle.std.specs.Prelude.{if◌then◌else◌};
-ghost use Rattle.ffv1_files.specs.Behind.{BehindAfter, CuedAfter, EndStays, EndsThere, any_value};
+ghost use Rattle.ffv1_files.specs.Behind.{BehindAfter, CuedAfter, EndStays, EndsThere, OpenAfter};
+ghost use Rattle.ffv1_files.specs.Behind.{any_value, avi_noted};
 ghost use Rattle.ffv1_files.specs.Behind.{is_behind_fault, items_noted, notes_of, notes_told};
 ghost use Rattle.ffv1_files.specs.Behind.{repeated_after};
 ghost use Rattle.ffv1_files.specs.Noted.{NotedOf, NotesEnd, NotesNext, NotesReached};
-ghost use Rattle.ffv1_files.specs.Noted.{StreamsReached};
 ghost use Rattle.ffv1_files.specs.declared.notes.Notes.{Notes};
 ghost use Rattle.ffv1_files.specs.Files.{frame_read};
-ghost use Rattle.ffv1_files.specs.Items.{ItemAnswers, avi_answer, course_of, cued_item, item_read};
+ghost use Rattle.ffv1_files.specs.Items.{ItemAnswers, course_ended, course_of, cued_item};
+ghost use Rattle.ffv1_files.specs.declared.course.Course.TheVariants.{Plain};
+ghost use Rattle.ffv1_reads.specs.Items.{SaidBy};
+ghost use Rattle.ffv1_reads.specs.declared.item.Item.TheVariants as item;
 ghost use Rattle.ffv1_matroska.specs.CuedItems.{CuedBy};
 ghost use Rattle.ffv1_files.specs.Offsets.{LocatedNext, Reached, StopsAt};
 ghost use Rattle.ffv1_files.specs.Endings.{endings_from};
@@ -31,11 +34,13 @@ ghost use Rattle.ffv1_files.specs.Readers.{StandsAfter, is_frame_fault, is_openi
 ghost use Rattle.ffv1_files.specs.Readers.{Leaves, others_at};
 
 use crate::container::{Container, Scope};
+use crate::course::Course;
+use crate::items::{avi_course, read_chunk_item, read_element_item};
 use crate::notes::Notes;
 use crate::opening::open_whole;
 use ffv1_avi::{AviReader, Extent};
-use ffv1_matroska::{Course, Item, MatroskaReader};
-use ffv1_reads::{FileFault, FileHead};
+use ffv1_matroska::MatroskaReader;
+use ffv1_reads::{FileFault, FileHead, Item};
 use ffv1_wire::{AgainIn, ByteIn};
 use std::alloc::{Allocator, Global};
 use std::marker::Model;
@@ -89,6 +94,7 @@ impl<A: Allocator + Copy> FileReader<A> {
             r.room) }
         ensures untold { IfOk result (λ r. r.after ≡ None) }
         ensures uncounted { IfOk result (λ r. r.repeated ≡ 0) }
+        ensures shut { IfOk result (λ r. r.open_ended ≡ false) }
     {
         let mut offset = 0;
         FileReader::open_located(alloc, scope, input, &mut offset)
@@ -122,6 +128,7 @@ impl<A: Allocator + Copy> FileReader<A> {
         ensures uncued { IfOk result (λ r. r.cued ≡ false) }
         ensures untold { IfOk result (λ r. r.after ≡ None) }
         ensures uncounted { IfOk result (λ r. r.repeated ≡ 0) }
+        ensures shut { IfOk result (λ r. r.open_ended ≡ false) }
         ensures noted { IfOk result (NotesReached scope (R.remaining input.old)
             (R.remaining input.new)) }
     {
@@ -247,6 +254,8 @@ impl<A: Allocator> FileReader<A> {
             (passage R.remaining R.failures input.old input.new) result self.new }
         ensures behind { self.old.fault ≡ None → BehindAfter self.old
             (passage R.remaining R.failures input.old input.new) result self.new }
+        ensures open_ended { self.old.fault ≡ None → OpenAfter self.old
+            (passage R.remaining R.failures input.old input.new) result self.new }
         ensures repeats { self.new.repeated
             ≡ repeated_after self.old.place result frame.new.items self.old.repeated }
         ensures noted { self.old.fault ≡ None → (scope : Scope) (text : Option (List ℕ)) →
@@ -293,16 +302,17 @@ impl<A: Allocator> FileReader<A> {
         ensures { result ≡ course_of self.now }
     {
         match &self.inner {
-            Inner::Avi(_) => Course::ended(),
-            Inner::Matroska(reader) => reader.course(),
+            Inner::Avi(reader) => avi_course(reader),
+            Inner::Matroska(reader) => Course::Matroska(reader.course()),
         }
     }
 
     /// Reads the next frame of a file that may be damaged, or tells a fault that is passed, or
-    /// answers that nothing more comes: of Matroska as `MatroskaReader::next_item` does, by a
-    /// course that begins as `course` says, and the reader stays where it is; an AVI gives what
-    /// `next_frame` gives, and its first fault is answered. The input has to be the one that the
-    /// reader was opened on, and the reader not to have met a fault.
+    /// answers that nothing more comes, as `next_item` of `ffv1_avi::Course` and of
+    /// `MatroskaReader` do, by a course that begins as `course` says: the reader stays where it is.
+    /// But an AVI of which the first `movi` alone is read gives what `next_frame` gives, and its
+    /// first fault is answered. The input has to be the one that the reader was opened on, and the
+    /// reader not to have met a fault. By a course of another container nothing comes.
     ///
     /// `cued` is lent to each call, and is false before the first one. It is then whether Cues came
     /// after the last Cluster of a Segment, by the elements that were read so far; an AVI leaves it
@@ -314,29 +324,35 @@ impl<A: Allocator> FileReader<A> {
         cued: &mut bool,
         frame: &mut Vec<u8, A>,
     ) -> Result<Item, FileFault>
-        ensures answer { self.old.fault ≡ None → ItemAnswers self.old.place
-            (item_read self.old.place course.old)
+        ensures answer { self.old.fault ≡ None → ItemAnswers self.old.place course.old
             (passage R.remaining R.failures input.old input.new) result frame.new.items
             self.new.place course.new }
         ensures same { container_of self.new.place ≡ container_of self.old.place }
         ensures stays { (size : Option ℕ) →
             container_of self.old.place ≡ container.Matroska size → self.new ≡ self.old }
+        ensures still { (course.old ≡ Plain → ⊥) → self.new ≡ self.old }
+        ensures kind { (course.old ≡ Plain → ⊥) → course.new ≡ Plain → ⊥ }
+        ensures plain { course.old ≡ Plain → course.new ≡ Plain }
         ensures kept { self.new.room ≡ self.old.room }
         ensures cued { self.old.fault ≡ None → IfOk result (λ i. CuedBy
             (cued_item self.old.place course.old cued.old)
             (R.remaining input.old) (R.remaining input.new) cued.new) }
+        ensures ended { self.old.fault ≡ None → container_of self.old.place ≡ container.Avi →
+            IfOk result (λ i. i ≡ item.End → SaidBy (course_ended course.old)
+            (R.remaining input.old) (R.remaining input.new) course.new) }
     {
         match &mut self.inner {
-            Inner::Avi(reader) => avi_answer(reader.next_frame(input, frame)),
-            Inner::Matroska(reader) => reader.next_item(input, course, cued, frame),
+            Inner::Avi(reader) => read_chunk_item(reader, input, course, frame),
+            Inner::Matroska(reader) => read_element_item(reader, input, course, cued, frame),
         }
     }
 
     /// Looks at what stands after a file that may be damaged, once `next_item` has answered that
-    /// nothing more comes, or `next_frame` of an AVI false, and tells what its end leaves in doubt,
-    /// as `look_behind` does. But whether Cues came after the last Cluster of a Segment is `cued`,
-    /// as the calls of `next_item` say; of an AVI it does not count. When frames of a Segment come
-    /// is not looked at.
+    /// nothing more comes by this course, and tells what its end leaves in doubt, as `look_behind`
+    /// does. But whether Cues came after the last Cluster of a Segment is `cued`, as the calls of
+    /// `next_item` say; of an AVI it does not count. When frames of a Segment come is not looked
+    /// at. Of an AVI nothing is read: the course says where other bytes stand, how many frames that
+    /// it gave had no bytes, and whether an RIFF or a `movi` had no size.
     ///
     /// If the size of the Segment is known, four bytes are read, or as many as there are, also if
     /// the input ended before that size, or a Cluster was sought up to it. If an element passed the
@@ -346,29 +362,34 @@ impl<A: Allocator> FileReader<A> {
     /// if a read failed. The input has to be the one that the reader was opened on.
     pub fn look_behind_items<R: ByteIn>(
         &self,
+        course: Course,
         cued: bool,
         input: &mut R,
     ) -> Result<Notes, FileFault>
-        ensures answer { FileAnswers any_value (λ (n : Notes). n) (items_noted self.now cued)
+        ensures answer { FileAnswers any_value (λ (n : Notes). n) (items_noted self.now course cued)
             (passage R.remaining R.failures input.old input.new) result }
         ensures own { IfErr result (λ f. is_behind_fault self.now.place f ≡ true) }
-        ensures noted { container_of self.now.place ≡ container.Avi →
+        ensures told { container_of self.now.place ≡ container.Avi → result
+            ≡ Ok (avi_noted self.now.open_ended self.now.others self.now.repeated self.now.after
+            course) }
+        ensures noted { container_of self.now.place ≡ container.Avi → course ≡ Plain →
             (scope : Scope) (text : Option (List ℕ)) →
             NotesEnd scope text (R.remaining input.old) self.now →
             IfOk result (NotedOf scope text (R.remaining input.new)) }
     {
         match &self.inner {
-            Inner::Avi(reader) => Ok(avi_notes(reader)),
+            Inner::Avi(reader) => Ok(course_notes(reader, course)),
             Inner::Matroska(reader) => look_behind_segment(reader, cued, None, input),
         }
     }
 }
 
-/// What is noted of an AVI: how many further streams begin as FFV1 video, how many of its frames
-/// have no bytes, and where other bytes stand after its last RIFF, if any do.
+/// What is noted of an AVI: whether an RIFF or a movi without size ends it, how many further
+/// streams begin as FFV1 video, how many of its frames have no bytes, and where other bytes stand
+/// after its last RIFF, if any do.
 fn avi_notes<A: Allocator>(reader: &AviReader<A>) -> Notes
     ensures { result ≡ record {
-      is_open = false;
+      is_open = reader.now.open_ended;
       others = reader.now.others;
       times = None;
       repeated = reader.now.repeated;
@@ -376,11 +397,28 @@ fn avi_notes<A: Allocator>(reader: &AviReader<A>) -> Notes
     } }
 {
     Notes {
-        is_open: false,
+        is_open: reader.open_ended(),
         others: reader.others(),
         times: None,
         repeated: reader.repeated(),
         after: reader.after(),
+    }
+}
+
+/// The same by a course, if every RIFF is read by it.
+fn course_notes<A: Allocator>(reader: &AviReader<A>, course: Course) -> Notes
+    ensures { result ≡ avi_noted reader.now.open_ended reader.now.others reader.now.repeated
+        reader.now.after course }
+{
+    match course {
+        Course::Avi { course, repeated } => Notes {
+            is_open: course.open_ended(),
+            others: reader.others(),
+            times: None,
+            repeated,
+            after: course.after(),
+        },
+        _ => avi_notes(reader),
     }
 }
 
@@ -419,24 +457,13 @@ fn look_behind_segment<R: ByteIn, A: Allocator>(
 ) -> Result<Notes, FileFault>
     ensures answer { FileAnswers any_value (λ (n : Notes). n)
         (notes_told times (InMatroska reader.now.segment reader.now.track.numbers reader.now.place)
-        reader.now.end cued None 0 0)
+        reader.now.end cued None 0 0 false)
         (passage R.remaining R.failures input.old input.new) result }
     ensures own { IfErr result (λ f. is_behind_fault (InMatroska reader.now.segment
         reader.now.track.numbers reader.now.place) f ≡ true) }
 {
     match reader.look_behind(input) {
         Ok(some) => Ok(noted(reader, some, reader.is_left_open(cued), times)),
-        Err(fault) => Err(fault),
-    }
-}
-
-/// The item of an AVI's frame, or the end.
-fn avi_answer(more: Result<bool, FileFault>) -> Result<Item, FileFault>
-    ensures { result ≡ avi_answer more }
-{
-    match more {
-        Ok(true) => Ok(Item::Frame),
-        Ok(false) => Ok(Item::End),
         Err(fault) => Err(fault),
     }
 }

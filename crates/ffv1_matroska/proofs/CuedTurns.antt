@@ -7,16 +7,18 @@ use Rattle.ffv1_reads.specs.declared.fault.FileFault.TheVariants as fault
 use Rattle.ffv1_reads.specs.Ends.{AnswersOrNone, ReadOrNone, RefusedOrNone}
 use Rattle.ffv1_reads.specs.Known.{Known}
 use Rattle.ffv1_reads.specs.Reads.{Answers, Faults, Lacks, Read, Reading, Short, Want}
+use Rattle.ffv1_reads.proofs.KnownLaws.{none_known}
 use Rattle.ffv1_reads.proofs.WantedBytes.{taken_complete}
 use Rattle.ffv1_ebml.specs.Tried.{tried}
 use Rattle.ffv1_ebml.specs.Vints.{vint_read, vint_rest}
 use Rattle.ffv1_ebml.proofs.TriedReadings.{tried_whole}
 use Rattle.ffv1_matroska.specs.CuedItems.{CuedBy, cued_after, cued_named, cued_outer, cued_read, cued_sought, cued_turn, cued_up_to}
-use Rattle.ffv1_matroska.specs.Items.{Given, ItemAnswers, StopsBy}
+use Rattle.ffv1_reads.specs.Items.{Given, ItemAnswers, StopsBy}
+use Rattle.ffv1_matroska.specs.Items.{over}
 use Rattle.ffv1_matroska.specs.Turns.{scanned, turn_of, turn_read}
 use Rattle.ffv1_matroska.specs.declared.course.Course.{Course}
 use Rattle.ffv1_matroska.specs.declared.course.Turn.{Turn}
-use Rattle.ffv1_matroska.specs.declared.items.Item.{Item}
+use Rattle.ffv1_reads.specs.declared.item.Item.{Item}
 use Rattle.ffv1_matroska.specs.declared.track.TrackNumbers.{TrackNumbers}
 use Rattle.ffv1_matroska.proofs.TurnsMade.{turn_meets_none}
 
@@ -39,15 +41,6 @@ cued_then by cued None mid new bytes more first others same = tt
 cued_then by cued (Some text) None new bytes more first others same = absurd first
 cued_then by cued (Some text) (Some left) None bytes more first others same = absurd others
 cued_then by cued (Some text) (Some left) (Some rest) bytes more first others same = same left ∙ ap by (sym first)
-
--- a turn was read, or none
-turn_known : (r : Reading (Option Turn)) (old new : Option (List ℕ)) (o : Option Turn) → ReadOrNone r old new o → Known old new (λ text rest. r text ≡ Ok (o, rest))
-turn_known r None new o h = tt
-turn_known r (Some text) None o (inl read) = absurd read.consumed
-turn_known r (Some text) None o (inr ((halts, ended), none)) = absurd halts.consumed
-turn_known r (Some text) (Some rest) o (inl read) = ap r read.consumed ∙ read.is rest
-turn_known r (Some text) (Some rest) o (inr ((halts, ended), none)) =
-    ap r (halts.consumed ∙ ap (λ z. halts.bytes ++ z) ended ∙ append-nil halts.bytes) ∙ halts.is ∙ rw (none, ended) refl
 
 -- a turn that changes nothing
 turn_keeps : (by : List ℕ → Bool) (cued : Bool) (r : Reading (Option Turn)) (old new : Option (List ℕ)) (o : Option Turn) → ((text : List ℕ) → cued ≡ by text) → ReadOrNone r old new o → CuedBy by old new cued
@@ -149,7 +142,7 @@ module _ (whole : List ℕ → Bool) (most : ℕ) (track : TrackNumbers) (c : Co
   cued_turned o came None now new h same read = tt
   cued_turned o came (Some text) None new h same read = absurd h
   cued_turned o came (Some text) (Some at) None h same read = absurd same
-  cued_turned o came (Some text) (Some at) (Some rest) h same read = after_turn o came at rest same (turn_known (turn_read track c.pending c.place) (Some at) (Some rest) o read) ∙ h
+  cued_turned o came (Some text) (Some at) (Some rest) h same read = after_turn o came at rest same (none_known (turn_read track c.pending c.place) (Some at) (Some rest) o read) ∙ h
 
   short_turn : (at : List ℕ) (w : Want) → turn_read track c.pending c.place at ≡ Err (Short w) → cued ≡ cued_up_to (suc most) track c cued at
   unfolding cued_up_to
@@ -166,7 +159,7 @@ module _ (whole : List ℕ → Bool) (most : ℕ) (track : TrackNumbers) (c : Co
   met now new f why = turn_meets_none track c.pending c.place (why.bytes ++ []) [] f (why.is [])
 
   -- a turn was refused
-  pub cued_stops : (end : Item) (d : Course) (old now new : Option (List ℕ)) (before after : ℕ) (f : FileFault) (result : Result Item FileFault) → CuedSoFar whole (cued_up_to (suc most) track c cued) old now → RefusedOrNone (turn_read track c.pending c.place) now new before after f → StopsBy end c d f result →
+  pub cued_stops : (end : Item) (d : Course) (old now new : Option (List ℕ)) (before after : ℕ) (f : FileFault) (result : Result Item FileFault) → CuedSoFar whole (cued_up_to (suc most) track c cued) old now → RefusedOrNone (turn_read track c.pending c.place) now new before after f → StopsBy end (over c) c d f result →
       IfOk result (λ i. CuedBy whole old new cued)
   cued_stops end d old now new before after fault.Truncated result h (counted, inl (wants, ended)) (is, same) = rw is (cued_short wants.0 old now new h wants.1 ended)
   cued_stops end d old now new before after fault.Truncated result h (counted, inr why) (is, same) = absurd (met now new fault.Truncated why)

@@ -13,7 +13,8 @@ use Rattle.ffv1_ebml.specs.declared.sum.Sum.{Sum}
 use Rattle.ffv1_ebml.specs.declared.sum.Sum.TheVariants.{Absent, Begins, Awaits}
 use Rattle.ffv1_ebml.specs.declared.tried.Header.TheVariants.{Whole}
 use Rattle.ffv1_matroska.specs.Blocks.{block_read}
-use Rattle.ffv1_matroska.specs.Items.{Given, Tells, begun_by, end_given, frame_given, item_after, item_up_to, left_by, moved, over, weight}
+use Rattle.ffv1_reads.specs.Items.{Given, Tells}
+use Rattle.ffv1_matroska.specs.Items.{begun_by, end_given, frame_given, item_after, item_up_to, left_by, moved, over, weight}
 use Rattle.ffv1_matroska.specs.Places.{amount, cluster_at, group_at, is_sound, segment_at, summed_at}
 use Rattle.ffv1_matroska.specs.Segments.{block, block_group, block_sought, child_by, cluster_child, cluster_read, cluster_rest, first_child, is_outside, known_child, sought_child, sought_rest}
 use Rattle.ffv1_matroska.specs.Turns.{lost, segment_left, child_turn, cluster_headed, cluster_turn, element_turn, first_turn, group_headed, group_turn, grouped_turn, passed_turn, some_turn, turn_by, turn_read}

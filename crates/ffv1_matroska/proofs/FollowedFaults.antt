@@ -7,7 +7,8 @@ use Rattle.ffv1_reads.specs.declared.fault.FileFault.{FileFault}
 use Rattle.ffv1_reads.specs.declared.fault.FileFault.TheVariants as fault
 use Rattle.ffv1_ebml.specs.Sums.{summed}
 use Rattle.ffv1_matroska.specs.Damaged.{IsPlain, ItemsTo, TellsAfter, TellsAt}
-use Rattle.ffv1_matroska.specs.Items.{GivesFrame, Tells, begun_by, frame_given, item_read, item_up_to, moved, over}
+use Rattle.ffv1_reads.specs.Items.{GivesFrame, Tells}
+use Rattle.ffv1_matroska.specs.Items.{begun_by, frame_given, item_read, item_up_to, moved, over}
 use Rattle.ffv1_matroska.specs.Offsets.{element_taken, frame_taken, step_taken}
 use Rattle.ffv1_matroska.specs.Places.{amount, closed, is_sound, summed_at}
 use Rattle.ffv1_matroska.specs.Segments.{step_read}

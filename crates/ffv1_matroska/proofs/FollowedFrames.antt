@@ -13,7 +13,8 @@ use Rattle.ffv1_ebml.specs.declared.sum.Sum.TheVariants.{Absent}
 use Rattle.ffv1_matroska.specs.Damaged.{IsPlain, ItemsTo, TellsNext}
 use Rattle.ffv1_matroska.specs.Files.{found_or_on, found_read, frame_found, frame_found_up_to, frame_or_on, frame_read}
 use Rattle.ffv1_matroska.specs.Given.{GivesTo}
-use Rattle.ffv1_matroska.specs.Items.{GivesFrame, Tells, begun_by, frame_given, item_after, item_read, item_up_to, left_by, moved, over, weight}
+use Rattle.ffv1_reads.specs.Items.{GivesFrame, Tells}
+use Rattle.ffv1_matroska.specs.Items.{begun_by, frame_given, item_after, item_read, item_up_to, left_by, moved, over, weight}
 use Rattle.ffv1_matroska.specs.Places.{amount, closed, is_sound, segment_at, summed_at}
 use Rattle.ffv1_matroska.specs.Segments.{cluster_read, group_read, header_read, segment_child, segment_read, segment_rest, step_read}
 use Rattle.ffv1_matroska.specs.Turns.{some_turn, cluster_turn, element_turn, group_turn, open_turn, segment_turn, turn_or_end, turn_read}

@@ -3,7 +3,8 @@ use Rattle.std.proofs.Common.{◌≡◌, ℕ, suc, zero, nat_lt, Bool, true, fal
 use Rattle.ffv1_reads.specs.Reads.{Stop}
 use Rattle.ffv1_reads.specs.declared.fault.FileFault.TheVariants as fault
 use Rattle.ffv1_ebml.specs.Sums.{summed}
-use Rattle.ffv1_matroska.specs.Items.{GivesFrame, Tells, begun_by, frame_given, item_after, item_read, item_up_to, moved, over}
+use Rattle.ffv1_reads.specs.Items.{GivesFrame, Tells}
+use Rattle.ffv1_matroska.specs.Items.{begun_by, frame_given, item_after, item_read, item_up_to, moved, over}
 use Rattle.ffv1_matroska.specs.Turns.{element_turn, open_turn, turn_read}
 use Rattle.ffv1_matroska.specs.Places.{ended, summed_at}
 use Rattle.ffv1_matroska.specs.declared.course.Pending.TheVariants as pending

@@ -13,14 +13,15 @@ use Rattle.ffv1_ebml.specs.declared.sum.Sum.{Sum}
 use Rattle.ffv1_matroska.specs.Places.{summed_at}
 use Rattle.ffv1_matroska.specs.declared.course.Pending.TheVariants as pending
 use Rattle.ffv1_matroska.proofs.TurnsMade.{turn_meets_none}
-use Rattle.ffv1_matroska.specs.Items.{Given, GivesFrame, ItemAnswers, StopsBy, Tells, begun_by, end_given, end_item, frame_given, given_by, item_after, item_up_to, moved, over, told_end}
+use Rattle.ffv1_reads.specs.Items.{Given, GivesFrame, ItemAnswers, StopsBy, Tells, given_by}
+use Rattle.ffv1_matroska.specs.Items.{begun_by, end_given, end_item, frame_given, item_after, item_up_to, moved, over, told_end}
 use Rattle.ffv1_matroska.specs.Turns.{turn_read}
 use Rattle.ffv1_matroska.specs.declared.course.Course.{Course}
 use Rattle.ffv1_matroska.specs.declared.course.Pending.{Pending}
 use Rattle.ffv1_matroska.specs.declared.course.Turn.{Turn}
 use Rattle.ffv1_matroska.specs.declared.course.Turn.TheVariants.{Frame, On, Told}
-use Rattle.ffv1_matroska.specs.declared.items.Item.{Item}
-use Rattle.ffv1_matroska.specs.declared.items.Item.TheVariants as item
+use Rattle.ffv1_reads.specs.declared.item.Item.{Item}
+use Rattle.ffv1_reads.specs.declared.item.Item.TheVariants as item
 use Rattle.ffv1_matroska.specs.declared.place.Place.{Place}
 use Rattle.ffv1_matroska.specs.declared.track.TrackNumbers.{TrackNumbers}
 
@@ -51,7 +52,7 @@ module _ {Y : Type 0} {whole : Reading Items} {old now : Option (List ℕ)} {bef
   met : (f : FileFault) → Faults r now new f → ⊥
   met f why = none (why.bytes ++ []) [] f (why.is [])
 
-  pub item_stops : (f : FileFault) (result : Result Item FileFault) → Refused r now new after last f → StopsBy end c d f result → Answered result
+  pub item_stops : (f : FileFault) (result : Result Item FileFault) → Refused r now new after last f → StopsBy end (over c) c d f result → Answered result
   item_stops fault.Read result (counted, wants) (is, same) = rw is (rw (← h.same) counted, _, lacks_stop on r x new told h wants)
   item_stops fault.OutOfMemory result (counted, lacks) (is, same) = rw is (counted ∙ h.same, _, lacks_stop on r x new told h (_, lacks))
   item_stops fault.Truncated result (counted, inl (wants, ended)) (is, same) = rw (is, same, gives) (counted ∙ h.same, inr (lacks_stop on r x new told h wants, ended))
@@ -111,7 +112,7 @@ module _ {whole : Reading Items} {old now : Option (List ℕ)} {before after : �
   turn_over bytes d (same, inr ((halts, ended), none)) = (same ∙ h.same, inr (record { bytes = h.bytes ++ halts.bytes; consumed = consumes_then old now new h.bytes halts.bytes h.consumed halts.consumed; is = h.leads halts.bytes ∙ ap (item_after (item_up_to most track) c) halts.is }, ended))
 
   -- a turn was refused
-  pub turn_stops : (d : Course) (bytes : List ℕ) (f : FileFault) (result : Result Item FileFault) → RefusedOrNone (turn_read track c.pending c.place) now new after last f → StopsBy (end_item c.pending c) c d f result →
+  pub turn_stops : (d : Course) (bytes : List ℕ) (f : FileFault) (result : Result Item FileFault) → RefusedOrNone (turn_read track c.pending c.place) now new after last f → StopsBy (end_item c.pending c) (over c) c d f result →
       ItemAnswers whole (record { old = old; new = new; before = before; after = last }) result bytes d
   unfolding item_up_to
   turn_stops d bytes fault.Read result (counted, inl wants) stops = item_stops (item_up_to (suc most) track c) (turn_read track c.pending c.place) c d new last bytes (end_given c.pending c) (end_item c.pending c) (end_gives c.pending c bytes) (turn_end most track c) (turn_meets_none track c.pending c.place) h fault.Read result (counted, wants) stops
@@ -142,7 +143,7 @@ module _ (c : Course) (size : ℕ) (place : Place) (old new : Option (List ℕ))
       ItemAnswers (frame_given c size place) (record { old = old; new = new; before = before; after = after }) (Ok item.Frame) bytes (moved c pending.Nothing (summed_at place sum))
   frame_taken bytes sum (same, read) = (same, inl (record { bytes = read.bytes; consumed = read.consumed; is = λ rest. frame_there c size place (read.bytes ++ rest) (nat_lt (length (read.bytes ++ rest)) size) refl (bytes, sum) rest (read.is rest) }))
 
-  pub frame_stops : (d : Course) (bytes : List ℕ) (f : FileFault) (result : Result Item FileFault) → Refused (kept_summed size place.sum) old new before after f → StopsBy (item.Told fault.Truncated (begun_by c c.place c.pending)) c d f result →
+  pub frame_stops : (d : Course) (bytes : List ℕ) (f : FileFault) (result : Result Item FileFault) → Refused (kept_summed size place.sum) old new before after f → StopsBy (item.Told fault.Truncated (begun_by c c.place c.pending)) (over c) c d f result →
       ItemAnswers (frame_given c size place) (record { old = old; new = new; before = before; after = after }) result bytes d
   frame_stops d bytes f result why stops =
       item_stops (frame_given c size place) (kept_summed size place.sum) c d new after bytes (Some (Tells fault.Truncated (begun_by c c.place c.pending), over c)) (item.Told fault.Truncated (begun_by c c.place c.pending)) refl (λ text w is. frame_short c size place text (nat_lt (length text) size) refl w is)

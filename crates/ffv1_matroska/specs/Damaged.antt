@@ -3,7 +3,8 @@ use Rattle.std.specs.Prelude.{◌≡◌, ◌⊎◌, ◌≤◌, ◌+◌, ◌-◌,
 use Rattle.std.specs.Prelude.{true}
 use Rattle.ffv1_reads.specs.declared.fault.FileFault.{FileFault}
 use Rattle.ffv1_reads.specs.declared.fault.FileFault.TheVariants as fault
-use Rattle.ffv1_matroska.specs.Items.{Given, GivesFrame, Tells, item_read}
+use Rattle.ffv1_reads.specs.Items.{Given, GivesFrame, Tells}
+use Rattle.ffv1_matroska.specs.Items.{item_read}
 use Rattle.ffv1_matroska.specs.Places.{amount, is_sound}
 use Rattle.ffv1_matroska.specs.declared.course.Pending.TheVariants as pending
 use Rattle.ffv1_matroska.specs.declared.course.Course.{Course}

@@ -1,15 +1,14 @@
 -- What a file that may be damaged gives, one by one: its frames, and its faults, each with the
 -- number of bytes before the element at fault. All bytes have items.
-use Rattle.std.specs.Prelude.{◌≡◌, ℕ, ◌+◌, ◌-◌, ◌^◌, suc, zero, Bool, true, false, if◌then◌else◌}
+use Rattle.std.specs.Prelude.{ℕ, ◌+◌, ◌-◌, ◌^◌, suc, zero, if◌then◌else◌}
 use Rattle.std.specs.Prelude.{nat_lt, List, []}
 use Rattle.std.specs.Prelude.{length, take, drop, Option, Some, None, Result, Ok, Err}
-use Rattle.ffv1_wire.specs.Failures.{one_more}
-use Rattle.ffv1_wire.specs.Passage.{Passage}
-use Rattle.ffv1_reads.specs.Ends.{ReadOrEnds, Stops}
+use Rattle.ffv1_reads.specs.Items.{Given, GivesFrame, Tells}
 use Rattle.ffv1_reads.specs.Offsets.{offset_after}
 use Rattle.ffv1_reads.specs.Reads.{Reading, Stop}
-use Rattle.ffv1_reads.specs.declared.fault.FileFault.{FileFault}
 use Rattle.ffv1_reads.specs.declared.fault.FileFault.TheVariants as fault
+use Rattle.ffv1_reads.specs.declared.item.Item.{Item}
+use Rattle.ffv1_reads.specs.declared.item.Item.TheVariants as item
 use Rattle.ffv1_ebml.specs.Sums.{summed}
 use Rattle.ffv1_matroska.specs.Places.{amount, ended, is_sound, summed_at}
 use Rattle.ffv1_matroska.specs.Readers.{Standing}
@@ -19,15 +18,8 @@ use Rattle.ffv1_matroska.specs.declared.course.Pending.{Pending}
 use Rattle.ffv1_matroska.specs.declared.course.Pending.TheVariants as pending
 use Rattle.ffv1_matroska.specs.declared.course.Turn.{Turn}
 use Rattle.ffv1_matroska.specs.declared.course.Turn.TheVariants.{Frame, On, Told}
-use Rattle.ffv1_matroska.specs.declared.items.Item.{Item}
-use Rattle.ffv1_matroska.specs.declared.items.Item.TheVariants as item
 use Rattle.ffv1_matroska.specs.declared.place.Place.{Place}
 use Rattle.ffv1_matroska.specs.declared.track.TrackNumbers.{TrackNumbers}
-
--- a frame; or a fault, with the number of bytes before the element at fault
-pub data Given : Type 0 where
-  GivesFrame : List ℕ → Given
-  Tells : FileFault → ℕ → Given
 
 -- the number of bytes before the element that comes next, or that what comes next is of
 abbrev pub begun_by : Course → Place → Pending → ℕ
@@ -124,35 +116,7 @@ item_up_to (suc most) track c text =
 unfoldable pub item_read : TrackNumbers → Course → Reading (Option (Given × Course))
 item_read track c = item_up_to (2 ^ 64 - 1) track c
 
--- the one fault of a call, in bytes of which no fault is one, that says that they have ended
-abbrev pub is_end : FileFault → Bool
-is_end fault.Truncated = true
-is_end f = false
-
+-- what is answered where the input has ended in a turn
 abbrev pub end_item : Pending → Course → Item
 end_item pending.Seeking c = item.End
 end_item p c = item.Told fault.Truncated (begun_by c c.place c.pending)
-
--- a call was refused inside an element: if the bytes have ended, this is the answer
-abbrev pub StopsBy : Item → Course → Course → FileFault → Result Item FileFault → Type 0
-StopsBy end old new fault.Truncated result = (result ≡ Ok end) × (new ≡ over old)
-StopsBy end old new f result = (result ≡ Err f) × (new ≡ old)
-
--- what a call that answers so has given
-abbrev pub given_by : Item → List ℕ → Course → Option (Given × Course)
-given_by item.Frame bytes c = Some (GivesFrame bytes, c)
-given_by (item.Told f offset) bytes c = Some (Tells f offset, c)
-given_by item.End bytes c = None
-
--- the answer of a call for the next item. A read may fail, and memory be refused for a frame, when
--- more bytes are wanted: then those that were read have an item by themselves, or none
-abbrev pub ItemAnswers : Reading (Option (Given × Course)) → Passage → Result Item FileFault →
-    List ℕ → Course → Type 0
-ItemAnswers reading p (Ok i) bytes c =
-    (p.after ≡ p.before) × ReadOrEnds reading p.old p.new (given_by i bytes c)
-ItemAnswers reading p (Err fault.Read) bytes c =
-    (p.after ≡ one_more p.before)
-    × (x : Option (Given × Course)) × Stops reading p.old p.new x
-ItemAnswers reading p (Err fault.OutOfMemory) bytes c =
-    (p.after ≡ p.before) × (x : Option (Given × Course)) × Stops reading p.old p.new x
-ItemAnswers reading p (Err f) bytes c = ⊥

@@ -1,7 +1,7 @@
 //! Laws of files that may be damaged: all bytes have items, and after damage the next Cluster that
 //! is whole is found.
 
-ghost use Rattle.std.specs.Prelude.{◌≡◌, ◌<◌, ◌≤◌, ◌+◌, ◌-◌, ◌++◌, ◌∷◌, [], ℕ, List, Option};
+ghost use Rattle.std.specs.Prelude.{◌≡◌, ◌≤◌, ◌+◌, ◌-◌, ◌++◌, ◌∷◌, [], ℕ, List, Option};
 ghost use Rattle.std.specs.Prelude.{Err, None, Ok, Some, false, length, map};
 ghost use Rattle.ffv1_reads.specs.Reads.{Met, Short, Want};
 ghost use Rattle.ffv1_reads.specs.declared.fault.FileFault.{FileFault};
@@ -14,7 +14,8 @@ ghost use Rattle.ffv1_reads.specs.Offsets.{FaultAt, offset_after};
 ghost use Rattle.ffv1_matroska.specs.Damaged.{cluster_bytes};
 ghost use Rattle.ffv1_matroska.specs.Files.{frame_read};
 ghost use Rattle.ffv1_matroska.specs.Given.{GivesTo};
-ghost use Rattle.ffv1_matroska.specs.Items.{Given, GivesFrame, item_read, over};
+ghost use Rattle.ffv1_reads.specs.Items.{Given, GivesFrame};
+ghost use Rattle.ffv1_matroska.specs.Items.{item_read, over};
 ghost use Rattle.ffv1_matroska.specs.Places.{cluster_entered, segment_at};
 ghost use Rattle.ffv1_matroska.specs.Turns.{seek_turn};
 ghost use Rattle.ffv1_matroska.specs.declared.course.Course.{Course};

@@ -4,35 +4,20 @@ ghost use Rattle.std.specs.Prelude.{◌≡◌, ◌<◌, ◌≤◌, ◌+◌, ◌*
 ghost use Rattle.std.specs.Vec.{vec_capacity};
 ghost use Rattle.ffv1_wire.specs.Passage.{passage};
 ghost use Rattle.ffv1_matroska.specs.CuedItems.{CuedBy, cued_item};
-ghost use Rattle.ffv1_matroska.specs.Items.{ItemAnswers, begun_by, frame_given, item_read, moved};
-ghost use Rattle.ffv1_matroska.specs.Items.{StopsBy, end_item, is_end, left_by, over, weight};
+ghost use Rattle.ffv1_reads.specs.Items.{ItemAnswers, StopsBy};
+ghost use Rattle.ffv1_matroska.specs.Items.{begun_by, frame_given, item_read, moved};
+ghost use Rattle.ffv1_matroska.specs.Items.{end_item, left_by, over, weight};
 ghost use Rattle.ffv1_matroska.specs.Places.{amount, ended};
-ghost use Rattle.ffv1_matroska.specs.declared.items.Item.TheVariants as item;
+ghost use Rattle.ffv1_reads.specs.declared.item.Item.TheVariants as item;
 
 use crate::course::{Course, Pending, Turn};
 use crate::outer_turn::{open_at, take_turn};
 use crate::place::{Place, ended, is_sound, summed_at};
 use crate::track::TrackNumbers;
 use ffv1_ebml::fill_summed;
-use ffv1_reads::FileFault;
+use ffv1_reads::{FileFault, Item, is_end};
 use ffv1_wire::ByteIn;
 use std::alloc::Allocator;
-
-/// What a file that may be damaged gives.
-#[derive(Clone, Copy)]
-pub enum Item {
-    /// A frame.
-    Frame,
-    /// A fault that is passed.
-    Told {
-        /// The fault.
-        fault: FileFault,
-        /// The number of bytes of the file before the element at fault; no greater than 2^64 - 1.
-        offset: u64,
-    },
-    /// Nothing more.
-    End,
-}
 
 /// A number of bytes that no turn from a place passes.
 fn weight(place: Place, pending: Pending) -> u128
@@ -105,16 +90,6 @@ fn over(course: Course) -> Course
     }
 }
 
-/// Whether a fault of a call, in bytes of which no fault is one, says that the input has ended.
-fn is_end(fault: FileFault) -> bool
-    ensures { result ≡ is_end fault }
-{
-    match fault {
-        FileFault::Truncated => true,
-        _ => false,
-    }
-}
-
 /// What is answered where the input has ended in a turn: of a Cluster that is sought nothing is
 /// told.
 fn end_item(course: Course) -> Item
@@ -131,7 +106,7 @@ fn end_item(course: Course) -> Item
 
 /// A call that was refused inside an element: if the input has ended, this is answered.
 fn stop(course: &mut Course, fault: FileFault, end: Item) -> Result<Item, FileFault>
-    ensures { StopsBy end course.old course.new fault result }
+    ensures { StopsBy end (over course.old) course.old course.new fault result }
 {
     if is_end(fault) {
         *course = over(*course);

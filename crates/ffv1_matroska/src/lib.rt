@@ -48,7 +48,6 @@ mod write;
 pub mod written_laws;
 
 pub use course::Course;
-pub use items::Item;
 pub use rate::{duration_of, rate_of};
 pub use reader::MatroskaReader;
 pub use told::{ToldFault, ToldFaults};

@@ -1,6 +1,6 @@
 //! Reads files, frame by frame.
 
-ghost use Rattle.std.specs.Prelude.{◌≡◌, ◌<◌, ◌≤◌, Bool, List, [], true, false, Option, None, Some};
+ghost use Rattle.std.specs.Prelude.{◌≡◌, ◌<◌, ◌≤◌, Bool, [], true, false, Option, None, Some};
 ghost use Rattle.std.specs.Prelude.{IfErr, IfOk, OnErr, Ok, Err, length, max, ◌+◌, ◌*◌};
 ghost use Rattle.std.specs.Vec.{vec_capacity};
 ghost use Rattle.ffv1_wire.specs.Passage.{between, passage};
@@ -14,8 +14,9 @@ ghost use Rattle.ffv1_reads.specs.declared.fault.FileFault.TheVariants as fault;
 ghost use Rattle.ffv1_matroska.specs.Again.{AnswersAgain, RoomTwice, TwiceOpened};
 ghost use Rattle.ffv1_matroska.specs.Files.{frame_read};
 ghost use Rattle.ffv1_matroska.specs.Internal.{opened_kept};
-ghost use Rattle.ffv1_matroska.specs.Items.{ItemAnswers, course_at, item_read};
-ghost use Rattle.ffv1_matroska.specs.declared.items.Item.TheVariants as item;
+ghost use Rattle.ffv1_reads.specs.Items.{ItemAnswers};
+ghost use Rattle.ffv1_matroska.specs.Items.{course_at, item_read};
+ghost use Rattle.ffv1_reads.specs.declared.item.Item.TheVariants as item;
 ghost use Rattle.ffv1_matroska.specs.Opened.{open_read};
 ghost use Rattle.ffv1_matroska.specs.CuedItems.{CuedBy, cued_item};
 ghost use Rattle.ffv1_matroska.specs.Cues.{CuedAfter};
@@ -31,12 +32,12 @@ ghost use Rattle.ffv1_matroska.specs.Times.{TimedAfter, times_begun};
 use crate::beginning::read_opening;
 use crate::course::{Course, Pending};
 use crate::frames::read_frame;
-use crate::items::{Item, read_item};
+use crate::items::read_item;
 use crate::late::read_twice;
 use crate::place::{Place, ended, passed};
 use crate::times::{Seen, Times, times_begun};
 use crate::track::{Numbers, TrackNumbers};
-use ffv1_reads::{FileFault, FileHead, look_behind};
+use ffv1_reads::{FileFault, FileHead, Item, look_behind};
 use ffv1_wire::{AgainIn, ByteIn};
 use std::alloc::{Allocator, Global};
 use std::marker::Model;

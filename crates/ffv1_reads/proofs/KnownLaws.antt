@@ -1,8 +1,9 @@
 -- What a call on known bytes answers.
-use Rattle.std.proofs.Common.{◌≡◌, ℕ, Option, Some, None, Ok, Err, List, [], ◌++◌, append-nil, ap, ◌∙◌, refl}
+use Rattle.std.proofs.Common.{◌≡◌, ℕ, Option, Some, None, Ok, Err, List, [], ◌++◌, append-nil, ap, ◌∙◌, refl, inl, inr}
 use Rattle.ffv1_reads.specs.declared.fault.FileFault.{FileFault}
 use Rattle.std.specs.Io.KnownBytes.{IsAtEnd}
-use Rattle.ffv1_reads.specs.Ends.{Ends, FaultsAtEnd, Stops}
+use Rattle.ffv1_reads.specs.Ends.{Ends, FaultsAtEnd, ReadOrNone, Stops}
+use Rattle.ffv1_reads.specs.Known.{Known}
 use Rattle.ffv1_reads.specs.Reads.{Faults, Lacks, Met, Read, Reading, Short, Want}
 
 pub known_read : {X : Type 0} (reading : Reading X) (text : List ℕ) (new : Option (List ℕ)) (x : X) → Read reading (Some text) new x → (rest : List ℕ) × (new ≡ Some rest) × (reading text ≡ Ok (x, rest))
@@ -41,3 +42,12 @@ pub known_fault_there : {X : Type 0} (reading : Reading X) (text : List ℕ) (ne
     (bytes rest : List ℕ) × (text ≡ bytes ++ rest) × (new ≡ Some rest) × (reading bytes ≡ Err (Met f []))
 known_fault_there reading text None f h = absurd h.consumed
 known_fault_there reading text (Some rest) f h = (h.bytes, rest, h.consumed, refl, h.is)
+
+-- a value was read, or nothing more is there
+pub none_known : {X : Type 0} (reading : Reading (Option X)) (old new : Option (List ℕ)) (x : Option X) → ReadOrNone reading old new x → Known old new (λ text rest. reading text ≡ Ok (x, rest))
+none_known reading None new x h = tt
+none_known reading (Some text) None x (inl read) = absurd read.consumed
+none_known reading (Some text) None x (inr ((halts, ended), none)) = absurd halts.consumed
+none_known reading (Some text) (Some rest) x (inl read) = ap reading read.consumed ∙ read.is rest
+none_known reading (Some text) (Some rest) x (inr ((halts, ended), none)) =
+    ap reading (halts.consumed ∙ ap (λ z. halts.bytes ++ z) ended ∙ append-nil halts.bytes) ∙ halts.is ∙ rw (none, ended) refl

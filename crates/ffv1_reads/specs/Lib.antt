@@ -9,3 +9,4 @@ pub mod First
 pub mod Writes
 pub mod Offsets
 pub mod Behind
+pub mod Items

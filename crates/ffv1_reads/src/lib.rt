@@ -6,7 +6,8 @@
 //! A *reading* is a function on bytes: the value that they read as and what is left of them, or why
 //! they read as none (`specs/Reads`). A call answers by a reading: if it gives a value, the bytes
 //! that it read are that value, whatever comes after them. A fault is the first that they have. A
-//! read fails, memory is refused and the input ends only when more bytes are wanted.
+//! read fails, memory is refused and the input ends only when more bytes are wanted. A file that
+//! may be damaged gives items (`Item`, `specs/Items`): frames, and faults that are told.
 //!
 //! ```text
 //! let mut name = [0u8; 4];
@@ -22,6 +23,7 @@ pub mod bytes;
 pub mod colour;
 pub mod fault;
 pub mod head;
+pub mod item;
 pub mod laws;
 
 pub use behind::{begins_file, look_behind};
@@ -30,3 +32,4 @@ pub use bytes::{append, fill, pass, take, take_after};
 pub use colour::Colour;
 pub use fault::FileFault;
 pub use head::{FRAME_LIMIT, FileHead, LIMIT};
+pub use item::{Item, is_end};

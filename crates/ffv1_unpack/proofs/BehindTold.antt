@@ -9,6 +9,7 @@ use Rattle.ffv1_files.specs.Noted.{no_notes}
 use Rattle.ffv1_files.specs.Places.{InAvi, InMatroska, Place, container_of}
 use Rattle.ffv1_files.specs.declared.container.Container.TheVariants as container
 use Rattle.ffv1_files.specs.Readers.{Standing}
+use Rattle.ffv1_files.specs.declared.course.Course.{Course}
 use Rattle.ffv1_files.specs.declared.notes.Notes.{Notes}
 use Rattle.ffv1_video.specs.declared.fault.Fault.{Fault}
 use Rattle.ffv1_video.specs.declared.fault.Fault.TheVariants as fault
@@ -28,22 +29,22 @@ pub avi_unread : (place : Place) (f : FileFault) → is_behind_fault place f ≡
 avi_unread (InAvi p) f own avi = let no : false ≡ true = own in cc
 avi_unread (InMatroska size track p) f own avi = cc (avi)
 
-module _ (r : Standing) (cued : Bool) (input : Passage) where
-  met_another : (text rest : List ℕ) → FaultsRead (items_noted r cued) text rest file_fault.Another → BeginsAnother (items_noted r cued) text rest
+module _ (r : Standing) (course : Course) (cued : Bool) (input : Passage) where
+  met_another : (text rest : List ℕ) → FaultsRead (items_noted r course cued) text rest file_fault.Another → BeginsAnother (items_noted r course cued) text rest
   met_another text rest (inl (w, is, none, same)) = absurd (cc (same))
   met_another text rest (inr is) = is
 
   -- another file begins there
-  pub another_is : (output : Passage) → StopsReading any_value (items_noted r cued) input file_fault.Another → AnotherBehind r cued input output
-  another_is output h = record { kept = h.0; is = known_map input.old input.new (λ text rest. FaultsRead (items_noted r cued) text rest file_fault.Another) (BeginsAnother (items_noted r cued)) met_another h.1 }
+  pub another_is : (output : Passage) → StopsReading any_value (items_noted r course cued) input file_fault.Another → AnotherBehind r course cued input output
+  another_is output h = record { kept = h.0; is = known_map input.old input.new (λ text rest. FaultsRead (items_noted r course cued) text rest file_fault.Another) (BeginsAnother (items_noted r course cued)) met_another h.1 }
 
   module _ (o : Option (List ℕ)) (n : ℕ) (counts : JudgedCounts) where
     -- these are the notes
-    pub notes_told : (notes : Notes) → ReadsAs (items_noted r cued) input notes → BehindAnswers r cued input (between o o n n) counts counts (Ok notes)
+    pub notes_told : (notes : Notes) → ReadsAs (items_noted r course cued) input notes → BehindAnswers r course cued input (between o o n n) counts counts (Ok notes)
     notes_told notes h = inl (h, silent o n, refl)
 
     -- a read failed
-    pub behind_unread : (place : Place) (f : FileFault) → is_behind_fault place f ≡ true → (f ≡ file_fault.Another → ⊥) → StopsReading any_value (items_noted r cued) input f → BehindFailsBy r cued input (between o o n n) (cause_of (of_avi f))
+    pub behind_unread : (place : Place) (f : FileFault) → is_behind_fault place f ≡ true → (f ≡ file_fault.Another → ⊥) → StopsReading any_value (items_noted r course cued) input f → BehindFailsBy r course cued input (between o o n n) (cause_of (of_avi f))
     behind_unread (InAvi p) f own other h = absurd (let no : false ≡ true = own in cc)
     behind_unread (InMatroska size track p) file_fault.Read own other h = (silent o n, h.0, h.1)
     behind_unread (InMatroska size track p) file_fault.Another own other h = absurd (other refl)
@@ -55,14 +56,14 @@ module _ (r : Standing) (cued : Bool) (input : Passage) where
     unread_own (InMatroska size track p) file_fault.Another own other = absurd (other refl)
     unread_own (InMatroska size track p) f own other = absurd (let no : false ≡ true = own in cc)
 
-  module _ (o1 o2 : Option (List ℕ)) (om oa : ℕ) (another : (output : Passage) → AnotherBehind r cued input output) where
+  module _ (o1 o2 : Option (List ℕ)) (om oa : ℕ) (another : (output : Passage) → AnotherBehind r course cued input output) where
     -- its line was written
-    pub another_told : (old new : JudgedCounts) → WritesFrame (told_line r.end file_fault.Another) (between o1 o2 om oa) (Ok tt) → new ≡ told_counted old fault.Another → BehindAnswers r cued input (between o1 o2 om oa) old new (Ok no_notes)
+    pub another_told : (old new : JudgedCounts) → WritesFrame (told_line r.end file_fault.Another) (between o1 o2 om oa) (Ok tt) → new ≡ told_counted old fault.Another → BehindAnswers r course cued input (between o1 o2 om oa) old new (Ok no_notes)
     another_told old new h is = inr (another (between o1 o2 om oa), refl, h.0, h.1, is)
 
     -- or not
-    pub another_untold : (f : Fault) → WritesFrame (told_line r.end file_fault.Another) (between o1 o2 om oa) (Err f) → BehindFailsBy r cued input (between o1 o2 om oa) (cause_of f)
+    pub another_untold : (f : Fault) → WritesFrame (told_line r.end file_fault.Another) (between o1 o2 om oa) (Err f) → BehindFailsBy r course cued input (between o1 o2 om oa) (cause_of f)
     another_untold f h = elim h [
-      | inl write ↦ subst (λ z. BehindFailsBy r cued input (between o1 o2 om oa) (cause_of z)) (sym write.0) (another (between o1 o2 om oa), write.1, write.2)
-      | inr none ↦ subst (λ z. BehindFailsBy r cued input (between o1 o2 om oa) (cause_of z)) (sym none.0) (record { same = none.1; kept = none.2 }, another (between o1 o2 om oa))
+      | inl write ↦ subst (λ z. BehindFailsBy r course cued input (between o1 o2 om oa) (cause_of z)) (sym write.0) (another (between o1 o2 om oa), write.1, write.2)
+      | inr none ↦ subst (λ z. BehindFailsBy r course cued input (between o1 o2 om oa) (cause_of z)) (sym none.0) (record { same = none.1; kept = none.2 }, another (between o1 o2 om oa))
     ]

@@ -5,7 +5,7 @@ use Rattle.ffv1_wire.specs.Failures.{one_more}
 use Rattle.ffv1_wire.specs.Passage.{Passage, between}
 use Rattle.ffv1_record.specs.Accepted.{Accepted}
 use Rattle.ffv1_reads.specs.Known.{Known}
-use Rattle.ffv1_matroska.specs.Items.{Given}
+use Rattle.ffv1_reads.specs.Items.{Given}
 use Rattle.ffv1_files.specs.Files.{open_read}
 use Rattle.ffv1_files.specs.Items.{course_of}
 use Rattle.ffv1_files.specs.Offsets.{PlaceReached, Reached}

@@ -6,17 +6,18 @@ use Rattle.ffv1_record.specs.Accepted.{Accepted}
 use Rattle.ffv1_files.specs.Items.{course_of}
 use Rattle.ffv1_files.specs.Offsets.{Reached}
 use Rattle.ffv1_files.specs.Readers.{Standing}
-use Rattle.ffv1_matroska.specs.Items.{Given}
+use Rattle.ffv1_reads.specs.Items.{Given}
 use Rattle.ffv1_video.specs.declared.profile.Profile.{Profile}
 use Rattle.ffv1_video.specs.declared.fault.Fault.{Fault}
 use Rattle.ffv1_video.specs.Faults.{Cause, cause_of}
 use Rattle.ffv1_video.specs.Faults.Cause.{Reading, Writing, Memory, Content}
 use Rattle.ffv1_video.specs.Profiles.{scope_in}
 use Rattle.ffv1_unpack.specs.Internal.Opens.{OpensStream, stream_of}
+use Rattle.ffv1_unpack.specs.ItemsEnd.{ItemsEnd}
 use Rattle.ffv1_unpack.specs.JudgedItems.{ItemIs, ItemsFrom, ItemsNext, ItemsStay, ItemsThen, JudgedItem, OfFrame, ToldAt, frames_of, given_as}
 use Rattle.ffv1_unpack.specs.Salvaged.{salvage_faults}
 use Rattle.ffv1_unpack.specs.Stream.{Stream}
-use Rattle.ffv1_unpack.specs.UnpackAll.{FaultNext, LacksNext, LineCut, LinesTold, PictureCut, PictureWritten, PicturesShown, ReadFailsNext, SalvageGoes, SalvageStopsBy, SalvagedThen, UnpackAllStops}
+use Rattle.ffv1_unpack.specs.UnpackAll.{FaultNext, LacksNext, LineCut, LinesTold, PictureCut, PictureWritten, PicturesShown, ReadFailsNext, SalvageGoes, SalvageStopsBy, SalvagedThen, SalvageRefused}
 use Rattle.ffv1_unpack.specs.Unpacked.{HasText, is_ppm_stream}
 use Rattle.ffv1_unpack.proofs.FileItems.{has_file}
 
@@ -90,5 +91,5 @@ module _ (profile : Profile) (i0 i1 i2 : Option (List ℕ)) (ib im ia : ℕ) (r 
   )
   stops_file f Content (xs, h, same) = (xs, then_file xs (FaultNext f) h, same ∙ opens.kept)
 
-  pub all_fails : (f : Fault) → SalvageStopsBy Here s Rest lines output f (cause_of f) → UnpackAllStops profile Whole lines output f
-  all_fails f h = inr (inl (record { stream = s; is = opens.stream; text = text; stops = stops_file f (cause_of f) h }))
+  pub all_fails : (f : Fault) → SalvageStopsBy Here s Rest lines output f (cause_of f) → SalvageRefused (ItemsThen profile) (ItemsEnd profile) profile Whole lines output f
+  all_fails f h = inl (record { stream = s; is = opens.stream; text = text; stops = stops_file f (cause_of f) h })

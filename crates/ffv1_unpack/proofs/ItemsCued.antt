@@ -2,7 +2,7 @@
 use Rattle.std.proofs.Common.{◌≡◌, ◌∙◌, ℕ, suc, Bool, List, Option, Some, None, Ok, refl, sym, ap}
 use Rattle.ffv1_reads.specs.Known.{Known}
 use Rattle.ffv1_matroska.specs.CuedItems.{CuedBy}
-use Rattle.ffv1_matroska.specs.declared.course.Course.{Course}
+use Rattle.ffv1_files.specs.declared.course.Course.{Course}
 use Rattle.ffv1_matroska.proofs.CuedTurns.{CuedSoFar}
 use Rattle.ffv1_files.specs.Items.{Next, cued_item, item_read}
 use Rattle.ffv1_files.specs.Places.{InAvi, InMatroska, Place, container_of}

@@ -9,9 +9,10 @@ use Rattle.ffv1_record.specs.Accepted.{Accepted}
 use Rattle.ffv1_reads.specs.Head.{Head}
 use Rattle.ffv1_reads.specs.Known.{Known}
 use Rattle.ffv1_reads.specs.declared.fault.FileFault.TheVariants as file_fault
-use Rattle.ffv1_matroska.specs.Items.{Given}
+use Rattle.ffv1_reads.specs.Items.{Given}
 use Rattle.ffv1_files.specs.Behind.{items_noted}
 use Rattle.ffv1_files.specs.Readers.{Standing}
+use Rattle.ffv1_files.specs.declared.course.Course.{Course}
 use Rattle.ffv1_files.specs.declared.notes.Notes.{Notes}
 use Rattle.ffv1_video.specs.declared.profile.Profile.{Profile}
 use Rattle.ffv1_video.specs.declared.fault.Fault.{Fault}
@@ -46,8 +47,8 @@ none_each [] ys none = (refl, none)
 none_each (x ∷ xs) ys none = absurd (cc (none))
 
 module _ (Then : Head → List Given → ItemsNext → List ℕ → List ℕ → Type 0) (End : Head → List Given → (ℕ → Looks) → List ℕ → List ℕ → Type 0) (profile : Profile) (place : Bool) where
-  module _ (i0 i2 i3 : Option (List ℕ)) (ib ia ic : ℕ) (r : Standing) (a : Accepted) (cued : Bool) (o0 o1 o2 : Option (List ℕ)) (ob om oa : ℕ) (xs : List JudgedItem) (counts : JudgedCounts) (were : AreItemCounts counts xs)
-      (came : (o : Option (List ℕ)) (n : ℕ) (Looked : ℕ → Looks) → Known i2 i3 (λ text rest. Looked r.end (items_noted r cued) text rest) → CameBy Then End profile place (between i0 i3 ib ic) (between o0 o ob n) (stream_of r a) xs Looked)
+  module _ (i0 i2 i3 : Option (List ℕ)) (ib ia ic : ℕ) (r : Standing) (a : Accepted) (course : Course) (cued : Bool) (o0 o1 o2 : Option (List ℕ)) (ob om oa : ℕ) (xs : List JudgedItem) (counts : JudgedCounts) (were : AreItemCounts counts xs)
+      (came : (o : Option (List ℕ)) (n : ℕ) (Looked : ℕ → Looks) → Known i2 i3 (λ text rest. Looked r.end (items_noted r course cued) text rest) → CameBy Then End profile place (between i0 i3 ib ic) (between o0 o ob n) (stream_of r a) xs Looked)
       (writes_items : Appends o0 o1 (item_lines place a.configuration xs)) (items_written : om ≡ ob) (items_kept : ia ≡ ib) where
     abbrev lines : List JudgedItem → List ℕ
     lines ys = item_lines place a.configuration ys
@@ -55,16 +56,16 @@ module _ (Then : Head → List Given → ItemsNext → List ℕ → List ℕ →
     -- what was told
     pub record ToldBehind (new : JudgedCounts) (notes : Notes) : Type 0 where
       pub behind : List JudgedItem
-      pub looked : Known i2 i3 (λ text rest. EndTold behind notes r.end (items_noted r cued) text rest)
+      pub looked : Known i2 i3 (λ text rest. EndTold behind notes r.end (items_noted r course cued) text rest)
       pub kept : ic ≡ ia
       pub counted : AreItemCounts new (xs ++ behind)
       pub written : oa ≡ om
       pub writes : Appends o0 o2 (lines (xs ++ behind))
 
-    pub told_behind : (new : JudgedCounts) (notes : Notes) → BehindAnswers r cued (between i2 i3 ia ic) (between o1 o2 om oa) counts new (Ok notes) → ToldBehind new notes
+    pub told_behind : (new : JudgedCounts) (notes : Notes) → BehindAnswers r course cued (between i2 i3 ia ic) (between o1 o2 om oa) counts new (Ok notes) → ToldBehind new notes
     told_behind new notes (inl (read, none, same)) = record {
       behind = [];
-      looked = known_map i2 i3 _ (λ text rest. EndTold [] notes r.end (items_noted r cued) text rest) (λ text rest is. inl (refl, is)) read.1;
+      looked = known_map i2 i3 _ (λ text rest. EndTold [] notes r.end (items_noted r course cued) text rest) (λ text rest is. inl (refl, is)) read.1;
       kept = read.0;
       counted = rw same (subst (AreItemCounts counts) (sym (append-nil xs)) were);
       written = none.same;
@@ -72,7 +73,7 @@ module _ (Then : Head → List Given → ItemsNext → List ℕ → List ℕ →
     }
     told_behind new notes (inr (another, none, same, writes, is)) = record {
       behind = ToldAt file_fault.Another r.end ∷ [];
-      looked = known_map i2 i3 _ (λ text rest. EndTold (ToldAt file_fault.Another r.end ∷ []) notes r.end (items_noted r cued) text rest) (λ text rest is. inr (refl, none, is)) another.is;
+      looked = known_map i2 i3 _ (λ text rest. EndTold (ToldAt file_fault.Another r.end ∷ []) notes r.end (items_noted r course cued) text rest) (λ text rest is. inr (refl, none, is)) another.is;
       kept = another.kept;
       counted = rw is (counts_more counts xs (ToldAt file_fault.Another r.end) were);
       written = same;
@@ -84,12 +85,12 @@ module _ (Then : Head → List Given → ItemsNext → List ℕ → List ℕ →
     ended new notes told o n = record { came = came o n (EndTold told.behind notes) told.looked; kept = told.kept ∙ items_kept }
 
     -- what stands there was not told
-    pub end_fails_by : (why : Cause) → BehindFailsBy r cued (between i2 i3 ia ic) (between o1 o2 om oa) why → EndFailBy Then End profile place (between i0 i3 ib ic) (between o0 o2 ob oa) why
+    pub end_fails_by : (why : Cause) → BehindFailsBy r course cued (between i2 i3 ia ic) (between o1 o2 om oa) why → EndFailBy Then End profile place (between i0 i3 ib ic) (between o0 o2 ob oa) why
     end_fails_by Writing (another, failed, (k, short, writes)) = (
       stream_of r a,
       xs,
       r.end,
-      came o2 oa (λ at reading text rest. (at ≡ r.end) × BeginsAnother reading text rest) (known_map i2 i3 _ (λ text rest. (r.end ≡ r.end) × BeginsAnother (items_noted r cued) text rest) (λ text rest is. (refl, is)) another.is),
+      came o2 oa (λ at reading text rest. (at ≡ r.end) × BeginsAnother reading text rest) (known_map i2 i3 _ (λ text rest. (r.end ≡ r.end) × BeginsAnother (items_noted r course cued) text rest) (λ text rest is. (refl, is)) another.is),
       another.kept ∙ items_kept,
       failed ∙ ap one_more items_written,
       up_to o0 o1 o2 (length (lines xs)) (lines xs) (told_line r.end file_fault.Another) (lines (xs ++ (ToldAt file_fault.Another r.end ∷ []))) refl

@@ -8,17 +8,16 @@ use Rattle.ffv1_wire.specs.Passage.{Passage, between}
 use Rattle.ffv1_record.specs.Accepted.{Accepted}
 use Rattle.ffv1_record.specs.Configuration.{Configuration}
 use Rattle.ffv1_reads.specs.Known.{Known}
-use Rattle.ffv1_matroska.specs.declared.course.Course.{Course}
-use Rattle.ffv1_matroska.specs.Items.{Given, GivesFrame}
-use Rattle.ffv1_matroska.specs.declared.items.Item.TheVariants as item
+use Rattle.ffv1_files.specs.declared.course.Course.{Course}
+use Rattle.ffv1_reads.specs.Items.{Given, GivesFrame}
+use Rattle.ffv1_reads.specs.declared.item.Item.TheVariants as item
 use Rattle.ffv1_reads.specs.declared.fault.FileFault.{FileFault}
 use Rattle.ffv1_reads.specs.declared.fault.FileFault.TheVariants as file_fault
 use Rattle.ffv1_files.specs.Answers.{ReadsAs}
-use Rattle.ffv1_files.specs.Items.{ItemSoFar, StopsItem, item_of, item_read}
-use Rattle.ffv1_files.specs.Readers.{Standing}
-use Rattle.ffv1_files.specs.declared.container.Container.{Container}
-use Rattle.ffv1_files.specs.declared.container.Container.TheVariants as container
-use Rattle.ffv1_files.specs.Places.{InAvi, InMatroska, Place, container_of}
+use Rattle.ffv1_reads.specs.Reads as readings
+use Rattle.ffv1_files.specs.Items.{ItemSoFar, Next, StopsCourse, StopsItem, item_of, item_read}
+use Rattle.ffv1_files.specs.Places.{InAvi, InMatroska, Place}
+use Rattle.ffv1_files.specs.declared.course.Course.TheVariants as course
 use Rattle.ffv1_video.specs.declared.fault.Fault.{Fault}
 use Rattle.ffv1_video.specs.Faults.{Cause, cause_of, of_avi}
 use Rattle.ffv1_video.specs.Faults.Cause.{Reading, Writing, Memory, Content}
@@ -30,7 +29,7 @@ use Rattle.ffv1_unpack.specs.Judged.{IsJudged, Judged, payload_of, refusal_of, w
 use Rattle.ffv1_unpack.specs.JudgedItems.{IsJudgedItem, ItemsAll, ItemsFrom, ItemsGo, ItemsLack, ItemsNext, ItemsOver, ItemsStay, ItemsStopBy, ItemsWant, ItemsWritten, JudgedItem, OfFrame, ReadsItems, ToldAt, fault_of, faults_of, frames_of, given_as, item_line, item_lines, item_lines_from, number_after, with_frame}
 use Rattle.ffv1_unpack.specs.Internal.Judged.{first_of, one_counted}
 use Rattle.ffv1_unpack.specs.Internal.JudgedItems.{AreItemCounts, ItemComes, ItemFailsBy, item_counted, told_counted}
-use Rattle.ffv1_unpack.specs.Internal.Containers.{is_segment}
+use Rattle.ffv1_unpack.specs.Internal.Plainly.{is_plain}
 use Rattle.ffv1_unpack.specs.Internal.Told.{WritesFrame}
 use Rattle.ffv1_unpack.specs.Play.{but_last}
 use Rattle.ffv1_unpack.specs.Stream.{AreAll}
@@ -290,33 +289,39 @@ module _ (place : Bool) (a : Accepted) (i : ℕ) (from to : Place) (c d : Course
         )
   ]
 
+-- by a course that reads on, why there is none
+pub stops_on : (from : Place) (c : Course) → is_plain c ≡ false → (reading : readings.Reading Next) (p : Passage) (f : FileFault) → StopsItem from c reading p f → StopsCourse reading p f
+stops_on from course.Plain reads reading p f h = absurd (let no : true ≡ false = reads in cc)
+stops_on (InAvi q) (course.Avi c repeated) reads reading p f h = h
+stops_on (InAvi q) (course.Matroska c) reads reading p f h = h
+stops_on (InMatroska size track q) (course.Avi c repeated) reads reading p f h = h
+stops_on (InMatroska size track q) (course.Matroska c) reads reading p f h = h
+
+-- by a fault that telling frames has
+course_own : (reading : readings.Reading Next) (p : Passage) (f : FileFault) → StopsCourse reading p f → is_telling_fault (of_avi f) ≡ true
+course_own reading p file_fault.Read h = refl
+course_own reading p file_fault.OutOfMemory h = refl
+course_own reading p f h = absurd h
+
+pub item_own : (from : Place) (c : Course) → is_plain c ≡ false → (p : Passage) (f : FileFault) → StopsItem from c (item_read from c) p f → is_telling_fault (of_avi f) ≡ true
+item_own from c reads p f h = course_own (item_read from c) p f (stops_on from c reads (item_read from c) p f h)
+
 -- there is none
-module _ (place : Bool) (a : Accepted) (i : ℕ) (to : Place) (c d : Course) (input : Passage) (o : Option (List ℕ)) (n : ℕ) where
-  pub item_fails : (from : Place) → is_segment (container_of from) ≡ true → (f : FileFault) → StopsItem from (item_read from c) input f →
-      ItemFailsBy place a i from to c d input (between o o n n) (cause_of (of_avi f))
-  item_fails (InAvi p) segment f h = absurd (let no : false ≡ true = segment in cc)
-  item_fails (InMatroska size track p) segment file_fault.Read h = (silent o n, h.0, h.1)
-  item_fails (InMatroska size track p) segment file_fault.OutOfMemory h = (
+module _ (place : Bool) (a : Accepted) (i : ℕ) (from to : Place) (c d : Course) (input : Passage) (o : Option (List ℕ)) (n : ℕ) where
+  course_fails : (f : FileFault) → StopsCourse (item_read from c) input f → ItemFailsBy place a i from to c d input (between o o n n) (cause_of (of_avi f))
+  course_fails file_fault.Read h = (silent o n, h.0, h.1)
+  course_fails file_fault.OutOfMemory h = (
     silent o n,
     h.0,
-    known_map input.old input.new (ItemSoFar (item_read (InMatroska size track p) c)) (ItemsLack a (InMatroska size track p) c) (λ text rest wants. inl wants) h.1,
+    known_map input.old input.new (ItemSoFar (item_read from c)) (ItemsLack a from c) (λ text rest wants. inl wants) h.1,
   )
-  item_fails (InMatroska size track p) segment f h = absurd h
+  course_fails f h = absurd h
 
-  -- by a fault that telling frames has
-  pub item_own : (from : Place) → is_segment (container_of from) ≡ true → (f : FileFault) → StopsItem from (item_read from c) input f → is_telling_fault (of_avi f) ≡ true
-  item_own (InAvi p) segment f h = absurd (let no : false ≡ true = segment in cc)
-  item_own (InMatroska size track p) segment file_fault.Read h = refl
-  item_own (InMatroska size track p) segment file_fault.OutOfMemory h = refl
-  item_own (InMatroska size track p) segment f h = absurd h
+  pub item_fails : is_plain c ≡ false → (f : FileFault) → StopsItem from c (item_read from c) input f → ItemFailsBy place a i from to c d input (between o o n n) (cause_of (of_avi f))
+  item_fails reads f h = course_fails f (stops_on from c reads (item_read from c) input f h)
 
 pub line_own : (line : List ℕ) (p : Passage) (f : Fault) → WritesFrame line p (Err f) → is_telling_fault f ≡ true
 line_own line p f h = elim h [
   | inl write ↦ rw write.0 refl
   | inr none ↦ rw none.0 refl
 ]
-
--- the reader of a Segment stays where it is
-pub segment_stays : (c : Container) (old new : Standing) → is_segment c ≡ true → ((size : Option ℕ) → c ≡ container.Matroska size → new ≡ old) → new ≡ old
-segment_stays container.Avi old new segment stays = absurd (let no : false ≡ true = segment in cc)
-segment_stays (container.Matroska size) old new segment stays = stays size refl

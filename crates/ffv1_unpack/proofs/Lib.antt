@@ -17,6 +17,7 @@ mod FileJudged
 pub mod OpenedAs
 mod ItemsJudged
 mod ItemsCued
+mod ItemsCourse
 mod FileEnded
 mod BehindTold
 mod ItemsEnding
@@ -50,6 +51,10 @@ mod AllJudged
 mod SalvageLists
 mod SalvageSteps
 mod FileSalvaged
+mod SalvageEnding
 mod SalvagedEnd
+mod SalvageTold
+mod ToldUnpacked
+mod UnpackedAgain
 mod SalvageLaws
 mod PicturesPut

@@ -1,5 +1,5 @@
 -- A file that was opened is read as what its first byte says.
-use Rattle.std.proofs.Common.{◌≡◌, ◌⊎◌, refl, Bool, if◌then◌else◌, true, false, Option, Some, None, Result, Ok, Err, List, ℕ, inl, inr, ap, ◌∙◌}
+use Rattle.std.proofs.Common.{◌≡◌, ◌⊎◌, refl, Bool, if◌then◌else◌, true, false, Option, Some, None, Result, Ok, Err, List, ℕ, not, inl, inr, ap, sym, ◌∙◌}
 use Rattle.ffv1_reads.specs.Head.{Head}
 use Rattle.ffv1_reads.specs.Reads.{Stop, given, read_on}
 use Rattle.ffv1_reads.proofs.Results.{ok_is}
@@ -13,7 +13,14 @@ use Rattle.ffv1_files.specs.Places.{InAvi, InMatroska, Place, container_of}
 use Rattle.ffv1_video.specs.declared.profile.Profile.{Profile}
 use Rattle.ffv1_video.specs.declared.profile.Profile.TheVariants.{Strict, Wide}
 use Rattle.ffv1_video.specs.Profiles.{scope_in}
-use Rattle.ffv1_unpack.specs.Containers.{IsReadAs, reads_matroska}
+use Rattle.ffv1_reads.specs.Known.{Known}
+use Rattle.ffv1_files.specs.Items.{course_of}
+use Rattle.ffv1_files.specs.Noted.{notes_reached}
+use Rattle.ffv1_files.specs.Readers.{Standing}
+use Rattle.ffv1_unpack.specs.Containers.{IsReadAs, IsReadOn, reads_matroska, reads_on}
+use Rattle.ffv1_unpack.specs.Located.{Stands}
+use Rattle.ffv1_unpack.specs.Internal.Plainly.{is_plain}
+use Rattle.ffv1_unpack.proofs.ItemsCourse.{first_plain, whole_reads}
 use Rattle.ffv1_unpack.specs.Internal.Containers.{is_segment}
 use Rattle.ffv1_unpack.specs.Opens.{OpensKnown}
 
@@ -50,3 +57,17 @@ either_test true = inr refl
 pub either_read : (profile : Profile) (o : Option (List ℕ)) → IsReadAs false profile o ⊎ IsReadAs true profile o
 either_read profile None = inl tt
 either_read profile (Some file) = either_test (reads_matroska profile file)
+
+-- whether it is read on
+on_by : (profile : Profile) (o n : Option (List ℕ)) (r : Standing) → Known o n (notes_reached (scope_in profile) r.place r.end r.cued r.after r.open_ended) → (plain : Bool) → is_plain (course_of r) ≡ plain → IsReadOn (not plain) profile o
+on_by profile None n r known plain is = tt
+on_by profile (Some file) None r known plain is = absurd known
+on_by Strict (Some file) (Some left) r known plain is = ap not (sym (first_plain r.place r.offset r.end r.cued r.after r.open_ended file left known) ∙ is)
+on_by Wide (Some file) (Some left) r known plain is = ap not (sym (whole_reads r.place r.offset r.end r.cued r.after r.open_ended file left known) ∙ is)
+
+pub read_on_as : (profile : Profile) (o n : Option (List ℕ)) (r : Standing) → Stands (scope_in profile) o n r → (plain : Bool) → is_plain (course_of r) ≡ plain → IsReadOn (not plain) profile o
+read_on_as profile o n r stands plain is = on_by profile o n r stands.noted.known plain is
+
+pub either_on : (profile : Profile) (o : Option (List ℕ)) → IsReadOn false profile o ⊎ IsReadOn true profile o
+either_on profile None = inl tt
+either_on profile (Some file) = either_test (reads_on profile)

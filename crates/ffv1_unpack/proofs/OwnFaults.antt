@@ -36,6 +36,7 @@ use Rattle.ffv1_unpack.specs.Show.{IsShowFault, is_show_fault, is_write}
 use Rattle.ffv1_unpack.specs.Unpack.{IsUnpackFaultIn}
 use Rattle.ffv1_unpack.specs.Internal.Unpack.{IsWritingFault}
 use Rattle.ffv1_unpack.specs.Told.{is_telling_fault}
+use Rattle.ffv1_unpack.specs.Internal.Plainly.{IsItemFault}
 use Rattle.ffv1_unpack.specs.Internal.Told.{IsToldFault, WritesFrame}
 use Rattle.ffv1_unpack.proofs.FirstMovis.{reads_alone}
 
@@ -157,6 +158,20 @@ told_after old new p f same stays h = elim h [
   | inr own ↦ inr (at_on old new p old.place new.place f same stays own)
 ]
 
+-- those of plain reading, as those of an item
+pub plain_tells : (plain : Bool) (r : Standing) (left : Option (List ℕ)) (f : Fault) → plain ≡ true → IsToldFault r left f → IsItemFault plain r left f
+plain_tells plain r left f is h = elim h [
+  | inl own ↦ inl own
+  | inr own ↦ inr (is, own)
+]
+
+-- and of reading items on
+pub item_told : (old new : Standing) (p : Passage) (f : Fault) (plain : Bool) → container_of new.place ≡ container_of old.place → (plain ≡ true → StaysReached old new p) → IsItemFault plain new p.new f → IsToldFault old p.old f
+item_told old new p f plain same stays h = elim h [
+  | inl own ↦ inl own
+  | inr own ↦ told_after old new p f same (λ avi. stays own.0) (inr own.1)
+]
+
 pub told_on : (old new : Standing) (p : Passage) (f : Fault) → container_of new.place ≡ container_of old.place → StaysReached old new p → IsToldFault new p.new f → IsToldFault old p.old f
 told_on old new p f same stays h = told_after old new p f same (λ avi. stays) h
 
@@ -172,7 +187,7 @@ within_of Strict place avi = avi refl
 within_of Wide place avi = tt
 
 -- those of a Segment are those of Matroska
-segment_matroska : (f : Fault) → is_segment_fault f ≡ true → is_matroska_fault f ≡ true
+pub segment_matroska : (f : Fault) → is_segment_fault f ≡ true → is_matroska_fault f ≡ true
 segment_matroska fault.BadElement own = refl
 segment_matroska fault.Laced own = refl
 segment_matroska fault.Checksum own = refl

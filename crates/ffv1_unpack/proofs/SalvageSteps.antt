@@ -6,9 +6,10 @@ use Rattle.ffv1_wire.specs.Failures.{one_more}
 use Rattle.ffv1_wire.specs.Passage.{Passage, between}
 use Rattle.ffv1_codec.specs.SliceList.{Said}
 use Rattle.ffv1_reads.specs.Known.{Known}
-use Rattle.ffv1_matroska.specs.Items.{Given, GivesFrame}
-use Rattle.ffv1_matroska.specs.declared.course.Course.{Course}
-use Rattle.ffv1_matroska.specs.declared.items.Item.TheVariants as item
+use Rattle.ffv1_reads.specs.Items.{Given, GivesFrame}
+use Rattle.ffv1_files.specs.declared.course.Course.{Course}
+use Rattle.ffv1_files.specs.declared.course.Course.TheVariants as course
+use Rattle.ffv1_reads.specs.declared.item.Item.TheVariants as item
 use Rattle.ffv1_reads.specs.declared.fault.FileFault.{FileFault}
 use Rattle.ffv1_reads.specs.declared.fault.FileFault.TheVariants as file_fault
 use Rattle.ffv1_files.specs.Answers.{ReadsAs}
@@ -18,7 +19,7 @@ use Rattle.ffv1_reads.specs.Reads.{Stop, given, read_on}
 use Rattle.ffv1_avi.specs.Files as avi
 use Rattle.ffv1_avi.specs.declared.place.Place.{Place as AviPlace}
 use Rattle.ffv1_files.specs.Files.{avi_place}
-use Rattle.ffv1_files.specs.Items.{Next, StopsItem, avi_item, item_of, item_read}
+use Rattle.ffv1_files.specs.Items.{ItemSoFar, Next, StopsCourse, StopsItem, item_of, item_read, plain_item}
 use Rattle.ffv1_files.specs.Places.{InAvi, InMatroska, Place, container_of}
 use Rattle.ffv1_files.specs.declared.container.Container.TheVariants as container
 use Rattle.ffv1_video.specs.declared.fault.Fault.{Fault}
@@ -30,7 +31,7 @@ use Rattle.ffv1_video.proofs.KnownTexts.{known_map}
 use Rattle.ffv1_video.proofs.Output.{take_past}
 use Rattle.ffv1_unpack.specs.Internal.Salvage.{CutBy, ItemSalvaged, ItemShown, NoneGivenBy, SalvageComes, StandsAfter}
 use Rattle.ffv1_unpack.specs.Internal.Told.{FileStops, FileStopsBy}
-use Rattle.ffv1_unpack.specs.Told.{is_telling_fault}
+use Rattle.ffv1_unpack.specs.Internal.Plainly.{is_plain}
 use Rattle.ffv1_unpack.specs.declared.judging.JudgedCounts.{JudgedCounts}
 use Rattle.ffv1_unpack.specs.Judged.{Judged, payload_of}
 use Rattle.ffv1_unpack.specs.JudgedItems.{IsJudgedItem, ItemIs, ItemsFrom, ItemsNext, ItemsOver, JudgedItem, OfFrame, ReadsItems, ToldAt, given_as}
@@ -39,7 +40,7 @@ use Rattle.ffv1_unpack.specs.Stream.{AreAll, CodedFrame, Stream}
 use Rattle.ffv1_unpack.specs.UnpackAll.{FaultNext, LacksNext, LineCut, LinesTold, PictureCut, PicturesShown, ReadFailsNext, SalvageGoes, PictureWritten, SalvageStopsBy, SalvagesAll}
 use Rattle.ffv1_unpack.specs.Unpacked.{is_ppm_stream, rows_by, text_by, text_of}
 use Rattle.ffv1_unpack.proofs.FramesInTurn.{all_more}
-use Rattle.ffv1_unpack.proofs.ItemsJudged.{has_many, has_stays, has_then, items_none, reads_more, up_to}
+use Rattle.ffv1_unpack.proofs.ItemsJudged.{has_many, has_stays, has_then, items_none, reads_more, stops_on, up_to}
 use Rattle.ffv1_unpack.proofs.SalvageLists.{lines_more, shown_more}
 
 -- ---- so far
@@ -267,60 +268,73 @@ module _ (to : Place) (c d : Course) (bytes : List ℕ) (p : Passage) where
   pub told_given : (s : Stream) (from : Place) (f : FileFault) (offset : ℕ) → ReadsAs (item_read from c) p (item_of (item.Told f offset) bytes to d) → SalvageComes s from to c d p (ToldAt f offset)
   told_given s from f offset read = record { is = tt; kept = read.0; next = read.1 }
 
--- what a frame of an AVI is as an item
-abbrev item_by : Course → Result (Option (List ℕ × Place) × List ℕ) Stop → Result (Next × List ℕ) Stop
-item_by c (Ok (None, rest)) = Ok (None, rest)
-item_by c (Ok (Some (bytes, to), rest)) = Ok (Some (GivesFrame bytes, to, c), rest)
-item_by c (Err stop) = Err stop
+-- what a frame is as an item, by plain reading
+abbrev item_by : Result (Option (List ℕ × Place) × List ℕ) Stop → Result (Next × List ℕ) Stop
+item_by (Ok (None, rest)) = Ok (None, rest)
+item_by (Ok (Some (bytes, to), rest)) = Ok (Some (GivesFrame bytes, to, course.Plain), rest)
+item_by (Err stop) = Err stop
 
-item_is : (c : Course) (r : Result (Option (List ℕ × AviPlace) × List ℕ) Stop) → read_on r (λ o. given (avi_item c o)) ≡ item_by c (read_on r (λ o. given (avi_place o)))
-item_is c (Ok (None, rest)) = refl
-item_is c (Ok (Some (bytes, to), rest)) = refl
-item_is c (Err stop) = refl
+item_is : (r : Result (Option (List ℕ × AviPlace) × List ℕ) Stop) → read_on r (λ o. given (plain_item o)) ≡ item_by (read_on r (λ o. given (avi_place o)))
+item_is (Ok (None, rest)) = refl
+item_is (Ok (Some (bytes, to), rest)) = refl
+item_is (Err stop) = refl
 
-by_frame : (place : AviPlace) (c : Course) (text : List ℕ) → item_read (InAvi place) c text ≡ item_by c (frame_read (InAvi place) text)
+by_frame : (place : AviPlace) (text : List ℕ) → item_read (InAvi place) course.Plain text ≡ item_by (frame_read (InAvi place) text)
 unfolding item_read frame_read
-by_frame place c text = item_is c (avi.frame_read place text)
+by_frame place text = item_is (avi.frame_read place text)
 
 avi_not : (size : Option ℕ) → container.Avi ≡ container.Matroska size → ⊥
 avi_not size e = cc
 
-module _ (c : Course) (p : Passage) where
-  pub avi_frame : (from to : Place) (bytes : List ℕ) → container_of from ≡ container.Avi → ReadsAs (frame_read from) p (Some (bytes, to)) → ReadsAs (item_read from c) p (Some (GivesFrame bytes, to, c))
-  avi_frame (InAvi place) to bytes avi read = (
+module _ (p : Passage) where
+  frame_plain : (from to : Place) (bytes : List ℕ) → container_of from ≡ container.Avi → ReadsAs (frame_read from) p (Some (bytes, to)) → ReadsAs (item_read from course.Plain) p (Some (GivesFrame bytes, to, course.Plain))
+  frame_plain (InAvi place) to bytes avi read = (
     read.0,
-    known_map p.old p.new (λ text rest. frame_read (InAvi place) text ≡ Ok (Some (bytes, to), rest)) (λ text rest. item_read (InAvi place) c text ≡ Ok (Some (GivesFrame bytes, to, c), rest))
-        (λ text rest is. by_frame place c text ∙ ap (item_by c) is) read.1,
+    known_map p.old p.new (λ text rest. frame_read (InAvi place) text ≡ Ok (Some (bytes, to), rest)) (λ text rest. item_read (InAvi place) course.Plain text ≡ Ok (Some (GivesFrame bytes, to, course.Plain), rest))
+        (λ text rest is. by_frame place text ∙ ap item_by is) read.1,
   )
-  avi_frame (InMatroska segment track place) to bytes avi read = absurd (avi_not segment (sym avi))
+  frame_plain (InMatroska segment track place) to bytes avi read = absurd (avi_not segment (sym avi))
 
-  pub avi_end : (from : Place) → container_of from ≡ container.Avi → ReadsAs (frame_read from) p None → ReadsAs (item_read from c) p None
-  avi_end (InAvi place) avi read = (
+  end_plain : (from : Place) → container_of from ≡ container.Avi → ReadsAs (frame_read from) p None → ReadsAs (item_read from course.Plain) p None
+  end_plain (InAvi place) avi read = (
     read.0,
-    known_map p.old p.new (λ text rest. frame_read (InAvi place) text ≡ Ok (None, rest)) (λ text rest. item_read (InAvi place) c text ≡ Ok (None, rest)) (λ text rest is. by_frame place c text ∙ ap (item_by c) is) read.1,
+    known_map p.old p.new (λ text rest. frame_read (InAvi place) text ≡ Ok (None, rest)) (λ text rest. item_read (InAvi place) course.Plain text ≡ Ok (None, rest)) (λ text rest is. by_frame place text ∙ ap item_by is) read.1,
   )
-  avi_end (InMatroska segment track place) avi read = absurd (avi_not segment (sym avi))
+  end_plain (InMatroska segment track place) avi read = absurd (avi_not segment (sym avi))
 
-  -- why none comes, of an AVI as a frame is not read
-  avi_stops : (place : AviPlace) (f : Fault) (why : Cause) → FileStopsBy (endings_from (InAvi place)) (frame_read (InAvi place)) p f why → NoneGivenBy (InAvi place) c p f why
-  avi_stops place f Reading h = h
-  avi_stops place f Writing h = absurd h
-  avi_stops place f Memory h = h
-  avi_stops place f Content h = h
+  -- why none comes, as a frame is not read
+  stops_plain : (from : Place) (f : Fault) (why : Cause) → FileStopsBy (endings_from from) (frame_read from) p f why → NoneGivenBy from course.Plain p f why
+  stops_plain from f Reading h = h
+  stops_plain from f Writing h = absurd h
+  stops_plain from f Memory h = h
+  stops_plain from f Content h = h
 
-  pub avi_none : (from : Place) (f : Fault) → container_of from ≡ container.Avi → FileStops (endings_from from) (frame_read from) p f → NoneGivenBy from c p f (cause_of f)
-  avi_none (InAvi place) f avi h = avi_stops place f (cause_of f) h
-  avi_none (InMatroska segment track place) f avi h = absurd (avi_not segment (sym avi))
+module _ (c : Course) (p : Passage) (from : Place) (plain : c ≡ course.Plain) where
+  pub avi_frame : (to : Place) (bytes : List ℕ) → container_of from ≡ container.Avi → ReadsAs (frame_read from) p (Some (bytes, to)) → ReadsAs (item_read from c) p (Some (GivesFrame bytes, to, c))
+  avi_frame to bytes avi read = subst (λ z. ReadsAs (item_read from z) p (Some (GivesFrame bytes, to, z))) (sym plain) (frame_plain p from to bytes avi read)
 
-  pub matroska_none : (from : Place) (size : Option ℕ) (f : FileFault) → container_of from ≡ container.Matroska size → StopsItem from (item_read from c) p f → NoneGivenBy from c p (of_avi f) (cause_of (of_avi f))
-  matroska_none (InAvi place) size f is h = absurd (avi_not size is)
-  matroska_none (InMatroska segment track place) size file_fault.Read is h = (h.0, h.1)
-  matroska_none (InMatroska segment track place) size file_fault.OutOfMemory is h = (h.0, h.1)
-  matroska_none (InMatroska segment track place) size f is h = absurd h
+  pub avi_end : container_of from ≡ container.Avi → ReadsAs (frame_read from) p None → ReadsAs (item_read from c) p None
+  avi_end avi read = subst (λ z. ReadsAs (item_read from z) p None) (sym plain) (end_plain p from avi read)
 
-  -- by a fault that telling frames has
-  pub matroska_own : (from : Place) (size : Option ℕ) (f : FileFault) → container_of from ≡ container.Matroska size → StopsItem from (item_read from c) p f → is_telling_fault (of_avi f) ≡ true
-  matroska_own (InAvi place) size f is h = absurd (avi_not size is)
-  matroska_own (InMatroska segment track place) size file_fault.Read is h = refl
-  matroska_own (InMatroska segment track place) size file_fault.OutOfMemory is h = refl
-  matroska_own (InMatroska segment track place) size f is h = absurd h
+  pub avi_none : (f : Fault) → FileStops (endings_from from) (frame_read from) p f → NoneGivenBy from c p f (cause_of f)
+  avi_none f h = subst (λ z. NoneGivenBy from z p f (cause_of f)) (sym plain) (stops_plain p from f (cause_of f) h)
+
+-- by a course that reads on
+reads_next : (from : Place) (c : Course) → is_plain c ≡ false → (at rest : List ℕ) → ItemSoFar (item_read from c) at rest → ReadFailsNext from c at rest
+reads_next from course.Plain reads at rest h = absurd (let no : true ≡ false = reads in cc)
+reads_next from (course.Avi c repeated) reads at rest h = h
+reads_next from (course.Matroska c) reads at rest h = h
+
+lacks_next : (from : Place) (c : Course) → is_plain c ≡ false → (at rest : List ℕ) → ItemSoFar (item_read from c) at rest → LacksNext from c at rest
+lacks_next from course.Plain reads at rest h = absurd (let no : true ≡ false = reads in cc)
+lacks_next from (course.Avi c repeated) reads at rest h = h
+lacks_next from (course.Matroska c) reads at rest h = h
+
+module _ (c : Course) (p : Passage) (from : Place) (reads : is_plain c ≡ false) where
+  none_on : (f : FileFault) → StopsCourse (item_read from c) p f → NoneGivenBy from c p (of_avi f) (cause_of (of_avi f))
+  none_on file_fault.Read h = (h.0, known_map p.old p.new (ItemSoFar (item_read from c)) (ReadFailsNext from c) (reads_next from c reads) h.1)
+  none_on file_fault.OutOfMemory h = (h.0, known_map p.old p.new (ItemSoFar (item_read from c)) (LacksNext from c) (lacks_next from c reads) h.1)
+  none_on f h = absurd h
+
+  pub given_none : (f : FileFault) → StopsItem from c (item_read from c) p f → NoneGivenBy from c p (of_avi f) (cause_of (of_avi f))
+  given_none f h = none_on f (stops_on from c reads (item_read from c) p f h)

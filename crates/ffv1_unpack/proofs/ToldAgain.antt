@@ -8,10 +8,10 @@ use Rattle.ffv1_wire.specs.Passage.{Passage, between}
 use Rattle.ffv1_record.specs.Accepted.{Accepted}
 use Rattle.ffv1_reads.specs.Known.{Known}
 use Rattle.ffv1_matroska.specs.CuedItems.{CuedBy}
-use Rattle.ffv1_matroska.specs.Items.{Given}
+use Rattle.ffv1_reads.specs.Items.{Given}
 use Rattle.ffv1_matroska.specs.declared.told.ToldFault.{ToldFault}
-use Rattle.ffv1_files.specs.Behind.{items_noted, notes_read}
-use Rattle.ffv1_files.specs.Items.{course_by, course_of}
+use Rattle.ffv1_files.specs.Behind.{items_noted}
+use Rattle.ffv1_files.specs.Items.{course_of}
 use Rattle.ffv1_files.specs.Readers.{Standing}
 use Rattle.ffv1_files.specs.Salvaged.{IsSalvaged, given_told}
 use Rattle.ffv1_video.specs.declared.profile.Profile.{Profile}
@@ -23,7 +23,7 @@ use Rattle.ffv1_video.proofs.KnownTexts.{known_map, known_then}
 use Rattle.ffv1_video.proofs.Output.{take_past}
 use Rattle.ffv1_unpack.specs.AllItems.{CameBy, DoneBy, EndedBy, StopsBy}
 use Rattle.ffv1_unpack.specs.Behind.{Looks}
-use Rattle.ffv1_unpack.specs.ItemsEnd.{cued_left, ends_at}
+use Rattle.ffv1_unpack.specs.ItemsEnd.{cued_left}
 use Rattle.ffv1_unpack.specs.JudgedItems.{ItemsAll, ItemsFrom, ItemsGo, ItemsLack, ItemsNext, ItemsOver, ItemsStay, ItemsStopBy, ItemsWant, ItemsWritten, JudgedItem, faults_of, given_as, item_lines}
 use Rattle.ffv1_unpack.specs.Play.{but_last}
 use Rattle.ffv1_unpack.specs.ToldItems.{ToldFailsBy, ToldItemsEnd, ToldItemsThen, ToldOpens, told_items, told_lines}
@@ -34,9 +34,10 @@ use Rattle.ffv1_unpack.specs.Internal.Reopens.{Reopens, first_told}
 use Rattle.ffv1_unpack.specs.Internal.Told.{WritesFrame}
 use Rattle.ffv1_unpack.specs.Internal.ItemsEnd.{BehindAnswers, BehindFailsBy}
 use Rattle.ffv1_unpack.specs.Judged.{counts_line}
+use Rattle.ffv1_files.specs.declared.course.Course.{Course}
 use Rattle.ffv1_files.specs.declared.notes.Notes.{Notes}
 use Rattle.ffv1_video.specs.declared.fault.Fault.TheVariants as fault
-use Rattle.ffv1_unpack.proofs.FileEnded.{end_at}
+use Rattle.ffv1_unpack.proofs.ItemsCourse.{Goes, looks_there}
 use Rattle.ffv1_unpack.proofs.ItemsEnding.{ToldBehind, all_done, count_stops, end_fails_by, ended, none_judged, told_behind}
 use Rattle.ffv1_unpack.proofs.ToldFirst.{are_told, but_last_told, frames_told, given_first, lines_told}
 
@@ -67,7 +68,7 @@ module _ (profile : Profile) (i0 i1 i2 : Option (List ℕ)) (ib im ia : ℕ) (r 
   abbrev told : List Given
   told = map (given_told start) ts
 
-  has_told : (is : List Given) (Next : ItemsNext) → Known i1 i2 (ItemsFrom r.place (course_of r) is Next) → Known i0 i2 (ToldItemsThen r.head (told ++ is) Next)
+  pub has_told : (is : List Given) (Next : ItemsNext) → Known i1 i2 (ItemsFrom r.place (course_of r) is Next) → Known i0 i2 (ToldItemsThen r.head (told ++ is) Next)
   has_told is Next has =
       known_map i0 i2 (λ file rest. (left : List ℕ) × IsSalvaged file left r.head r.place r.offset told × ItemsFrom r.place (course_of r) is Next left rest) (ToldItemsThen r.head (told ++ is) Next)
       (λ file rest p. (told, is, refl, r.place, r.offset, p.0, p.1, p.2))
@@ -123,14 +124,14 @@ module _ (profile : Profile) (i0 i1 i2 : Option (List ℕ)) (ib im ia : ℕ) (r 
     items_stop_told f h = inl (record { stream = stream_of r a; is = opens.stream; stops = stops_told (cause_of f) h })
 
 -- the lines of what is told are not written
-module _ (profile : Profile) (place : Bool) (i0 i1 : Option (List ℕ)) (ib im : ℕ) (r : Standing) (a : Accepted) (start : ℕ) (ts : List ToldFault) (opens : Reopens profile (between i0 i1 ib im) start ts r a) (output : Passage) where
+module _ (profile : Profile) (i0 i1 : Option (List ℕ)) (ib im : ℕ) (r : Standing) (a : Accepted) (start : ℕ) (ts : List ToldFault) (opens : Reopens profile (between i0 i1 ib im) start ts r a) (output : Passage) where
   told_opens : ToldOpens profile (between i0 i1 ib im) (stream_of r a) start ts
   told_opens = record { is = opens.stream; from = r.place; offset = r.offset; known = opens.known; kept = opens.kept }
 
-  pub lines_fail : (f : Fault) → WritesFrame (told_lines start ts) output (Err f) → ToldFailsBy profile place (between i0 i1 ib im) output (cause_of f)
+  pub lines_fail : (f : Fault) → WritesFrame (told_lines start ts) output (Err f) → ToldFailsBy profile (between i0 i1 ib im) output (cause_of f)
   lines_fail f h = elim h [
     | inl write ↦
-        subst (λ z. ToldFailsBy profile place (between i0 i1 ib im) output (cause_of z)) (sym write.0) (
+        subst (λ z. ToldFailsBy profile (between i0 i1 ib im) output (cause_of z)) (sym write.0) (
           stream_of r a,
           start,
           ts,
@@ -138,64 +139,58 @@ module _ (profile : Profile) (place : Bool) (i0 i1 : Option (List ℕ)) (ib im :
           write.1,
           record { count = write.2.0; enough = omega arith; short = write.2.1; writes = write.2.2 },
         )
-    | inr none ↦ subst (λ z. ToldFailsBy profile place (between i0 i1 ib im) output (cause_of z)) (sym none.0) (stream_of r a, start, ts, told_opens, record { same = none.1; kept = none.2 })
+    | inr none ↦ subst (λ z. ToldFailsBy profile (between i0 i1 ib im) output (cause_of z)) (sym none.0) (stream_of r a, start, ts, told_opens, record { same = none.1; kept = none.2 })
   ]
 
 -- ---- what comes after its end
 
-module _ (profile : Profile) (place : Bool) (i0 i1 i2 i3 : Option (List ℕ)) (ib im ia ic : ℕ) (r : Standing) (a : Accepted) (start : ℕ) (ts : List ToldFault) (opens : Reopens profile (between i0 i1 ib im) start ts r a) (cued : Bool)
-    (cues : CuedBy (cued_left r.place (course_of r) false) i1 i2 cued) where
-  looked_told : (Looked : ℕ → Looks) (at left rest : List ℕ) → cued ≡ cued_left r.place (course_of r) false at → Looked r.end (items_noted r cued) left rest →
-      Looked (ends_at r.place r.offset) (notes_read r.place (ends_at r.place r.offset) (cued_left r.place (course_by r.place r.offset) false at) r.after r.repeated r.others) left rest
-  looked_told Looked at left rest same looked =
-      subst (λ e. Looked e (notes_read r.place e (cued_left r.place (course_by r.place r.offset) false at) r.after r.repeated r.others) left rest) (end_at r.place r.offset r.end opens.segment opens.ends)
-      (subst (λ b. Looked r.end (notes_read r.place r.end b r.after r.repeated r.others) left rest) same looked)
+module _ (profile : Profile) (place : Bool) (i0 i1 i2 i3 : Option (List ℕ)) (ib im ia ic : ℕ) (r : Standing) (a : Accepted) (start : ℕ) (ts : List ToldFault) (opens : Reopens profile (between i0 i1 ib im) start ts r a) (course : Course) (cued : Bool)
+    (cues : CuedBy (cued_left r.place (course_of r) false) i1 i2 cued) (goes : Goes r i1 i2 course) where
+  pub end_told : (is : List Given) (Looked : ℕ → Looks) (o0 o1 o2 o3 : Option (List ℕ)) → Known o0 o1 (λ file rest. IsSalvaged file rest r.head r.place r.offset (map (given_told start) ts)) →
+      CuedBy (cued_left r.place (course_of r) false) o1 o2 cued → Goes r o1 o2 course → Known o1 o2 (ItemsFrom r.place (course_of r) is (ItemsOver (length is))) → Known o2 o3 (λ text rest. Looked r.end (items_noted r course cued) text rest) → Known o0 o3 (ToldItemsEnd r.head (map (given_told start) ts ++ is) Looked)
+  end_told is Looked None o1 o2 o3 known same to has looked = tt
+  end_told is Looked (Some file) None o2 o3 known same to has looked = absurd known
+  end_told is Looked (Some file) (Some at) None o3 known same to has looked = absurd has
+  end_told is Looked (Some file) (Some at) (Some left) None known same to has looked = absurd looked
+  end_told is Looked (Some file) (Some at) (Some left) (Some rest) known same to has looked = (map (given_told start) ts, is, refl, r, at, left, known, opens.ends, has, looks_there r course cued Looked at left rest same to looked)
 
-  end_told : (is : List Given) (Looked : ℕ → Looks) (o0 o1 o2 o3 : Option (List ℕ)) → Known o0 o1 (λ file rest. IsSalvaged file rest r.head r.place r.offset (map (given_told start) ts)) →
-      CuedBy (cued_left r.place (course_of r) false) o1 o2 cued → Known o1 o2 (ItemsFrom r.place (course_of r) is (ItemsOver (length is))) → Known o2 o3 (λ text rest. Looked r.end (items_noted r cued) text rest) → Known o0 o3 (ToldItemsEnd r.head (map (given_told start) ts ++ is) Looked)
-  end_told is Looked None o1 o2 o3 known same has looked = tt
-  end_told is Looked (Some file) None o2 o3 known same has looked = absurd known
-  end_told is Looked (Some file) (Some at) None o3 known same has looked = absurd has
-  end_told is Looked (Some file) (Some at) (Some left) None known same has looked = absurd looked
-  end_told is Looked (Some file) (Some at) (Some left) (Some rest) known same has looked = (map (given_told start) ts, is, refl, r.place, r.offset, at, left, r.after, r.repeated, r.others, known, has, looked_told Looked at left rest same looked)
-
-  pub came_told : (o0 o1 : Option (List ℕ)) (ob om : ℕ) (xs : List JudgedItem) → ItemsAll (ItemsFrom r.place (course_of r)) a place (between i1 i2 im ia) (between o0 o1 ob om) xs → (o oz : Option (List ℕ)) (n nz : ℕ) (Looked : ℕ → Looks) → Known i2 i3 (λ text rest. Looked r.end (items_noted r cued) text rest) →
+  pub came_told : (o0 o1 : Option (List ℕ)) (ob om : ℕ) (xs : List JudgedItem) → ItemsAll (ItemsFrom r.place (course_of r)) a place (between i1 i2 im ia) (between o0 o1 ob om) xs → (o oz : Option (List ℕ)) (n nz : ℕ) (Looked : ℕ → Looks) → Known i2 i3 (λ text rest. Looked r.end (items_noted r course cued) text rest) →
       CameBy ToldItemsThen ToldItemsEnd profile place (between i0 i3 ib ic) (between oz o nz n) (stream_of r a) (told_items start ts ++ xs) Looked
   came_told o0 o1 ob om xs all o oz n nz Looked looked = record {
     is = opens.stream;
     are = are_told start a ts xs all.go.are;
     ends = subst (λ z. Known i0 i3 (ToldItemsEnd r.head z Looked)) (sym (given_first start ts xs))
-        (end_told (map given_as xs) Looked i0 i1 i2 i3 opens.known cues
+        (end_told (map given_as xs) Looked i0 i1 i2 i3 opens.known cues goes
         (subst (λ n. Known i1 i2 (ItemsFrom r.place (course_of r) (map given_as xs) (ItemsOver n))) (sym (length-map xs given_as)) all.go.has) looked);
   }
 
 -- ---- all of it
 
-module _ (profile : Profile) (place : Bool) (i0 i1 i2 i3 : Option (List ℕ)) (ib im ia ic : ℕ) (r : Standing) (a : Accepted) (start : ℕ) (ts : List ToldFault) (opens : Reopens profile (between i0 i1 ib im) start ts r a) (cued : Bool)
-    (cues : CuedBy (cued_left r.place (course_of r) false) i1 i2 cued) (o0 o1 o2 o3 : Option (List ℕ)) (ob om oa oc : ℕ) (first : (om ≡ ob) × Appends o0 o1 (told_lines start ts)) (xs : List JudgedItem)
+module _ (profile : Profile) (place : Bool) (i0 i1 i2 i3 : Option (List ℕ)) (ib im ia ic : ℕ) (r : Standing) (a : Accepted) (start : ℕ) (ts : List ToldFault) (opens : Reopens profile (between i0 i1 ib im) start ts r a) (course : Course) (cued : Bool)
+    (cues : CuedBy (cued_left r.place (course_of r) false) i1 i2 cued) (goes : Goes r i1 i2 course) (o0 o1 o2 o3 : Option (List ℕ)) (ob om oa oc : ℕ) (first : (om ≡ ob) × Appends o0 o1 (told_lines start ts)) (xs : List JudgedItem)
     (all : ItemsAll (ItemsFrom r.place (course_of r)) a place (between i1 i2 im ia) (between o1 o2 om oa) xs) (counts : JudgedCounts) (were : AreItemCounts counts (told_items start ts ++ xs)) where
   abbrev items : List JudgedItem
   items = told_items start ts ++ xs
 
-  pub came_here : (o : Option (List ℕ)) (n : ℕ) (Looked : ℕ → Looks) → Known i2 i3 (λ text rest. Looked r.end (items_noted r cued) text rest) → CameBy ToldItemsThen ToldItemsEnd profile place (between i0 i3 ib ic) (between o0 o ob n) (stream_of r a) items Looked
-  came_here o n Looked looked = came_told profile place i0 i1 i2 i3 ib im ia ic r a start ts opens cued cues o1 o2 om oa xs all o o0 n ob Looked looked
+  pub came_here : (o : Option (List ℕ)) (n : ℕ) (Looked : ℕ → Looks) → Known i2 i3 (λ text rest. Looked r.end (items_noted r course cued) text rest) → CameBy ToldItemsThen ToldItemsEnd profile place (between i0 i3 ib ic) (between o0 o ob n) (stream_of r a) items Looked
+  came_here o n Looked looked = came_told profile place i0 i1 i2 i3 ib im ia ic r a start ts opens course cued cues goes o1 o2 om oa xs all o o0 n ob Looked looked
 
   pub writes_here : Appends o0 o2 (item_lines place a.configuration items)
   writes_here = writes_told profile i0 i1 i2 ib im ia r a start ts opens place o0 o1 o2 ob om oa first.0 first.1 xs all.wrote.writes
 
   abbrev pub Behind : JudgedCounts → Notes → Type 0
-  Behind = ToldBehind ToldItemsThen ToldItemsEnd profile place i0 i2 i3 ib ia ic r a cued o0 o2 o3 ob oa oc items counts were came_here writes_here (all.wrote.written ∙ first.0) (all.kept ∙ opens.kept)
+  Behind = ToldBehind ToldItemsThen ToldItemsEnd profile place i0 i2 i3 ib ia ic r a course cued o0 o2 o3 ob oa oc items counts were came_here writes_here (all.wrote.written ∙ first.0) (all.kept ∙ opens.kept)
 
-  pub behind_here : (new : JudgedCounts) (notes : Notes) → BehindAnswers r cued (between i2 i3 ia ic) (between o2 o3 oa oc) counts new (Ok notes) → Behind new notes
-  behind_here new notes h = told_behind ToldItemsThen ToldItemsEnd profile place i0 i2 i3 ib ia ic r a cued o0 o2 o3 ob oa oc items counts were came_here writes_here (all.wrote.written ∙ first.0) (all.kept ∙ opens.kept) new notes h
+  pub behind_here : (new : JudgedCounts) (notes : Notes) → BehindAnswers r course cued (between i2 i3 ia ic) (between o2 o3 oa oc) counts new (Ok notes) → Behind new notes
+  behind_here new notes h = told_behind ToldItemsThen ToldItemsEnd profile place i0 i2 i3 ib ia ic r a course cued o0 o2 o3 ob oa oc items counts were came_here writes_here (all.wrote.written ∙ first.0) (all.kept ∙ opens.kept) new notes h
 
   pub ended_here : (new : JudgedCounts) (notes : Notes) (told : Behind new notes) (o : Option (List ℕ)) (n : ℕ) → EndedBy ToldItemsThen ToldItemsEnd profile place (between i0 i3 ib ic) (between o0 o ob n) (stream_of r a) items told.behind notes
-  ended_here new notes told o n = ended ToldItemsThen ToldItemsEnd profile place i0 i2 i3 ib ia ic r a cued o0 o2 o3 ob oa oc items counts were came_here writes_here (all.wrote.written ∙ first.0) (all.kept ∙ opens.kept) new notes told o n
+  ended_here new notes told o n = ended ToldItemsThen ToldItemsEnd profile place i0 i2 i3 ib ia ic r a course cued o0 o2 o3 ob oa oc items counts were came_here writes_here (all.wrote.written ∙ first.0) (all.kept ∙ opens.kept) new notes told o n
 
-  pub end_stops_here : (f : Fault) → BehindFailsBy r cued (between i2 i3 ia ic) (between o2 o3 oa oc) (cause_of f) → StopsBy ToldItemsThen ToldItemsEnd profile place (between i0 i3 ib ic) (between o0 o3 ob oc) f
-  end_stops_here f h = inr (inl (end_fails_by ToldItemsThen ToldItemsEnd profile place i0 i2 i3 ib ia ic r a cued o0 o2 o3 ob oa oc items counts were came_here writes_here (all.wrote.written ∙ first.0) (all.kept ∙ opens.kept) (cause_of f) h))
+  pub end_stops_here : (f : Fault) → BehindFailsBy r course cued (between i2 i3 ia ic) (between o2 o3 oa oc) (cause_of f) → StopsBy ToldItemsThen ToldItemsEnd profile place (between i0 i3 ib ic) (between o0 o3 ob oc) f
+  end_stops_here f h = inr (inl (end_fails_by ToldItemsThen ToldItemsEnd profile place i0 i2 i3 ib ia ic r a course cued o0 o2 o3 ob oa oc items counts were came_here writes_here (all.wrote.written ∙ first.0) (all.kept ∙ opens.kept) (cause_of f) h))
 
-  module _ (new : JudgedCounts) (notes : Notes) (answer : BehindAnswers r cued (between i2 i3 ia ic) (between o2 o3 oa oc) counts new (Ok notes)) where
+  module _ (new : JudgedCounts) (notes : Notes) (answer : BehindAnswers r course cued (between i2 i3 ia ic) (between o2 o3 oa oc) counts new (Ok notes)) where
     there : Behind new notes
     there = behind_here new notes answer
 

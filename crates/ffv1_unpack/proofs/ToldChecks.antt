@@ -1,5 +1,5 @@
 -- A file that is refused plainly is checked again.
-use Rattle.std.proofs.Common.{◌≡◌, ◌⊎◌, ℕ, Bool, false, true, Option, Result, Ok, Err, IfErr, IfOk, List, [], inl, inr, sym, subst, ◌∙◌}
+use Rattle.std.proofs.Common.{◌≡◌, ◌⊎◌, ℕ, Bool, false, true, Option, Result, Ok, Err, IfErr, IfOk, List, [], inl, inr, ap, sym, subst, ◌∙◌}
 use Rattle.ffv1_wire.specs.Passage.{Passage, between}
 use Rattle.ffv1_reads.specs.Known.{Known}
 use Rattle.ffv1_files.specs.declared.notes.Notes.{Notes}
@@ -15,11 +15,14 @@ use Rattle.ffv1_unpack.specs.Opens.{IsReadAgain, LacksOpening}
 use Rattle.ffv1_unpack.specs.Play.{LacksStream}
 use Rattle.ffv1_unpack.specs.Told.{is_telling_fault}
 use Rattle.ffv1_unpack.specs.ToldItems.{AgainFault, CantOpen, HasToldFault, IsTriedAgain, ToldItemsEnd, ToldItemsThen, is_told}
+use Rattle.ffv1_files.specs.Items.{course_by, course_of}
 use Rattle.ffv1_files.specs.Places.{InAvi, InMatroska, Place, container_of}
 use Rattle.ffv1_files.specs.Readers.{Standing}
 use Rattle.ffv1_unpack.specs.Internal.Containers.{is_segment, told_at}
+use Rattle.ffv1_unpack.specs.Internal.Plainly.{is_plain}
 use Rattle.ffv1_unpack.specs.Internal.Told.{IsToldFault, WritesFrame}
 use Rattle.ffv1_unpack.proofs.ItemsJudged.{line_own}
+use Rattle.ffv1_unpack.proofs.ItemsCourse.{plain_avi}
 use Rattle.ffv1_unpack.proofs.ReadAgain.{other_again, telling_again}
 
 pub either_err : {X E : Type 0} (P Q : E → Type 0) (r : Result X E) → IfErr r P → IfErr r (λ e. P e ⊎ Q e)
@@ -35,19 +38,19 @@ err_so P Q (Ok x) so h = h
 err_so P Q (Err e) so h = so e h
 
 -- such a fault is one of the file's content
-told_content : (profile : Profile) (p : Passage) (f : Fault) → is_told f ≡ true → LacksOpening profile p f → (p.after ≡ p.before) × LacksStream profile p.old p.new f
+pub told_content : (profile : Profile) (p : Passage) (f : Fault) → is_told f ≡ true → LacksOpening profile p f → (p.after ≡ p.before) × LacksStream profile p.old p.new f
 told_content profile p fault.Checksum is h = h
 told_content profile p fault.BadElement is h = h
 told_content profile p f is h = absurd (cc)
 
-told_tracks : (f : Fault) → is_told f ≡ true → f ≡ fault.NoTracks → ⊥
+pub told_tracks : (f : Fault) → is_told f ≡ true → f ≡ fault.NoTracks → ⊥
 told_tracks f is same = absurd (let no : false ≡ true = subst (λ z. is_told z ≡ true) same is in cc)
 
 module _ (profile : Profile) (place : Bool) (i0 i1 i3 : Option (List ℕ)) (ib im id : ℕ) (output : Passage) (f : Fault) (is : is_told f ≡ true) (lacks : LacksOpening profile (between i0 i1 ib im) f) where
   kept : im ≡ ib
   kept = (told_content profile (between i0 i1 ib im) f is lacks).0
 
-  has : HasToldFault profile place (between i0 i3 ib id) output
+  has : HasToldFault profile (between i0 i3 ib id)
   has = (i1, f, is, (told_content profile (between i0 i1 ib im) f is lacks).1)
 
   pub again_ok : (first : Option Fault) (notes : Notes) → DoneBy ToldItemsThen ToldItemsEnd profile place (between i0 i3 im id) output first notes → AllDone profile place (between i0 i3 ib id) output first notes
@@ -100,6 +103,28 @@ module _ (profile : Profile) (begins : Bool) (p : Passage) where
   pub tried_avi : (r : Standing) (left : Option (List ℕ)) (f : Fault) → is_segment (container_of r.place) ≡ false → IsToldFault r left f → IsTriedAgain profile begins p f
   tried_avi r left f avi (inl telling) = tried_telling f telling
   tried_avi r left f avi (inr h) = told_avi r left r.place f avi h
+
+-- where the first movi alone is read
+plain_place : (place : Place) (offset : ℕ) → is_plain (course_by place offset) ≡ true → is_segment (container_of place) ≡ false
+plain_place place offset plain = ap is_segment (plain_avi place offset plain)
+
+module _ (profile : Profile) (begins : Bool) (p : Passage) where
+  pub plain_tried : (r : Standing) (left : Option (List ℕ)) → is_plain (course_of r) ≡ true → (f : Fault) → (f ≡ fault.NoFrames) ⊎ IsToldFault r left f → IsTriedAgain profile begins p f
+  plain_tried r left plain f (inl none) = subst (IsTriedAgain profile begins p) (sym none) (λ told able. absurd (let no : false ≡ true = told in cc))
+  plain_tried r left plain f (inr told) = tried_avi profile begins p r left f (plain_place r.place r.offset plain) told
+
+  -- and where items are judged
+  pub on_tried : (f : Fault) → (is_telling_fault f ≡ true) ⊎ (f ≡ fault.NoFrames) → IsTriedAgain profile begins p f
+  on_tried f (inl telling) = tried_telling profile begins p f telling
+  on_tried f (inr none) = subst (IsTriedAgain profile begins p) (sym none) (λ told able. absurd (let no : false ≡ true = told in cc))
+
+  pub on_again : (f : Fault) → (is_telling_fault f ≡ true) ⊎ (f ≡ fault.NoFrames) → IsReadAgain profile begins p f
+  on_again f (inl telling) = telling_again profile begins p f telling
+  on_again f (inr none) = subst (IsReadAgain profile begins p) (sym none) tt
+
+pub on_checks : (profile : Profile) (f : Fault) → (is_telling_fault f ≡ true) ⊎ (f ≡ fault.NoFrames) → IsCheckFault profile f
+on_checks profile f (inl telling) = inr (inl telling)
+on_checks profile f (inr none) = inr (inr (inl none))
 
 -- as it is judged it has no such fault
 no_stop : {P : Type 0} (profile : Profile) (place : Bool) (input output : Passage) (f : Fault) → is_told f ≡ true → AgainFault profile place input output f → P

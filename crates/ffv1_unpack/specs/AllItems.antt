@@ -7,7 +7,7 @@ use Rattle.ffv1_wire.specs.Passage.{Passage}
 use Rattle.ffv1_reads.specs.Head.{Head}
 use Rattle.ffv1_reads.specs.Known.{Known}
 use Rattle.ffv1_reads.specs.declared.fault.FileFault.TheVariants as file_fault
-use Rattle.ffv1_matroska.specs.Items.{Given}
+use Rattle.ffv1_reads.specs.Items.{Given}
 use Rattle.ffv1_files.specs.declared.notes.Notes.{Notes}
 use Rattle.ffv1_video.specs.declared.profile.Profile.{Profile}
 use Rattle.ffv1_video.specs.declared.fault.Fault.{Fault}

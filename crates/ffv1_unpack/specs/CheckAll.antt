@@ -12,7 +12,7 @@ use Rattle.ffv1_video.specs.declared.profile.Profile.{Profile}
 use Rattle.ffv1_video.specs.declared.fault.Fault.{Fault}
 use Rattle.ffv1_unpack.specs.Behind.{NotedIn}
 use Rattle.ffv1_unpack.specs.Checked.{CheckedRangeStops, CheckedStops}
-use Rattle.ffv1_unpack.specs.Containers.{IsReadAs}
+use Rattle.ffv1_unpack.specs.Containers.{IsReadOn}
 use Rattle.ffv1_unpack.specs.Judged.{IsJudged, Judged, counts_line, judged_from, judged_lines}
 use Rattle.ffv1_unpack.specs.Judged.{payload_of, payloads_of, refusals}
 use Rattle.ffv1_unpack.specs.AllItems.{ItemsDone, ItemsFault}
@@ -54,18 +54,19 @@ module _ (profile : Profile) (place : Bool) (input output : Passage) where
       CheckedStops IsJudged payload_of (judged_lines place) judged_count profile place input output
       f
 
-  -- of a file that is no Matroska its frames, up to the first fault of the file itself; of Matroska
-  -- all that it gives; if it can't be opened plainly, that and what is told before its frames
+  -- of a file of which the first movi alone is read its frames, up to the first fault of the file
+  -- itself; else all that it gives; if it can't be opened plainly, that and what is told before its
+  -- frames
   abbrev pub AllDone : Option Fault → Notes → Type 0
   AllDone first notes =
-      (IsReadAs false profile input.old × CheckAllDone first notes)
-      ⊎ (IsReadAs true profile input.old × ItemsDone profile place input output first notes)
+      (IsReadOn false profile input.old × CheckAllDone first notes)
+      ⊎ (IsReadOn true profile input.old × ItemsDone profile place input output first notes)
       ⊎ AgainDone profile place input output first notes
 
   abbrev pub AllStops : Fault → Type 0
   AllStops f =
-      (IsReadAs false profile input.old × CheckAllStops f)
-      ⊎ (IsReadAs true profile input.old × ItemsFault profile place input output f)
+      (IsReadOn false profile input.old × CheckAllStops f)
+      ⊎ (IsReadOn true profile input.old × ItemsFault profile place input output f)
       ⊎ AgainStops profile place input output f
 
 -- ---- the frames of a range

@@ -14,6 +14,7 @@ pub mod Md5List
 pub mod Opens
 pub mod Passing
 pub mod PicturesOut
+pub mod Plainly
 pub mod Play
 pub mod Plays
 pub mod Salvage

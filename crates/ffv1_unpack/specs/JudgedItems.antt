@@ -1,5 +1,5 @@
--- Judging what a Matroska file gives that may be damaged: frames that code a picture or are
--- refused, and faults of the file that are told, each with the number of bytes before its element.
+-- Judging what a file gives that may be damaged: frames that code a picture or are refused, and
+-- faults of the file that are told, each with the number of bytes before its element or chunk.
 use Rattle.std.specs.Prelude.{◌≡◌, ◌⊎◌, ◌^◌, ◌-◌, ℕ, Bool, List, [], ◌∷◌, ◌++◌, length}
 use Rattle.std.specs.Prelude.{map, codes, decimal, Option, Some, None, Ok, ⊤}
 use Rattle.std.specs.Io.KnownBytes.{Appends}
@@ -13,8 +13,8 @@ use Rattle.ffv1_reads.specs.Head.{Head}
 use Rattle.ffv1_reads.specs.Known.{Known}
 use Rattle.ffv1_reads.specs.declared.fault.FileFault.{FileFault}
 use Rattle.ffv1_reads.specs.declared.fault.FileFault.TheVariants as file_fault
-use Rattle.ffv1_matroska.specs.Items.{Given, GivesFrame, Tells}
-use Rattle.ffv1_matroska.specs.declared.course.Course.{Course}
+use Rattle.ffv1_reads.specs.Items.{Given, GivesFrame, Tells}
+use Rattle.ffv1_files.specs.declared.course.Course.{Course}
 use Rattle.ffv1_files.specs.Files.{open_read}
 use Rattle.ffv1_files.specs.Items.{ItemSoFar, course_by, item_read}
 use Rattle.ffv1_files.specs.Offsets.{PlaceReached}

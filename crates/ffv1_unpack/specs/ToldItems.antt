@@ -9,13 +9,14 @@ use Rattle.ffv1_record.specs.declared.fault.RecordFault.{RecordFault}
 use Rattle.ffv1_reads.specs.Head.{Head}
 use Rattle.ffv1_reads.specs.Known.{Known}
 use Rattle.ffv1_reads.specs.declared.fault.FileFault.{FileFault}
-use Rattle.ffv1_matroska.specs.Items.{Given}
+use Rattle.ffv1_reads.specs.Items.{Given}
 use Rattle.ffv1_matroska.specs.Salvaged.{salvage_read}
 use Rattle.ffv1_matroska.specs.declared.told.ToldFault.{ToldFault}
 use Rattle.ffv1_files.specs.Answers as files
-use Rattle.ffv1_files.specs.Behind.{notes_read}
-use Rattle.ffv1_files.specs.Items.{course_by}
+use Rattle.ffv1_files.specs.Behind.{EndsThere}
+use Rattle.ffv1_files.specs.Items.{course_by, course_of}
 use Rattle.ffv1_files.specs.Places.{Place}
+use Rattle.ffv1_files.specs.Readers.{Standing}
 use Rattle.ffv1_files.specs.Salvaged.{IsSalvaged, given_told, told_offset}
 use Rattle.ffv1_files.specs.declared.notes.Notes.{Notes}
 use Rattle.ffv1_video.specs.declared.profile.Profile.{Profile}
@@ -27,7 +28,7 @@ use Rattle.ffv1_video.specs.Output.{Silent, WritesUpTo}
 use Rattle.ffv1_video.specs.Profiles.{byte_told, greatest_depth, record_profile, scope_in}
 use Rattle.ffv1_unpack.specs.AllItems.{DoneBy, StopsBy}
 use Rattle.ffv1_unpack.specs.Behind.{Looks}
-use Rattle.ffv1_unpack.specs.ItemsEnd.{cued_left, ends_at}
+use Rattle.ffv1_unpack.specs.ItemsEnd.{EndLooks}
 use Rattle.ffv1_unpack.specs.JudgedItems.{ItemsFrom, ItemsNext, ItemsOver, JudgedItem, ToldAt}
 use Rattle.ffv1_unpack.specs.JudgedItems.{told_line}
 use Rattle.ffv1_unpack.specs.Located.{LocatedFault, WritesLocated}
@@ -47,13 +48,11 @@ ToldItemsThen head items Next file rest =
 -- after its end, as of a file that opens plainly
 abbrev pub ToldItemsEnd : Head → List Given → (ℕ → Looks) → List ℕ → List ℕ → Type 0
 ToldItemsEnd head items Looked file rest =
-    (told : List Given) × (later : List Given) × (items ≡ told ++ later) × (from : Place)
-    × (offset : ℕ) × (behind : List ℕ) × (left : List ℕ) × (after : Option ℕ) × (repeated : ℕ)
-    × (others : ℕ) × IsSalvaged file behind head from offset told
-    × ItemsFrom from (course_by from offset) later (ItemsOver (length later)) behind left
-    × Looked (ends_at from offset)
-    (notes_read from (ends_at from offset) (cued_left from (course_by from offset) false behind)
-    after repeated others) left rest
+    (told : List Given) × (later : List Given) × (items ≡ told ++ later) × (r : Standing)
+    × (behind : List ℕ) × (left : List ℕ) × IsSalvaged file behind head r.place r.offset told
+    × EndsThere r
+    × ItemsFrom r.place (course_of r) later (ItemsOver (length later)) behind left
+    × EndLooks r behind Looked left rest
 
 -- what is told, as items, if so many bytes come before the first element of the Segment
 abbrev pub told_as : ℕ → ToldFault → JudgedItem
@@ -93,7 +92,13 @@ pub record ToldOpens (profile : Profile) (input : Passage) (stream : Stream) (st
       IsSalvaged file rest stream.head from offset (map (given_told start) faults))
   pub kept : input.after ≡ input.before
 
-module _ (profile : Profile) (place : Bool) (input output : Passage) where
+-- it has a fault plainly that may be told
+abbrev pub HasToldFault : Profile → Passage → Type 0
+HasToldFault profile input =
+    (left : Option (List ℕ)) × (f : Fault) × (is_told f ≡ true)
+    × LacksStream profile input.old left f
+
+module _ (profile : Profile) (input output : Passage) where
   -- it was opened, and the lines of what is told were not written whole, or memory for them was
   -- refused
   abbrev pub ToldFailsBy : Cause → Type 0
@@ -115,22 +120,19 @@ module _ (profile : Profile) (place : Bool) (input output : Passage) where
   AgainLacksBy Memory = Silent output × (input.after ≡ input.before)
   AgainLacksBy Content = ⊥
 
+module _ (profile : Profile) (place : Bool) (input output : Passage) where
   -- why a file that is read again is refused
   abbrev pub AgainFault : Fault → Type 0
   AgainFault f =
       StopsBy ToldItemsThen ToldItemsEnd profile place input output f
-      ⊎ ToldFailsBy (cause_of f) ⊎ AgainLacksBy (cause_of f)
-
-  -- it has a fault plainly that may be told
-  abbrev pub HasToldFault : Type 0
-  HasToldFault =
-      (left : Option (List ℕ)) × (f : Fault) × (is_told f ≡ true)
-      × LacksStream profile input.old left f
+      ⊎ ToldFailsBy profile input output (cause_of f)
+      ⊎ AgainLacksBy profile input output (cause_of f)
 
   -- it was read again, and all is told and judged
   abbrev pub AgainDone : Option Fault → Notes → Type 0
   AgainDone first notes =
-      HasToldFault × DoneBy ToldItemsThen ToldItemsEnd profile place input output first notes
+      HasToldFault profile input
+      × DoneBy ToldItemsThen ToldItemsEnd profile place input output first notes
 
   -- it can't be opened nevertheless: the answer is that fault, with the line of its byte
   abbrev pub AgainPlain : Fault → Type 0
@@ -142,7 +144,7 @@ module _ (profile : Profile) (place : Bool) (input output : Passage) where
       × (input.after ≡ input.before) × Known input.old input.new (CantOpen profile)
 
   abbrev pub AgainStops : Fault → Type 0
-  AgainStops f = (HasToldFault × AgainFault f) ⊎ AgainPlain f
+  AgainStops f = (HasToldFault profile input × AgainFault f) ⊎ AgainPlain f
 
 -- that a file has a fault that may be told is, if its input can begin again, an answer only if it
 -- can't be opened nevertheless; of any other fault this says nothing

@@ -1,16 +1,18 @@
 -- What `unpack_all` writes, and why it is refused.
 use Rattle.std.specs.Prelude.{◌≡◌, ◌⊎◌, ◌-◌, ◌^◌, ℕ, ◌<◌, Bool, true, false, List, [], ◌∷◌, ◌++◌}
-use Rattle.std.specs.Prelude.{length, map, slice_get}
+use Rattle.std.specs.Prelude.{length, map, slice_get, Option}
 use Rattle.std.specs.Io.KnownBytes.{Appends}
 use Rattle.ffv1_range.specs.Counts.{saturated}
 use Rattle.ffv1_wire.specs.Failures.{one_more}
-use Rattle.ffv1_wire.specs.Passage.{Passage}
+use Rattle.ffv1_wire.specs.Passage.{Passage, between}
 use Rattle.ffv1_wire.specs.Runs.{Line}
 use Rattle.ffv1_codec.specs.Outcome.{OffersLine}
+use Rattle.ffv1_reads.specs.Head.{Head}
 use Rattle.ffv1_reads.specs.Known.{Known}
 use Rattle.ffv1_reads.specs.declared.fault.FileFault.TheVariants as file_fault
-use Rattle.ffv1_matroska.specs.Items.{Given}
-use Rattle.ffv1_files.specs.Places.{InAvi, InMatroska}
+use Rattle.ffv1_reads.specs.Items.{Given}
+use Rattle.ffv1_matroska.specs.declared.told.ToldFault.{ToldFault}
+use Rattle.ffv1_files.specs.declared.course.Course.TheVariants as course
 use Rattle.ffv1_files.specs.declared.notes.Notes.{Notes}
 use Rattle.ffv1_video.specs.declared.profile.Profile.{Profile}
 use Rattle.ffv1_video.specs.declared.fault.Fault.{Fault}
@@ -23,33 +25,35 @@ use Rattle.ffv1_unpack.specs.JudgedItems.{IsJudgedItem, ItemIs, ItemsNext, Items
 use Rattle.ffv1_unpack.specs.JudgedItems.{ItemsThen, ItemsWant, JudgedItem, ToldAt, frames_of}
 use Rattle.ffv1_unpack.specs.JudgedItems.{given_as}
 use Rattle.ffv1_unpack.specs.Behind.{Looks, NotedIn}
-use Rattle.ffv1_unpack.specs.Containers.{IsReadAs}
+use Rattle.ffv1_unpack.specs.Containers.{IsReadOn}
 use Rattle.ffv1_unpack.specs.ItemsEnd.{BeginsAnother, EndTold, ItemsEnd}
 use Rattle.ffv1_unpack.specs.Plays.{BehindReadFails, FrameHasFault, FrameReadFails}
+use Rattle.ffv1_unpack.specs.Opens.{LacksOpening}
 use Rattle.ffv1_unpack.specs.Plays.{NextPayloadLacks}
 use Rattle.ffv1_unpack.specs.Salvaged.{picture_for, salvage_faults, salvage_lines, shown}
 use Rattle.ffv1_unpack.specs.Stream.{AreAll, CodedFrame, IsStream, Stream}
+use Rattle.ffv1_unpack.specs.ToldItems.{AgainLacksBy, CantOpen, HasToldFault, ToldFailsBy}
+use Rattle.ffv1_unpack.specs.ToldItems.{ToldItemsEnd, ToldItemsThen, ToldOpens, is_told}
+use Rattle.ffv1_unpack.specs.ToldItems.{told_lines}
 use Rattle.ffv1_unpack.specs.Unpack.{LacksUnpacking}
-use Rattle.ffv1_unpack.specs.Unpacked.{HasText, is_ppm_stream, rows_by, text_of}
+use Rattle.ffv1_unpack.specs.Unpacked.{HasText, LacksText, is_ppm_stream, rows_by, text_of}
 
--- ---- what comes after items, of either container
+-- ---- what comes after items, by a course that reads on or by plain reading
 
 -- a read of the next one failed
 abbrev pub ReadFailsNext : ItemsNext
-ReadFailsNext (InAvi place) c at rest = FrameReadFails (InAvi place) at rest
-ReadFailsNext (InMatroska segment track place) c at rest =
-    ItemsWant (InMatroska segment track place) c at rest
+ReadFailsNext from course.Plain at rest = FrameReadFails from at rest
+ReadFailsNext from c at rest = ItemsWant from c at rest
 
 -- memory was refused for a payload, of which more bytes were wanted
 abbrev pub LacksNext : ItemsNext
-LacksNext (InAvi place) c at rest = NextPayloadLacks (InAvi place) at rest
-LacksNext (InMatroska segment track place) c at rest =
-    ItemsWant (InMatroska segment track place) c at rest
+LacksNext from course.Plain at rest = NextPayloadLacks from at rest
+LacksNext from c at rest = ItemsWant from c at rest
 
--- the file has this fault, which ends the reading of an AVI
+-- the file has this fault, which ends the reading of an AVI of which the first movi alone is read
 abbrev pub FaultNext : Fault → ItemsNext
-FaultNext f (InAvi place) c at rest = FrameHasFault f (InAvi place) at rest
-FaultNext f (InMatroska segment track place) c at rest = ⊥
+FaultNext f from course.Plain at rest = FrameHasFault f from at rest
+FaultNext f from c at rest = ⊥
 
 -- ---- how far it goes, by how bytes have items
 
@@ -138,72 +142,142 @@ pub record AreSalvageCounts (ppm : Bool) (counts : JudgedCounts) (xs : List Judg
 
 -- ---- a whole file
 
-module _ (profile : Profile) (input lines output : Passage) where
+-- by how a file with this head has items, and by how these end
+module _ (Then : Head → List Given → ItemsNext → List ℕ → List ℕ → Type 0)
+    (End : Head → List Given → (ℕ → Looks) → List ℕ → List ℕ → Type 0) (profile : Profile)
+    (input lines output : Passage) where
   -- these items are all that the file gives; and then this is said of what comes after its end
-  pub record ItemsSalvaged (stream : Stream) (xs : List JudgedItem) (Looked : ℕ → Looks)
+  pub record SalvagedBy (stream : Stream) (xs : List JudgedItem) (Looked : ℕ → Looks)
       : Type 0 where
     pub is : IsStream profile stream
     pub text : HasText stream
     pub are : AreAll (IsJudgedItem stream.accepted) xs
-    pub ends : Known input.old input.new (ItemsEnd profile stream.head (map given_as xs) Looked)
-    pub showed : PicturesShown (ItemsThen profile stream.head) stream input lines output xs
+    pub ends : Known input.old input.new (End stream.head (map given_as xs) Looked)
+    pub showed : PicturesShown (Then stream.head) stream input lines output xs
 
   -- all items of the file, and another file that is told after its end, at least one of these,
-  -- were judged, and their pictures and lines were written; of an AVI it is noted what is noted of
-  -- the bytes of the file, if no more items come than are read
-  pub record UnpackAllDone (counts : JudgedCounts) (notes : Notes) : Type 0 where
+  -- were judged, and their pictures and lines were written
+  pub record SalvageDoneBy (counts : JudgedCounts) (notes : Notes) : Type 0 where
     pub stream : Stream
     pub xs : List JudgedItem
     pub behind : List JudgedItem
     pub some : 0 < length (xs ++ behind)
-    pub all : ItemsSalvaged stream xs (EndTold behind notes)
-    pub told : LinesTold (ItemsThen profile stream.head) stream input lines output (xs ++ behind)
+    pub all : SalvagedBy stream xs (EndTold behind notes)
+    pub told : LinesTold (Then stream.head) stream input lines output (xs ++ behind)
     pub kept : input.after ≡ input.before
     pub counted : AreSalvageCounts (is_ppm_stream stream) counts (xs ++ behind)
-    pub noted : IsReadAs false profile input.old →
-        NotedIn profile input notes ⊎ (length xs ≡ 2 ^ 64 - 1)
 
   -- it goes no further
-  pub record UnpackAllFails (f : Fault) (why : Cause) : Type 0 where
+  pub record SalvageFailsBy (f : Fault) (why : Cause) : Type 0 where
     pub stream : Stream
     pub is : IsStream profile stream
     pub text : HasText stream
-    pub stops : SalvageStopsBy (ItemsThen profile stream.head) stream input lines output f why
+    pub stops : SalvageStopsBy (Then stream.head) stream input lines output f why
 
   -- all items came, and what comes after them was not told, by the cause: the line of another
   -- file was not written whole; a read of it failed, which was counted; or memory for that line was
   -- refused
-  abbrev pub UnpackEndFailsBy : Cause → Type 0
-  UnpackEndFailsBy Writing =
+  abbrev pub SalvageEndFailsBy : Cause → Type 0
+  SalvageEndFailsBy Writing =
       (stream : Stream) × (xs : List JudgedItem) × (end : ℕ)
-      × ItemsSalvaged stream xs
+      × SalvagedBy stream xs
       (λ at reading text rest. (at ≡ end) × BeginsAnother reading text rest)
       × (input.after ≡ input.before) × (lines.after ≡ one_more lines.before)
       × WritesUpTo lines.old lines.new (length (salvage_lines (is_ppm_stream stream) xs))
       (salvage_lines (is_ppm_stream stream) (xs ++ (ToldAt file_fault.Another end ∷ [])))
-  UnpackEndFailsBy Reading =
-      (stream : Stream) × (xs : List JudgedItem) × ItemsSalvaged stream xs (λ at. BehindReadFails)
+  SalvageEndFailsBy Reading =
+      (stream : Stream) × (xs : List JudgedItem) × SalvagedBy stream xs (λ at. BehindReadFails)
       × (input.after ≡ one_more input.before)
-      × LinesTold (ItemsThen profile stream.head) stream input lines output xs
-  UnpackEndFailsBy Memory =
-      (stream : Stream) × (xs : List JudgedItem) × ItemsSalvaged stream xs (λ at. BeginsAnother)
+      × LinesTold (Then stream.head) stream input lines output xs
+  SalvageEndFailsBy Memory =
+      (stream : Stream) × (xs : List JudgedItem) × SalvagedBy stream xs (λ at. BeginsAnother)
       × (input.after ≡ input.before)
-      × LinesTold (ItemsThen profile stream.head) stream input lines output xs
-  UnpackEndFailsBy Content = ⊥
+      × LinesTold (Then stream.head) stream input lines output xs
+  SalvageEndFailsBy Content = ⊥
 
   -- there is neither a frame nor a fault
-  pub record UnpackAllNone : Type 0 where
+  pub record SalvageNoneBy : Type 0 where
     pub stream : Stream
     pub notes : Notes
-    pub all : ItemsSalvaged stream [] (EndTold [] notes)
-    pub told : LinesTold (ItemsThen profile stream.head) stream input lines output []
+    pub all : SalvagedBy stream [] (EndTold [] notes)
+    pub told : LinesTold (Then stream.head) stream input lines output []
     pub kept : input.after ≡ input.before
 
-  -- why it is refused, which no fault of a payload is a reason for: the file is not opened for
-  -- that, and nothing was written; or it goes no further; or what comes after its items was not
+  -- why it is refused once it is opened: it goes no further; or what comes after its items was not
   -- told; or there is nothing
+  abbrev pub SalvageRefused : Fault → Type 0
+  SalvageRefused f =
+      SalvageFailsBy f (cause_of f) ⊎ SalvageEndFailsBy (cause_of f)
+      ⊎ ((f ≡ fault.NoFrames) × SalvageNoneBy)
+
+-- ---- a file that is opened plainly
+
+module _ (profile : Profile) (input lines output : Passage) where
+  -- all of it was judged; of an AVI of which the first movi alone is read it is noted what is noted
+  -- of the bytes of the file, if no more items come than are read
+  abbrev pub UnpackedPlainly : JudgedCounts → Notes → Type 0
+  UnpackedPlainly counts notes =
+      (done : SalvageDoneBy (ItemsThen profile) (ItemsEnd profile) profile input lines output
+      counts notes)
+      × (IsReadOn false profile input.old →
+      NotedIn profile input notes ⊎ (length done.xs ≡ 2 ^ 64 - 1))
+
+  -- why it is refused, which no fault of a payload is a reason for: the file is not opened for
+  -- that, and nothing was written; or as it is judged
+  abbrev pub PlainlyRefused : Fault → Type 0
+  PlainlyRefused f =
+      (Silent lines × Silent output × LacksUnpacking profile input f)
+      ⊎ SalvageRefused (ItemsThen profile) (ItemsEnd profile) profile input lines output f
+
+-- ---- a Matroska file that is read again, since it has a fault plainly that may be told: what is
+-- told before its frames comes first
+
+-- it was opened, with these faults, and its pictures have no text
+pub record ToldLacksText (profile : Profile) (input : Passage) (f : Fault) : Type 0 where
+  pub stream : Stream
+  pub start : ℕ
+  pub faults : List ToldFault
+  pub opens : ToldOpens profile input stream start faults
+  pub lacks : LacksText stream f
+
+module _ (profile : Profile) (input lines output : Passage) where
+  -- what is told was written, and memory was refused for what a picture is written from
+  abbrev pub ToldLacksBy : Cause → Type 0
+  ToldLacksBy Writing = ⊥
+  ToldLacksBy Reading = ⊥
+  ToldLacksBy Memory =
+      (stream : Stream) × (start : ℕ) × (faults : List ToldFault)
+      × ToldOpens profile input stream start faults × HasText stream
+      × (lines.after ≡ lines.before) × Appends lines.old lines.new (told_lines start faults)
+      × Silent output
+  ToldLacksBy Content = ⊥
+
+  -- why it is refused: as it is judged; or there is no picture, and what is told was written, or
+  -- was not, or it was not opened, or its pictures have no text
+  abbrev pub AgainRefused : Fault → Type 0
+  AgainRefused f =
+      SalvageRefused ToldItemsThen ToldItemsEnd profile input lines output f
+      ⊎ ToldLacksBy (cause_of f)
+      ⊎ (ToldFailsBy profile input lines (cause_of f) × Silent output)
+      ⊎ (AgainLacksBy profile input lines (cause_of f) × Silent output)
+      ⊎ (ToldLacksText profile input f × Silent lines × Silent output)
+
+  -- it can't be opened nevertheless: the answer is the fault that it has plainly
+  abbrev pub UnpackPlainFault : Fault → Type 0
+  UnpackPlainFault f =
+      (left : Option (List ℕ)) × (is_told f ≡ true) × Silent lines × Silent output
+      × LacksOpening profile (between input.old left input.before input.after) f
+      × (input.after ≡ input.before) × Known input.old input.new (CantOpen profile)
+
+  -- all that the file gives was judged; if it can't be opened plainly, that and what is told before
+  -- its frames
+  abbrev pub UnpackAllDone : JudgedCounts → Notes → Type 0
+  UnpackAllDone counts notes =
+      UnpackedPlainly profile input lines output counts notes
+      ⊎ (HasToldFault profile input
+      × SalvageDoneBy ToldItemsThen ToldItemsEnd profile input lines output counts notes)
+
   abbrev pub UnpackAllStops : Fault → Type 0
   UnpackAllStops f =
-      (Silent lines × Silent output × LacksUnpacking profile input f)
-      ⊎ UnpackAllFails f (cause_of f) ⊎ UnpackEndFailsBy (cause_of f)
-      ⊎ ((f ≡ fault.NoFrames) × UnpackAllNone)
+      PlainlyRefused profile input lines output f
+      ⊎ (HasToldFault profile input × AgainRefused f) ⊎ UnpackPlainFault f

@@ -15,15 +15,15 @@ ghost use Rattle.ffv1_unpack.specs.Judged.{counts_line};
 ghost use Rattle.ffv1_unpack.specs.ToldItems.{IsTriedAgain};
 ghost use Rattle.ffv1_unpack.specs.Internal.Told.{WritesFrame};
 
-use crate::behind::tell_behind;
 use crate::frame_line::{FrameLine, put_count, put_counts};
 use crate::judging::judge_frames;
-use crate::judging_items::judge_items;
+use crate::judging_all::{judge_on, judge_plainly};
 use crate::passing::{notes_after, pass_frames};
+use crate::plainly::is_plain;
 use crate::player::{Player, open_player_located};
 use crate::reopening::{check_again, is_told, refused_at};
 use crate::telling::{Places, Telling, tell_byte, tell_frames};
-use ffv1_files::{Container, Notes, laws as files_laws};
+use ffv1_files::{Notes, laws as files_laws};
 use ffv1_video::{Fault, Profile};
 use ffv1_wire::{AgainIn, ByteOut, write_all};
 use ffv1_words::FrameRange;
@@ -205,10 +205,10 @@ pub(crate) fn write_counts<W: ByteOut, A: Allocator + Copy>(
 }
 
 /// Decodes all frames of a file that the profile reads, and goes on after a payload that is
-/// refused; in a Matroska file also after a fault of the file itself among its frames, as
-/// `MatroskaReader::next_item` does. Writes a line of each frame as soon as it is judged, and of
-/// each such fault with the number of bytes of the file before the element at fault, and at the end
-/// how many frames there were, and how many faults of both kinds:
+/// refused; at `Wide` also after a fault of the file itself among its frames, as
+/// `FileReader::next_item` does. Writes a line of each frame as soon as it is judged, and of each
+/// such fault with the number of bytes of the file before the element or chunk at fault, and at the
+/// end how many frames there were, and how many faults of both kinds:
 ///
 /// ```text
 /// frame {i}: {length} bytes, {slices} slices, {decisions} decisions
@@ -232,19 +232,19 @@ pub(crate) fn write_counts<W: ByteOut, A: Allocator + Copy>(
 /// can't be opened so either, it is refused with the fault that it had.
 ///
 /// Answers the first fault of either kind, and None if there is none, and what is noted of the end,
-/// as `check` does. If another file begins after a Matroska file, that is told, too: the line of a
-/// fault with the number of bytes before it, and one fault more. A Segment of unknown size is open
-/// if no Cues came after the last Cluster that was read. Frames are counted from 0; a count of 64
-/// bits stays at its greatest value, and of a Matroska file at most 2^64 - 1 frames and faults are
-/// judged. Beside what the decoder holds, one payload and its lines are held.
+/// as `check` does. If another file begins after it, that is told, too: the line of a fault with
+/// the number of bytes before it, and one fault more. A Segment of unknown size is open if no Cues
+/// came after the last Cluster that was read. Frames are counted from 0; a count of 64 bits stays
+/// at its greatest value, and at `Wide` at most 2^64 - 1 frames and faults are judged. Beside what
+/// the decoder holds, one payload and its lines are held.
 ///
 /// All other faults end it as they end `check`, after the lines of the frames before: those of the
-/// file up to its first frame, of its record, and of the chunks of its frames, if it is an AVI
+/// file up to its first frame, of its record, and at `Strict` of the chunks of its frames
 /// (`EmptyFrame`, too); `NoFrames` at the end if there was neither a frame nor a fault; `Read`,
 /// `OutOfMemory` and `Write` as they come, `Write` also if the line of a frame's place, or of a
-/// fault that is told, is not written. With `place`, at `Wide`, a fault of the file itself has the
-/// line of its byte, as `check` writes it, but not a read that fails among the frames of a Matroska
-/// file, or as it is read again.
+/// fault that is told, is not written. With `place`, at `Wide`, a fault of the file up to its first
+/// frame has the line of its byte, as `check` writes it, but not a read that fails among the
+/// frames, or as it is read again.
 pub fn check_all<R: AgainIn, W: ByteOut, A: Allocator + Copy>(
     alloc: A,
     profile: Profile,
@@ -264,8 +264,6 @@ pub fn check_all<R: AgainIn, W: ByteOut, A: Allocator + Copy>(
     ensures tried { IfErr result (IsTriedAgain profile (R.begins input.old)
         (passage R.remaining R.failures input.old input.new)) }
 {
-    files_laws::frames_come_in_turn();
-    files_laws::what_is_read_is_a_file();
     let byte = profile.tells_byte(place);
     let mut offset = 0u64;
     let start = input.start();
@@ -280,27 +278,13 @@ pub fn check_all<R: AgainIn, W: ByteOut, A: Allocator + Copy>(
             tell_byte(output, byte, 0, offset, fault);
             Err(fault)
         }
-        Ok(mut player) => match player.reader.container() {
-            Container::Avi => {
-                let places = Places { place, byte };
-                let all = FrameRange::ALL;
-                let counts = judge_frames(alloc, &mut player, input, output, places, all)?;
-                if counts.frames == 0 {
-                    return Err(Fault::NoFrames);
-                }
-                write_counts(alloc, output, counts.frames, counts.faults)?;
-                Ok((counts.first, player.notes))
+        Ok(mut player) => {
+            if is_plain(player.reader.course()) {
+                judge_plainly(alloc, &mut player, input, output, Places { place, byte })
+            } else {
+                judge_on(alloc, &mut player, input, output, place)
             }
-            Container::Matroska(_size) => {
-                let mut counts = judge_items(alloc, &mut player, input, output, place)?;
-                let notes = tell_behind(alloc, &player, input, output, &mut counts)?;
-                if counts.frames == 0 && counts.faults == 0 {
-                    return Err(Fault::NoFrames);
-                }
-                write_counts(alloc, output, counts.frames, counts.faults)?;
-                Ok((counts.first, notes))
-            }
-        },
+        }
     }
 }
 

@@ -1,19 +1,21 @@
-//! Judges what a Matroska file gives that may be damaged, one after the other: frames, and faults
-//! of the file that are told.
+//! Judges what a file gives that may be damaged, one after the other: frames, and faults of the
+//! file that are told.
 
-ghost use Rattle.std.specs.Prelude.{◌≡◌, ◌++◌, IfErr, IfOk, List, None, OnOk, true};
+ghost use Rattle.std.specs.Prelude.{◌≡◌, ◌++◌, IfErr, IfOk, List, None, OnOk, false, true};
 ghost use Rattle.ffv1_wire.specs.Passage.{passage};
 ghost use Rattle.ffv1_record.specs.Accepted.{IsAccepted};
-ghost use Rattle.ffv1_files.specs.Items.{course_of, cued_item};
+ghost use Rattle.ffv1_reads.specs.Items.{SaidBy};
+ghost use Rattle.ffv1_files.specs.Items.{course_ended, course_of, cued_item};
 ghost use Rattle.ffv1_matroska.specs.CuedItems.{CuedBy};
-ghost use Rattle.ffv1_unpack.specs.ItemsEnd.{cued_left};
+ghost use Rattle.ffv1_unpack.specs.ItemsEnd.{course_left, cued_left};
 ghost use Rattle.ffv1_files.specs.Places.{container_of};
+ghost use Rattle.ffv1_files.specs.declared.container.Container.TheVariants as container;
 ghost use Rattle.ffv1_video.specs.Faults.{cause_of};
 ghost use Rattle.ffv1_unpack.specs.JudgedItems.{ItemsAll, ItemsFrom, ItemsStopBy, JudgedItem};
 ghost use Rattle.ffv1_unpack.specs.JudgedItems.{file_word, told_line};
-ghost use Rattle.ffv1_unpack.specs.Internal.Containers.{is_segment};
 ghost use Rattle.ffv1_unpack.specs.Internal.JudgedItems.{AreItemCounts, ItemJudged};
 ghost use Rattle.ffv1_unpack.specs.Internal.JudgedItems.{PayloadAnswers};
+ghost use Rattle.ffv1_unpack.specs.Internal.Plainly.{is_plain};
 ghost use Rattle.ffv1_unpack.specs.Internal.Told.{WritesFrame};
 ghost use Rattle.ffv1_unpack.specs.Told.{is_telling_fault};
 
@@ -150,7 +152,8 @@ fn judge_payload<W: ByteOut, A: Allocator>(
     }
 }
 
-/// Judges the next item of a Segment, and writes its lines. Answers false if there is none.
+/// Judges the next item of a file that is read on, and writes its lines. Answers false if there is
+/// none.
 fn judge_item<R: ByteIn, W: ByteOut, A: Allocator>(
     player: &mut Player<A>,
     input: &mut R,
@@ -160,7 +163,7 @@ fn judge_item<R: ByteIn, W: ByteOut, A: Allocator>(
     judging: &mut Judging,
 ) -> Result<bool, Fault>
     requires sound { player.old.reader.fault ≡ None }
-    requires segment { is_segment (container_of player.old.reader.place) ≡ true }
+    requires reads { is_plain judging.old.course ≡ false }
     requires accepted { IsAccepted player.old.decoder.accepted.configuration
         player.old.decoder.accepted.table }
     ensures answer { ItemJudged place player.old.decoder.accepted judging.old.counts.frames
@@ -174,6 +177,11 @@ fn judge_item<R: ByteIn, W: ByteOut, A: Allocator>(
     ensures cued { IfOk result (λ more. CuedBy
         (cued_item player.old.reader.place judging.old.course player.old.cued)
         (R.remaining input.old) (R.remaining input.new) player.new.cued) }
+    ensures kind { OnOk result (is_plain judging.new.course ≡ false) }
+    ensures over { IfOk result (λ more. more ≡ false →
+        container_of player.old.reader.place ≡ container.Avi →
+        SaidBy (course_ended judging.old.course)
+        (R.remaining input.old) (R.remaining input.new) judging.new.course) }
 {
     let next = player.reader.next_item(
         input,
@@ -198,9 +206,10 @@ fn judge_item<R: ByteIn, W: ByteOut, A: Allocator>(
     }
 }
 
-/// Judges all items of a Segment that are left, at most 2^64 - 1, and writes the lines of each as
-/// soon as it is judged. Answers how many frames there were, and how many faults of either kind.
-/// The player knows then whether Cues came after the last Cluster.
+/// Judges all items of a file that is read on that are left, at most 2^64 - 1, and writes the lines
+/// of each as soon as it is judged. Answers how many frames there were, and how many faults of
+/// either kind. The player knows then whether Cues came after the last Cluster, and where reading
+/// has come to.
 pub(crate) fn judge_items<R: ByteIn, W: ByteOut, A: Allocator + Copy>(
     alloc: A,
     player: &mut Player<A>,
@@ -209,7 +218,7 @@ pub(crate) fn judge_items<R: ByteIn, W: ByteOut, A: Allocator + Copy>(
     place: bool,
 ) -> Result<JudgedCounts, Fault>
     requires sound { player.old.reader.fault ≡ None }
-    requires segment { is_segment (container_of player.old.reader.place) ≡ true }
+    requires reads { is_plain (course_of player.old.reader) ≡ false }
     requires accepted { IsAccepted player.old.decoder.accepted.configuration
         player.old.decoder.accepted.table }
     ensures ok { IfOk result (λ counts. (xs : List JudgedItem) × AreItemCounts counts xs
@@ -225,6 +234,10 @@ pub(crate) fn judge_items<R: ByteIn, W: ByteOut, A: Allocator + Copy>(
     ensures cued { IfOk result (λ counts. CuedBy
         (cued_left player.old.reader.place (course_of player.old.reader) player.old.cued)
         (R.remaining input.old) (R.remaining input.new) player.new.cued) }
+    ensures course { IfOk result (λ counts.
+        container_of player.old.reader.place ≡ container.Avi →
+        SaidBy (course_left player.old.reader.place (course_of player.old.reader))
+        (R.remaining input.old) (R.remaining input.new) player.new.course) }
 {
     let mut text = Vec::new(alloc);
     let mut judging = Judging {
@@ -237,8 +250,10 @@ pub(crate) fn judge_items<R: ByteIn, W: ByteOut, A: Allocator + Copy>(
     };
     for _item in 0..u64::MAX {
         if !judge_item(player, input, output, &mut text, place, &mut judging)? {
+            player.course = judging.course;
             return Ok(judging.counts);
         }
     }
+    player.course = judging.course;
     Ok(judging.counts)
 }

@@ -25,7 +25,7 @@ ghost use Rattle.ffv1_unpack.specs.Internal.Told.{IfMore, IsOwnStop, IsToldFault
 ghost use Rattle.ffv1_unpack.specs.Internal.Told.{ReadAnswers, StepAnswers};
 
 use ffv1_codec::{FrameDecoder, FrameFault, Info};
-use ffv1_files::{FileReader, Notes};
+use ffv1_files::{Course, FileReader, Notes};
 use ffv1_reads::{FileFault, FileHead};
 use ffv1_record::{Checked, RecordFault, read_record_in};
 use ffv1_video::{Fault, Profile};
@@ -144,7 +144,7 @@ pub(crate) fn open_stream<R: AgainIn, A: Allocator + Copy>(
 /// A file that is played: its reader, the decoder of its frames, and the payload that was read
 /// last. Both vectors that it needs are reused for each frame. Then what is noted of the end, once
 /// it was read, and after a fault of the file the number of bytes before what is refused; and
-/// whether Cues came after the last Cluster, if items are read.
+/// whether Cues came after the last Cluster, and where reading has come to, if items are read.
 pub struct Player<A: Allocator = Global> {
     pub(crate) reader: FileReader<A>,
     pub(crate) decoder: FrameDecoder<A>,
@@ -152,6 +152,7 @@ pub struct Player<A: Allocator = Global> {
     pub(crate) notes: Notes,
     pub(crate) offset: u64,
     pub(crate) cued: bool,
+    pub(crate) course: Course,
 }
 
 impl<A: Allocator> Drop for Player<A> {
@@ -163,6 +164,7 @@ impl<A: Allocator> Drop for Player<A> {
             notes: _notes,
             offset: _offset,
             cued: _cued,
+            course: _course,
         } = self;
     }
 }
@@ -187,6 +189,7 @@ pub(crate) fn player_of<A: Allocator + Copy>(
         notes: Notes::NONE,
         offset: 0,
         cued: false,
+        course: Course::Plain,
     })
 }
 

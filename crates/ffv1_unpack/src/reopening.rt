@@ -2,7 +2,7 @@
 //! beginning, and the faults there are told first.
 
 ghost use Rattle.std.specs.Prelude.{◌≡◌, ◌⊎◌, ◌≤◌, ◌++◌, ℕ, List, Option, IfErr, IfOk, IfSome};
-ghost use Rattle.std.specs.Prelude.{None, OnOk, [], false, map, true};
+ghost use Rattle.std.specs.Prelude.{Bool, None, OnOk, [], false, map, true};
 ghost use Rattle.std.specs.Vec.{vec_capacity};
 ghost use Rattle.ffv1_wire.specs.Passage.{between, passage};
 ghost use Rattle.ffv1_record.specs.Accepted.{IsAccepted};
@@ -13,10 +13,9 @@ ghost use Rattle.ffv1_files.specs.Answers.{FaultsRead};
 ghost use Rattle.ffv1_files.specs.Behind.{EndsThere};
 ghost use Rattle.ffv1_files.specs.Places.{container_of};
 ghost use Rattle.ffv1_files.specs.Salvaged.{Salvages, given_told, told_offset};
-ghost use Rattle.ffv1_video.specs.Faults.{cause_of};
 ghost use Rattle.ffv1_video.specs.declared.fault.Fault.TheVariants as fault;
 ghost use Rattle.ffv1_video.specs.declared.profile.Profile.{Profile};
-ghost use Rattle.ffv1_unpack.specs.AllItems.{DoneBy, StopsBy};
+ghost use Rattle.ffv1_unpack.specs.AllItems.{DoneBy};
 ghost use Rattle.ffv1_unpack.specs.Internal.Containers.{is_segment};
 ghost use Rattle.ffv1_unpack.specs.Internal.JudgedItems.{AreItemCounts};
 ghost use Rattle.ffv1_unpack.specs.Internal.Reopens.{AgainLacks, Reopens, first_told};
@@ -24,8 +23,9 @@ ghost use Rattle.ffv1_unpack.specs.Internal.Told.{WritesFrame};
 ghost use Rattle.ffv1_unpack.specs.JudgedItems.{JudgedItem};
 ghost use Rattle.ffv1_unpack.specs.Located.{WritesLine, located_text};
 ghost use Rattle.ffv1_unpack.specs.Told.{is_telling_fault};
-ghost use Rattle.ffv1_unpack.specs.ToldItems.{AgainFault, CantOpen, ToldFailsBy, ToldItemsEnd};
+ghost use Rattle.ffv1_unpack.specs.ToldItems.{AgainFault, CantOpen, ToldItemsEnd};
 ghost use Rattle.ffv1_unpack.specs.ToldItems.{ToldItemsThen, is_told, told_items, told_lines};
+ghost use Rattle.ffv1_unpack.specs.UnpackAll.{AreSalvageCounts};
 
 use crate::behind::tell_behind;
 use crate::checking::write_counts;
@@ -76,7 +76,7 @@ fn push_lines<A: Allocator>(
 }
 
 /// Writes the lines of the faults that are told, all at once.
-fn write_lines<W: ByteOut, A: Allocator + Copy>(
+pub(crate) fn write_lines<W: ByteOut, A: Allocator + Copy>(
     alloc: A,
     output: &mut W,
     told: &ToldFaults<A>,
@@ -103,9 +103,12 @@ fn first_fault(faults: &[ToldFault], other: Option<Fault>) -> Option<Fault>
 }
 
 /// The counts of items, with those of the faults that were told before.
-fn with_told<A: Allocator>(told: &ToldFaults<A>, counts: JudgedCounts) -> JudgedCounts
-    ensures { (start : ℕ) (xs : List JudgedItem) → AreItemCounts counts xs →
+pub(crate) fn with_told<A: Allocator>(told: &ToldFaults<A>, counts: JudgedCounts) -> JudgedCounts
+    ensures judged { (start : ℕ) (xs : List JudgedItem) → AreItemCounts counts xs →
         AreItemCounts result (told_items start told.now.faults.items ++ xs) }
+    ensures salvaged { (start : ℕ) (ppm : Bool) (xs : List JudgedItem) →
+        AreSalvageCounts ppm counts xs →
+        AreSalvageCounts ppm result (told_items start told.now.faults.items ++ xs) }
 {
     JudgedCounts {
         frames: counts.frames,
@@ -152,7 +155,7 @@ fn read_again<R: AgainIn, A: Allocator + Copy>(
 }
 
 /// The same, with the decoder of its frames. None also if its record has a fault.
-fn reopen<R: AgainIn, A: Allocator + Copy>(
+pub(crate) fn reopen<R: AgainIn, A: Allocator + Copy>(
     alloc: A,
     profile: Profile,
     input: &mut R,

@@ -8,12 +8,14 @@ ghost use Rattle.ffv1_record.specs.Accepted.{IsAccepted};
 ghost use Rattle.ffv1_record.specs.Configuration.{is_rct};
 ghost use Rattle.ffv1_codec.specs.SliceList.{Said};
 ghost use Rattle.ffv1_files.specs.Answers.{ReadsAs};
-ghost use Rattle.ffv1_files.specs.Items.{course_of, cued_item, item_of, item_read};
+ghost use Rattle.ffv1_reads.specs.Items.{SaidBy};
+ghost use Rattle.ffv1_files.specs.Items.{course_ended, course_of, cued_item, item_of, item_read};
 ghost use Rattle.ffv1_matroska.specs.CuedItems.{CuedBy};
-ghost use Rattle.ffv1_unpack.specs.ItemsEnd.{cued_left};
+ghost use Rattle.ffv1_unpack.specs.ItemsEnd.{course_left, cued_left};
+ghost use Rattle.ffv1_unpack.specs.Internal.Plainly.{IsItemFault, is_plain};
 ghost use Rattle.ffv1_files.specs.Places.{container_of};
 ghost use Rattle.ffv1_files.specs.declared.container.Container.TheVariants as container;
-ghost use Rattle.ffv1_matroska.specs.declared.items.Item.TheVariants as item;
+ghost use Rattle.ffv1_reads.specs.declared.item.Item.TheVariants as item;
 ghost use Rattle.ffv1_video.specs.Faults.{cause_of};
 ghost use Rattle.ffv1_unpack.specs.Internal.Judged.{one_counted};
 ghost use Rattle.ffv1_unpack.specs.JudgedItems.{IsJudgedItem, ItemsFrom, JudgedItem};
@@ -24,6 +26,7 @@ ghost use Rattle.ffv1_unpack.specs.Internal.Salvage.{FrameSalvaged, FrameTold, I
 ghost use Rattle.ffv1_unpack.specs.Internal.Salvage.{NoneGivenBy, PutsPictures, StandsAfter};
 ghost use Rattle.ffv1_unpack.specs.Internal.Told.{IsToldFault, WritesFrame};
 ghost use Rattle.ffv1_unpack.specs.Told.{is_telling_fault};
+ghost use Rattle.ffv1_unpack.specs.ToldItems.{is_told};
 ghost use Rattle.ffv1_unpack.specs.Stream.{AreAll, CodedFrame, Stream, last_of, those};
 ghost use Rattle.ffv1_unpack.specs.UnpackAll.{AreSalvageCounts, SalvageStopsBy, SalvagesAll};
 ghost use Rattle.ffv1_unpack.specs.Unpacked.{HasText, is_ppm_stream};
@@ -32,9 +35,10 @@ ghost use Rattle.ffv1_unpack.specs.Internal.Located.{ComesToEnd, StaysReached};
 use crate::judging::{JudgedCounts, write_refused};
 use crate::judging_items::write_told;
 use crate::picture_out::PictureOut;
+use crate::plainly::is_plain;
 use crate::player::Player;
 use ffv1_codec::Info;
-use ffv1_files::{Container, Course, Item};
+use ffv1_files::{Course, Item};
 use ffv1_video::Fault;
 use ffv1_video::number_lines::push_number;
 use ffv1_wire::{ByteIn, ByteOut, write_all};
@@ -68,13 +72,16 @@ fn write_changed<W: ByteOut, A: Allocator>(
     Ok(())
 }
 
-/// Reads the next item of a file, of either container: an AVI gives its frames.
+/// Reads the next item of a file, of either container; an AVI of which the first `movi` alone is
+/// read gives its frames.
 fn read_item<R: ByteIn, A: Allocator>(
     player: &mut Player<A>,
     input: &mut R,
     course: &mut Course,
 ) -> Result<Item, Fault>
     requires sound { player.old.reader.fault ≡ None }
+    requires plain { is_plain course.old ≡ true →
+        container_of player.old.reader.place ≡ container.Avi }
     ensures ok { IfOk result (λ i. ReadsAs (item_read player.old.reader.place course.old)
         (passage R.remaining R.failures input.old input.new)
         (item_of i player.new.payload.items player.new.reader.place course.new)) }
@@ -85,36 +92,38 @@ fn read_item<R: ByteIn, A: Allocator>(
     ensures head { player.new.reader.head ≡ player.old.reader.head }
     ensures container { container_of player.new.reader.place
         ≡ container_of player.old.reader.place }
-    ensures own { IfErr result (IsToldFault player.old.reader (R.remaining input.old)) }
-    ensures reached { IfOk result (λ i. (i ≡ item.End → ⊥) →
-        container_of player.old.reader.place ≡ container.Avi →
+    ensures own { IfErr result (IsItemFault (is_plain course.old) player.old.reader
+        (R.remaining input.old)) }
+    ensures untold { IfErr result (λ f. is_told f ≡ false) }
+    ensures reached { IfOk result (λ i. (i ≡ item.End → ⊥) → is_plain course.old ≡ true →
         StaysReached player.old.reader player.new.reader
         (passage R.remaining R.failures input.old input.new)) }
-    ensures ended { IfOk result (λ i. i ≡ item.End →
-        container_of player.old.reader.place ≡ container.Avi →
+    ensures ended { IfOk result (λ i. i ≡ item.End → is_plain course.old ≡ true →
         ComesToEnd player.old.reader player.new.reader
         (passage R.remaining R.failures input.old input.new)) }
-    ensures stays { IfOk result (λ i. (size : Option ℕ) →
-        container_of player.old.reader.place ≡ container.Matroska size →
+    ensures stays { IfOk result (λ i. is_plain course.old ≡ false →
         player.new.reader ≡ player.old.reader) }
+    ensures kind { is_plain course.new ≡ is_plain course.old }
+    ensures over { IfOk result (λ i. i ≡ item.End →
+        container_of player.old.reader.place ≡ container.Avi → SaidBy (course_ended course.old)
+        (R.remaining input.old) (R.remaining input.new) course.new) }
     ensures cued { IfOk result (λ i. CuedBy
         (cued_item player.old.reader.place course.old player.old.cued)
         (R.remaining input.old) (R.remaining input.new) player.new.cued) }
 {
-    match player.reader.container() {
-        Container::Avi => match player.reader.next_frame(input, &mut player.payload) {
+    if is_plain(*course) {
+        match player.reader.next_frame(input, &mut player.payload) {
             Ok(true) => Ok(Item::Frame),
             Ok(false) => Ok(Item::End),
             Err(fault) => Err(Fault::from(fault)),
-        },
-        Container::Matroska(_size) => {
-            match player
-                .reader
-                .next_item(input, course, &mut player.cued, &mut player.payload)
-            {
-                Ok(item) => Ok(item),
-                Err(fault) => Err(Fault::from(fault)),
-            }
+        }
+    } else {
+        match player
+            .reader
+            .next_item(input, course, &mut player.cued, &mut player.payload)
+        {
+            Ok(item) => Ok(item),
+            Err(fault) => Err(Fault::from(fault)),
         }
     }
 }
@@ -314,6 +323,8 @@ fn salvage_item<R: ByteIn, L: ByteOut, P: PictureOut, A: Allocator>(
     salvage: &mut Salvage<A>,
 ) -> Result<bool, Fault>
     requires sound { player.old.reader.fault ≡ None }
+    requires plain { is_plain salvage.old.course ≡ true →
+        container_of player.old.reader.place ≡ container.Avi }
     requires accepted { IsAccepted player.old.decoder.accepted.configuration
         player.old.decoder.accepted.table }
     ensures answer { (s : Stream) (before : List JudgedItem) →
@@ -335,18 +346,22 @@ fn salvage_item<R: ByteIn, L: ByteOut, P: PictureOut, A: Allocator>(
     ensures same { player.new.decoder.accepted ≡ player.old.decoder.accepted }
     ensures container { container_of player.new.reader.place
         ≡ container_of player.old.reader.place }
-    ensures own { IfErr result (IsToldFault player.old.reader (R.remaining input.old)) }
-    ensures reached { IfOk result (λ more. more ≡ true →
-        container_of player.old.reader.place ≡ container.Avi →
+    ensures own { IfErr result (IsItemFault (is_plain salvage.old.course) player.old.reader
+        (R.remaining input.old)) }
+    ensures untold { IfErr result (λ f. is_told f ≡ false) }
+    ensures reached { IfOk result (λ more. more ≡ true → is_plain salvage.old.course ≡ true →
         StaysReached player.old.reader player.new.reader
         (passage R.remaining R.failures input.old input.new)) }
-    ensures ended { IfOk result (λ more. more ≡ false →
-        container_of player.old.reader.place ≡ container.Avi →
+    ensures ended { IfOk result (λ more. more ≡ false → is_plain salvage.old.course ≡ true →
         ComesToEnd player.old.reader player.new.reader
         (passage R.remaining R.failures input.old input.new)) }
-    ensures stays { IfOk result (λ more. (size : Option ℕ) →
-        container_of player.old.reader.place ≡ container.Matroska size →
+    ensures stays { IfOk result (λ more. is_plain salvage.old.course ≡ false →
         player.new.reader ≡ player.old.reader) }
+    ensures kept { OnOk result (is_plain salvage.new.course ≡ is_plain salvage.old.course) }
+    ensures over { IfOk result (λ more. more ≡ false →
+        container_of player.old.reader.place ≡ container.Avi →
+        SaidBy (course_ended salvage.old.course)
+        (R.remaining input.old) (R.remaining input.new) salvage.new.course) }
     ensures cued { IfOk result (λ more. CuedBy
         (cued_item player.old.reader.place salvage.old.course player.old.cued)
         (R.remaining input.old) (R.remaining input.new) player.new.cued) }
@@ -370,7 +385,7 @@ fn salvage_item<R: ByteIn, L: ByteOut, P: PictureOut, A: Allocator>(
 
 /// Salvages all items of a file that are left, at most 2^64 - 1. Answers how many frames there
 /// were, and how many faults of either kind. The player knows then whether Cues came after the last
-/// Cluster.
+/// Cluster, and where reading has come to.
 pub(crate) fn salvage_items<R: ByteIn, L: ByteOut, P: PictureOut, A: Allocator + Copy>(
     alloc: A,
     player: &mut Player<A>,
@@ -395,7 +410,7 @@ pub(crate) fn salvage_items<R: ByteIn, L: ByteOut, P: PictureOut, A: Allocator +
         (passage R.remaining R.failures input.old input.new)
         (passage L.contents L.failures lines.old lines.new)
         (passage P.contents P.failures output.old output.new) xs
-        × (container_of player.old.reader.place ≡ container.Avi →
+        × (is_plain (course_of player.old.reader) ≡ true →
         ComesToEnd player.old.reader player.new.reader
         (passage R.remaining R.failures input.old input.new) ⊎ (length xs ≡ 2 ^ 64 - 1))) }
     ensures err { IfErr result (λ f. SalvageStopsBy
@@ -405,11 +420,17 @@ pub(crate) fn salvage_items<R: ByteIn, L: ByteOut, P: PictureOut, A: Allocator +
         (passage L.contents L.failures lines.old lines.new)
         (passage P.contents P.failures output.old output.new) f (cause_of f)) }
     ensures own { IfErr result (IsToldFault player.old.reader (R.remaining input.old)) }
+    ensures untold { IfErr result (λ f. is_told f ≡ false) }
     ensures container { container_of player.new.reader.place
         ≡ container_of player.old.reader.place }
-    ensures stays { IfOk result (λ counts. (size : Option ℕ) →
-        container_of player.old.reader.place ≡ container.Matroska size →
+    ensures stays { IfOk result (λ counts. is_plain (course_of player.old.reader) ≡ false →
         player.new.reader ≡ player.old.reader) }
+    ensures course { IfOk result (λ counts.
+        container_of player.old.reader.place ≡ container.Avi →
+        SaidBy (course_left player.old.reader.place (course_of player.old.reader))
+        (R.remaining input.old) (R.remaining input.new) player.new.course) }
+    ensures kind { IfOk result (λ counts.
+        is_plain player.new.course ≡ is_plain (course_of player.old.reader)) }
     ensures cued { IfOk result (λ counts. CuedBy
         (cued_left player.old.reader.place (course_of player.old.reader) player.old.cued)
         (R.remaining input.old) (R.remaining input.new) player.new.cued) }
@@ -428,8 +449,10 @@ pub(crate) fn salvage_items<R: ByteIn, L: ByteOut, P: PictureOut, A: Allocator +
     };
     for _item in 0..u64::MAX {
         if !salvage_item(player, input, lines, output, &mut salvage)? {
+            player.course = salvage.course;
             return Ok(salvage.counts);
         }
     }
+    player.course = salvage.course;
     Ok(salvage.counts)
 }

@@ -5,14 +5,17 @@ ghost use Rattle.std.specs.Prelude.{false, length, true};
 ghost use Rattle.ffv1_wire.specs.Passage.{passage};
 ghost use Rattle.ffv1_record.specs.Accepted.{IsAccepted};
 ghost use Rattle.ffv1_record.specs.Configuration.{is_rct};
+ghost use Rattle.ffv1_reads.specs.Items.{SaidBy};
 ghost use Rattle.ffv1_files.specs.Items.{course_of};
 ghost use Rattle.ffv1_files.specs.Noted.{NotedOf, NotesEnd};
 ghost use Rattle.ffv1_files.specs.Places.{container_of};
 ghost use Rattle.ffv1_files.specs.declared.container.Container.TheVariants as container;
 ghost use Rattle.ffv1_files.specs.declared.container.Scope.{Scope};
+ghost use Rattle.ffv1_files.specs.declared.course.Course.TheVariants as course;
 ghost use Rattle.ffv1_files.specs.declared.notes.Notes.{Notes};
 ghost use Rattle.ffv1_matroska.specs.CuedItems.{CuedBy};
-ghost use Rattle.ffv1_unpack.specs.ItemsEnd.{cued_left};
+ghost use Rattle.ffv1_unpack.specs.ItemsEnd.{course_left, cued_left};
+ghost use Rattle.ffv1_unpack.specs.Internal.Plainly.{is_plain};
 ghost use Rattle.ffv1_unpack.specs.Internal.ItemsEnd.{BehindAnswers, BehindFailsBy};
 ghost use Rattle.ffv1_unpack.specs.Internal.Located.{ComesToEnd};
 ghost use Rattle.ffv1_unpack.specs.declared.judging.JudgedCounts.{JudgedCounts};
@@ -23,6 +26,7 @@ ghost use Rattle.ffv1_video.specs.Profiles.{scope_in};
 ghost use Rattle.ffv1_unpack.specs.JudgedItems.{ItemsFrom, JudgedItem};
 ghost use Rattle.ffv1_unpack.specs.Internal.Opens.{OpensStream, stream_of};
 ghost use Rattle.ffv1_unpack.specs.Internal.Unpack.{IsWritingFault};
+ghost use Rattle.ffv1_unpack.specs.ToldItems.{IsTriedAgain, is_told};
 ghost use Rattle.ffv1_unpack.specs.Unpack.{IsUnpackFault, IsUnpackFaultIn, LacksUnpacking};
 ghost use Rattle.ffv1_unpack.specs.UnpackAll.{AreSalvageCounts, SalvageStopsBy, SalvagesAll};
 ghost use Rattle.ffv1_unpack.specs.UnpackAll.{UnpackAllDone, UnpackAllStops};
@@ -35,8 +39,10 @@ use crate::judging::JudgedCounts;
 use crate::picture_out::TextOut;
 use crate::pictures_out::text_head;
 use crate::player::{Player, open_player_located};
+use crate::reopening::is_told;
 use crate::salvaging::salvage_items;
 use crate::unpacking::check_text;
+use crate::unpacking_again::{or_refused, unpack_again};
 use ffv1_codec::KeepLines;
 use ffv1_files::Notes;
 use ffv1_record::{Colour, laws as record_laws};
@@ -91,7 +97,7 @@ fn salvage_text<R: ByteIn, L: ByteOut, W: ByteOut, A: Allocator + Copy>(
         (passage R.remaining R.failures input.old input.new)
         (passage L.contents L.failures lines.old lines.new)
         (passage W.contents W.failures output result.0) xs
-        × (container_of player.old.reader.place ≡ container.Avi →
+        × (is_plain (course_of player.old.reader) ≡ true →
         ComesToEnd player.old.reader player.new.reader
         (passage R.remaining R.failures input.old input.new) ⊎ (length xs ≡ 2 ^ 64 - 1))) }
     ensures err { IfErr result.1 (λ f. SalvageStopsBy
@@ -101,11 +107,17 @@ fn salvage_text<R: ByteIn, L: ByteOut, W: ByteOut, A: Allocator + Copy>(
         (passage L.contents L.failures lines.old lines.new)
         (passage W.contents W.failures output result.0) f (cause_of f)) }
     ensures own { IfErr result.1 (IsWritingFault player.old.reader (R.remaining input.old)) }
+    ensures untold { IfErr result.1 (λ f. is_told f ≡ false) }
     ensures container { container_of player.new.reader.place
         ≡ container_of player.old.reader.place }
-    ensures stays { IfOk result.1 (λ counts. (size : Option ℕ) →
-        container_of player.old.reader.place ≡ container.Matroska size →
+    ensures stays { IfOk result.1 (λ counts. is_plain (course_of player.old.reader) ≡ false →
         player.new.reader ≡ player.old.reader) }
+    ensures course { IfOk result.1 (λ counts.
+        container_of player.old.reader.place ≡ container.Avi →
+        SaidBy (course_left player.old.reader.place (course_of player.old.reader))
+        (R.remaining input.old) (R.remaining input.new) player.new.course) }
+    ensures kind { IfOk result.1 (λ counts.
+        is_plain player.new.course ≡ is_plain (course_of player.old.reader)) }
     ensures cued { IfOk result.1 (λ counts. CuedBy
         (cued_left player.old.reader.place (course_of player.old.reader) player.old.cued)
         (R.remaining input.old) (R.remaining input.new) player.new.cued) }
@@ -148,7 +160,7 @@ fn salvage_images<R: ByteIn, L: ByteOut, W: ByteOut, A: Allocator + Copy>(
         (passage R.remaining R.failures input.old input.new)
         (passage L.contents L.failures lines.old lines.new)
         (passage W.contents W.failures output result.0) xs
-        × (container_of player.old.reader.place ≡ container.Avi →
+        × (is_plain (course_of player.old.reader) ≡ true →
         ComesToEnd player.old.reader player.new.reader
         (passage R.remaining R.failures input.old input.new) ⊎ (length xs ≡ 2 ^ 64 - 1))) }
     ensures err { IfErr result.1 (λ f. SalvageStopsBy
@@ -158,11 +170,17 @@ fn salvage_images<R: ByteIn, L: ByteOut, W: ByteOut, A: Allocator + Copy>(
         (passage L.contents L.failures lines.old lines.new)
         (passage W.contents W.failures output result.0) f (cause_of f)) }
     ensures own { IfErr result.1 (IsWritingFault player.old.reader (R.remaining input.old)) }
+    ensures untold { IfErr result.1 (λ f. is_told f ≡ false) }
     ensures container { container_of player.new.reader.place
         ≡ container_of player.old.reader.place }
-    ensures stays { IfOk result.1 (λ counts. (size : Option ℕ) →
-        container_of player.old.reader.place ≡ container.Matroska size →
+    ensures stays { IfOk result.1 (λ counts. is_plain (course_of player.old.reader) ≡ false →
         player.new.reader ≡ player.old.reader) }
+    ensures course { IfOk result.1 (λ counts.
+        container_of player.old.reader.place ≡ container.Avi →
+        SaidBy (course_left player.old.reader.place (course_of player.old.reader))
+        (R.remaining input.old) (R.remaining input.new) player.new.course) }
+    ensures kind { IfOk result.1 (λ counts.
+        is_plain player.new.course ≡ is_plain (course_of player.old.reader)) }
     ensures cued { IfOk result.1 (λ counts. CuedBy
         (cued_left player.old.reader.place (course_of player.old.reader) player.old.cued)
         (R.remaining input.old) (R.remaining input.new) player.new.cued) }
@@ -180,7 +198,7 @@ fn salvage_images<R: ByteIn, L: ByteOut, W: ByteOut, A: Allocator + Copy>(
 }
 
 /// Salvages the frames that are left, as the colour says.
-fn salvage_file<R: ByteIn, L: ByteOut, W: ByteOut, A: Allocator + Copy>(
+pub(crate) fn salvage_file<R: ByteIn, L: ByteOut, W: ByteOut, A: Allocator + Copy>(
     alloc: A,
     player: &mut Player<A>,
     input: &mut R,
@@ -198,7 +216,7 @@ fn salvage_file<R: ByteIn, L: ByteOut, W: ByteOut, A: Allocator + Copy>(
         (passage R.remaining R.failures input.old input.new)
         (passage L.contents L.failures lines.old lines.new)
         (passage W.contents W.failures output result.0) xs
-        × (container_of player.old.reader.place ≡ container.Avi →
+        × (is_plain (course_of player.old.reader) ≡ true →
         ComesToEnd player.old.reader player.new.reader
         (passage R.remaining R.failures input.old input.new) ⊎ (length xs ≡ 2 ^ 64 - 1))) }
     ensures err { IfErr result.1 (λ f. SalvageStopsBy
@@ -208,11 +226,17 @@ fn salvage_file<R: ByteIn, L: ByteOut, W: ByteOut, A: Allocator + Copy>(
         (passage L.contents L.failures lines.old lines.new)
         (passage W.contents W.failures output result.0) f (cause_of f)) }
     ensures own { IfErr result.1 (IsWritingFault player.old.reader (R.remaining input.old)) }
+    ensures untold { IfErr result.1 (λ f. is_told f ≡ false) }
     ensures container { container_of player.new.reader.place
         ≡ container_of player.old.reader.place }
-    ensures stays { IfOk result.1 (λ counts. (size : Option ℕ) →
-        container_of player.old.reader.place ≡ container.Matroska size →
+    ensures stays { IfOk result.1 (λ counts. is_plain (course_of player.old.reader) ≡ false →
         player.new.reader ≡ player.old.reader) }
+    ensures course { IfOk result.1 (λ counts.
+        container_of player.old.reader.place ≡ container.Avi →
+        SaidBy (course_left player.old.reader.place (course_of player.old.reader))
+        (R.remaining input.old) (R.remaining input.new) player.new.course) }
+    ensures kind { IfOk result.1 (λ counts.
+        is_plain player.new.course ≡ is_plain (course_of player.old.reader)) }
     ensures cued { IfOk result.1 (λ counts. CuedBy
         (cued_left player.old.reader.place (course_of player.old.reader) player.old.cued)
         (R.remaining input.old) (R.remaining input.new) player.new.cued) }
@@ -239,29 +263,32 @@ fn found(counts: JudgedCounts) -> Result<JudgedCounts, Fault>
 }
 
 /// Tells what comes after the items of a file, of which these are the counts.
-fn end_all<R: ByteIn, L: ByteOut, A: Allocator + Copy>(
+pub(crate) fn end_all<R: ByteIn, L: ByteOut, A: Allocator + Copy>(
     alloc: A,
     player: &Player<A>,
     input: &mut R,
     lines: &mut L,
     counts: JudgedCounts,
 ) -> Result<(JudgedCounts, Notes), Fault>
-    ensures ok { IfOk result (λ told. BehindAnswers player.now.reader player.now.cued
+    ensures ok { IfOk result (λ told. BehindAnswers
+        player.now.reader player.now.course player.now.cued
         (passage R.remaining R.failures input.old input.new)
         (passage L.contents L.failures lines.old lines.new) counts told.0 (Ok told.1)
         × (told.0.frames ≡ 0 → told.0.faults ≡ 0 → ⊥)) }
-    ensures err { IfErr result (λ f. BehindFailsBy player.now.reader player.now.cued
+    ensures err { IfErr result (λ f. BehindFailsBy
+        player.now.reader player.now.course player.now.cued
         (passage R.remaining R.failures input.old input.new)
         (passage L.contents L.failures lines.old lines.new) (cause_of f)
         ⊎ ((f ≡ fault.NoFrames) × (new : JudgedCounts) × (new.frames ≡ 0) × (new.faults ≡ 0)
-        × (notes : Notes) × BehindAnswers player.now.reader player.now.cued
+        × (notes : Notes) × BehindAnswers player.now.reader player.now.course player.now.cued
         (passage R.remaining R.failures input.old input.new)
         (passage L.contents L.failures lines.old lines.new) counts new (Ok notes))) }
     ensures noted { container_of player.now.reader.place ≡ container.Avi →
-        (scope : Scope) (text : Option (List ℕ)) →
+        player.now.course ≡ course.Plain → (scope : Scope) (text : Option (List ℕ)) →
         NotesEnd scope text (R.remaining input.old) player.now.reader →
         IfOk result (λ told. NotedOf scope text (R.remaining input.new) told.1) }
     ensures own { IfErr result IsUnpackFault }
+    ensures untold { IfErr result (λ f. is_told f ≡ false) }
 {
     let mut counts = counts;
     let notes = tell_behind(alloc, player, input, lines, &mut counts)?;
@@ -270,8 +297,8 @@ fn end_all<R: ByteIn, L: ByteOut, A: Allocator + Copy>(
 }
 
 /// Decodes all frames of a file that the profile reads, and goes on after a frame that is refused;
-/// in a Matroska file also after a fault of the file itself among its frames, as
-/// `MatroskaReader::next_item` does. Of each frame it writes a picture, as `unpack` does: its own,
+/// at `Wide` also after a fault of the file itself among its frames, as `FileReader::next_item`
+/// does. Of each frame it writes a picture, as `unpack` does: its own,
 /// or, if it is refused, or has no bytes, the last good one again; before the first good one none.
 /// So there are as many pictures as frames, less those before the first good one. It writes a line
 /// of each fault as soon as that is met, before the picture:
@@ -293,15 +320,20 @@ fn end_all<R: ByteIn, L: ByteOut, A: Allocator + Copy>(
 /// by row, so each payload is decoded twice, first without writing, so that nothing of a refused
 /// picture is written. Beside what `unpack` holds, one payload more is held, the last good one.
 ///
-/// All other faults end it as they end `unpack`, after the pictures and lines before: those of the
-/// file up to its first frame, of its record, `NoY4mName` and `NoPpm`, and of the chunks of its
-/// frames, if it is an AVI (`EmptyFrame`, too); `NoFrames` at the end if there was neither a frame
-/// nor a fault; `Read`, `OutOfMemory` and `Write` as they come. After `Write` a beginning of the
-/// next line or of the next picture is written.
+/// If a Matroska file is refused before its first frame, and the input can begin again, it is read
+/// again from its beginning, as `check_all` does: the faults that are told there have their lines
+/// before all others, and each is one fault more. If it can't be opened so either, it is refused
+/// with the fault that it had, and nothing is written. If it is opened so, and its pictures have no
+/// text, that is its fault, and nothing is told.
 ///
-/// At the end, what comes after the file is looked at, as `check_all` does: of a
-/// Matroska file another one that begins there is told, `Another`, and is one fault more; of an AVI
-/// that is its own fault, and ends it. Else the answer has what is noted of the end.
+/// All other faults end it as they end `unpack`, after the pictures and lines before: those of the
+/// file up to its first frame, of its record, `NoY4mName` and `NoPpm`, and at `Strict` of the
+/// chunks of its frames (`EmptyFrame`, too); `NoFrames` at the end if there was neither a frame nor
+/// a fault; `Read`, `OutOfMemory` and `Write` as they come. After `Write` a beginning of the next
+/// line or of the next picture is written.
+///
+/// At the end, what comes after the file is looked at, as `check_all` does: another one that begins
+/// there is told, `Another`, and is one fault more. Else the answer has what is noted of the end.
 pub fn unpack_all<R: AgainIn, L: ByteOut, W: ByteOut, A: Allocator + Copy>(
     alloc: A,
     profile: Profile,
@@ -320,9 +352,22 @@ pub fn unpack_all<R: AgainIn, L: ByteOut, W: ByteOut, A: Allocator + Copy>(
     ensures own { IfErr result.1 (IsUnpackFaultIn profile) }
     ensures again { IfErr result.1 (IsReadAgain profile (R.begins input.old)
         (passage R.remaining R.failures input.old input.new)) }
+    ensures tried { IfErr result.1 (IsTriedAgain profile (R.begins input.old)
+        (passage R.remaining R.failures input.old input.new)) }
 {
+    let start = input.start();
     match open_whole(alloc, profile, input) {
-        Err(fault) => (output, Err(fault)),
+        Err(fault) => {
+            if is_told(fault) {
+                if let Some(start) = start {
+                    let (output, answer) = unpack_again(
+                        alloc, profile, input, &start, lines, output,
+                    );
+                    return (output, or_refused(answer, fault));
+                }
+            }
+            (output, Err(fault))
+        }
         Ok(mut player) => {
             let (output, answer) = salvage_file(alloc, &mut player, input, lines, output);
             match answer {

@@ -10,6 +10,7 @@ use Rattle.ffv1_files.specs.Answers.{ReadFails, ReadsAs}
 use Rattle.ffv1_files.specs.Behind.{any_value, items_noted}
 use Rattle.ffv1_files.specs.Noted.{no_notes}
 use Rattle.ffv1_files.specs.Readers.{Standing}
+use Rattle.ffv1_files.specs.declared.course.Course.{Course}
 use Rattle.ffv1_files.specs.declared.notes.Notes.{Notes}
 use Rattle.ffv1_video.specs.declared.fault.Fault.{Fault}
 use Rattle.ffv1_video.specs.declared.fault.Fault.TheVariants as fault
@@ -21,11 +22,11 @@ use Rattle.ffv1_unpack.specs.JudgedItems.{told_line}
 use Rattle.ffv1_unpack.specs.declared.judging.JudgedCounts.{JudgedCounts}
 use Rattle.ffv1_unpack.specs.Internal.JudgedItems.{told_counted}
 
-module _ (r : Standing) (cued : Bool) (input output : Passage) where
+module _ (r : Standing) (c : Course) (cued : Bool) (input output : Passage) where
   -- another file begins there
   pub record AnotherBehind : Type 0 where
     pub kept : input.after ≡ input.before
-    pub is : Known input.old input.new (BeginsAnother (items_noted r cued))
+    pub is : Known input.old input.new (BeginsAnother (items_noted r c cued))
 
   -- why it is refused, by the cause: the line of another file was not written whole, a read failed,
   -- or memory for that line was refused
@@ -35,14 +36,14 @@ module _ (r : Standing) (cued : Bool) (input output : Passage) where
       × AppendsBeginning output.old output.new (told_line r.end file_fault.Another)
   BehindFailsBy Reading =
       Silent output × (input.after ≡ one_more input.before)
-      × Known input.old input.new (ReadFails any_value (items_noted r cued))
+      × Known input.old input.new (ReadFails any_value (items_noted r c cued))
   BehindFailsBy Memory = Silent output × AnotherBehind
   BehindFailsBy Content = ⊥
 
   -- these are the notes; or another file was told, and counted; by the counts before and after
   abbrev pub BehindAnswers : JudgedCounts → JudgedCounts → Result Notes Fault → Type 0
   BehindAnswers old new (Ok notes) =
-      (ReadsAs (items_noted r cued) input notes × Silent output × (new ≡ old))
+      (ReadsAs (items_noted r c cued) input notes × Silent output × (new ≡ old))
       ⊎ (AnotherBehind × (notes ≡ no_notes) × (output.after ≡ output.before)
       × Appends output.old output.new (told_line r.end file_fault.Another)
       × (new ≡ told_counted old fault.Another))

@@ -9,7 +9,7 @@ use Rattle.ffv1_wire.specs.Passage.{Passage}
 use Rattle.ffv1_wire.specs.Writes.{AppendsBeginning}
 use Rattle.ffv1_record.specs.Accepted.{Accepted}
 use Rattle.ffv1_reads.specs.Known.{Known}
-use Rattle.ffv1_matroska.specs.declared.course.Course.{Course}
+use Rattle.ffv1_files.specs.declared.course.Course.{Course}
 use Rattle.ffv1_files.specs.Items.{item_read}
 use Rattle.ffv1_files.specs.Places.{Place}
 use Rattle.ffv1_video.specs.declared.fault.Fault.{Fault}

@@ -13,7 +13,7 @@ use Rattle.ffv1_codec.specs.Outcome.{OffersLine}
 use Rattle.ffv1_codec.specs.Picture.{Planes}
 use Rattle.ffv1_codec.specs.SliceList.{Said}
 use Rattle.ffv1_reads.specs.Known.{Known}
-use Rattle.ffv1_matroska.specs.declared.course.Course.{Course}
+use Rattle.ffv1_files.specs.declared.course.Course.{Course}
 use Rattle.ffv1_files.specs.Items.{item_read}
 use Rattle.ffv1_files.specs.Places.{Place}
 use Rattle.ffv1_y4m.specs.Sink.{PpmSink}

@@ -1,13 +1,12 @@
 -- A file, whose first byte may have been read, up to the first movi: its sizes, its record in place
 -- of what the vector has, and where movi stands.
-use Rattle.std.proofs.Common.{◌≡◌, ◌-◌, ◌&&◌, ◌++◌, ℕ, List, [], Bool, if◌then◌else◌, nat_le, true}
+use Rattle.std.proofs.Common.{◌≡◌, ◌&&◌, ◌++◌, ℕ, List, [], Bool, if◌then◌else◌, true}
 use Rattle.std.proofs.Common.{false, codes, length, take, drop, refl, sym, ap, ◌∙◌, arith}
 use Rattle.std.proofs.Common.{length-drop}
-use Rattle.std.proofs.lemmas.Bool.{le-leb, lt-leb}
 use Rattle.std.proofs.lemmas.List.{take_all}
 use Rattle.byteorder.specs.Endian.{little_number}
 use Rattle.ffv1_reads.specs.declared.fault.FileFault.TheVariants as fault
-use Rattle.ffv1_avi.specs.Files.{begins, open_read, others_read, top_others, top_read}
+use Rattle.ffv1_avi.specs.Files.{begins, has_form, open_read, others_read, top_others, top_read}
 use Rattle.ffv1_reads.specs.Head.{Head}
 use Rattle.ffv1_avi.specs.declared.place.Extent.{Extent}
 use Rattle.ffv1_avi.specs.declared.place.Place.{Place}
@@ -27,14 +26,14 @@ use Rattle.std.proofs.Common.{inl, Err, IfOk, Ok, Option, Result}
 use Rattle.ffv1_avi.proofs.open.read_opening.Goals as goal
 use Rattle.ffv1_avi.proofs.open.read_opening.Goals.{then-not-is_name-via-then-not-is_name}
 use Rattle.ffv1_avi.proofs.open.read_opening.Goals.{then-not-is_name-via-else-not-is_name+then-not-is_name-2}
-use Rattle.ffv1_avi.proofs.open.read_opening.Goals.{then-not-is_name-via-else-not-is_name+else-not-is_name-2+then-size-lt4}
+use Rattle.ffv1_avi.proofs.open.read_opening.Goals.{then-not-is_name-via-else-not-is_name+else-not-is_name-2+then-not-has_form}
 
 abbrev behind : Extent → List ℕ → Reading (Head × Place)
-behind extent bytes = if begins bytes then top_read extent (little_number 4 (drop 4 bytes) - 4) else
-    refused fault.NotAvi
+behind extent bytes = if begins extent bytes then top_read extent (little_number 4 (drop 4 bytes))
+    else refused fault.NotAvi
 
 abbrev counting : Extent → List ℕ → Reading ℕ
-counting extent bytes = if begins bytes then top_others extent (little_number 4 (drop 4 bytes) - 4)
+counting extent bytes = if begins extent bytes then top_others extent (little_number 4 (drop 4 bytes))
     else refused fault.NotAvi
 
 opened : (extent : Extent) (text : List ℕ) → open_read extent text ≡ (taken 12 >>= behind extent)
@@ -42,11 +41,11 @@ opened : (extent : Extent) (text : List ℕ) → open_read extent text ≡ (take
 unfolding open_read
 opened extent text = refl
 
-begun : (extent : Extent) (bytes : List ℕ) → begins bytes ≡ true → (text : List ℕ) → behind extent
-    bytes text ≡ top_read extent (little_number 4 (drop 4 bytes) - 4) text
+begun : (extent : Extent) (bytes : List ℕ) → begins extent bytes ≡ true → (text : List ℕ) → behind extent
+    bytes text ≡ top_read extent (little_number 4 (drop 4 bytes)) text
 begun extent bytes is text = rw is refl
 
-not_begun : (extent : Extent) (bytes : List ℕ) → begins bytes ≡ false → (text : List ℕ) → behind
+not_begun : (extent : Extent) (bytes : List ℕ) → begins extent bytes ≡ false → (text : List ℕ) → behind
     extent bytes text ≡ refused fault.NotAvi text
 not_begun extent bytes is text = rw is refl
 
@@ -73,15 +72,15 @@ returns-then-not-is_name-clause-answer g c =
     number_taken 8 (drop 4 head) (omega arith) in
     let a = is_name (take 4 head) (codes "RIFF") in
     let b = is_name (drop 8 head) (codes "AVI ") in
-    let z = nat_le 4 (little_number 4 (drop 4 head)) in
-    let other : begins head ≡ false = elim c.then-not-is_name.branch [
+    let z = has_form c.args.extent (little_number 4 (drop 4 head)) in
+    let other : begins c.args.extent head ≡ false = elim c.then-not-is_name.branch [
       | then-not-is_name-via-then-not-is_name w ↦ no_first a b z (sym w.if-not-is_name.ensures)
       | then-not-is_name-via-else-not-is_name+then-not-is_name-2 w ↦ no_second a b z
           (sym w.if-not-is_name.ensures) (ap (λ y. is_name y (codes "AVI ")) (sym form) ∙
           sym w.if-not-is_name-2.ensures)
-      | then-not-is_name-via-else-not-is_name+else-not-is_name-2+then-size-lt4 w ↦ no_third a b z
+      | then-not-is_name-via-else-not-is_name+else-not-is_name-2+then-not-has_form w ↦ no_third a b z
           (sym w.if-not-is_name.ensures) (ap (λ y. is_name y (codes "AVI ")) (sym form) ∙
-          sym w.if-not-is_name-2.ensures) (lt-leb _ _ (omega (arith, size, w.if-size-lt4.true)))
+          sym w.if-not-is_name-2.ensures) (ap (has_form c.args.extent) (sym size) ∙ sym w.if-not-has_form.ensures)
     ] in
     answers_fault fault.NotAvi _ (answers_same (opened c.args.extent)
     (answers_next _ c.in_ok-take_after.ensures (answers_same
@@ -96,9 +95,9 @@ returns-clause-answer g c =
     (omega (arith, long, length-drop 8 head)) in
     let size : c.read_u32-size.result ≡ little_number 4 (drop 4 head) = c.read_u32-size.ensures ∙
     number_taken 8 (drop 4 head) (omega arith) in
-    let enough : nat_le 4 (little_number 4 (drop 4 head)) ≡ true = le-leb _ _
-    (omega (arith, size, c.if-size-lt4.false)) in
-    let here : begins head ≡ true = all_three _ _ _ (sym c.if-not-is_name.ensures)
+    let enough : has_form c.args.extent (little_number 4 (drop 4 head)) ≡ true =
+    ap (has_form c.args.extent) (sym size) ∙ sym c.if-not-has_form.ensures in
+    let here : begins c.args.extent head ≡ true = all_three _ _ _ (sym c.if-not-is_name.ensures)
     (ap (λ y. is_name y (codes "AVI ")) (sym form) ∙ sym c.if-not-is_name-2.ensures) enough in
     answers_of _ _ _ _ (answers_same (opened c.args.extent)
     (answers_next _ c.in_ok-take_after.ensures (answers_same (begun c.args.extent head here)
@@ -125,15 +124,15 @@ returns-then-not-is_name-clause-from g c =
     number_taken 8 (drop 4 head) (omega arith) in
     let a = is_name (take 4 head) (codes "RIFF") in
     let b = is_name (drop 8 head) (codes "AVI ") in
-    let z = nat_le 4 (little_number 4 (drop 4 head)) in
-    let other : begins head ≡ false = elim c.then-not-is_name.branch [
+    let z = has_form c.args.extent (little_number 4 (drop 4 head)) in
+    let other : begins c.args.extent head ≡ false = elim c.then-not-is_name.branch [
       | then-not-is_name-via-then-not-is_name w ↦ no_first a b z (sym w.if-not-is_name.ensures)
       | then-not-is_name-via-else-not-is_name+then-not-is_name-2 w ↦ no_second a b z
           (sym w.if-not-is_name.ensures) (ap (λ y. is_name y (codes "AVI ")) (sym form) ∙
           sym w.if-not-is_name-2.ensures)
-      | then-not-is_name-via-else-not-is_name+else-not-is_name-2+then-size-lt4 w ↦ no_third a b z
+      | then-not-is_name-via-else-not-is_name+else-not-is_name-2+then-not-has_form w ↦ no_third a b z
           (sym w.if-not-is_name.ensures) (ap (λ y. is_name y (codes "AVI ")) (sym form) ∙
-          sym w.if-not-is_name-2.ensures) (lt-leb _ _ (omega (arith, size, w.if-size-lt4.true)))
+          sym w.if-not-is_name-2.ensures) (ap (has_form c.args.extent) (sym size) ∙ sym w.if-not-has_form.ensures)
     ] in
     stops_here fault.NotAvi (start_differs c.args.extent head _ _ _ _ other
     c.in_ok-take_after.ensures)
@@ -147,18 +146,18 @@ returns-clause-from g c =
     (omega (arith, long, length-drop 8 head)) in
     let size : c.read_u32-size.result ≡ little_number 4 (drop 4 head) = c.read_u32-size.ensures ∙
     number_taken 8 (drop 4 head) (omega arith) in
-    let enough : nat_le 4 (little_number 4 (drop 4 head)) ≡ true = le-leb _ _
-    (omega (arith, size, c.if-size-lt4.false)) in
-    let here : begins head ≡ true = all_three _ _ _ (sym c.if-not-is_name.ensures)
+    let enough : has_form c.args.extent (little_number 4 (drop 4 head)) ≡ true =
+    ap (has_form c.args.extent) (sym size) ∙ sym c.if-not-has_form.ensures in
+    let here : begins c.args.extent head ≡ true = all_three _ _ _ (sym c.if-not-is_name.ensures)
     (ap (λ y. is_name y (codes "AVI ")) (sym form) ∙ sym c.if-not-is_name-2.ensures) enough in
-    opens_then _ _ _ c.args.extent (little_number 4 (drop 4 head) - 4) c.read_top.new.config.items
+    opens_then _ _ _ c.args.extent (little_number 4 (drop 4 head)) c.read_top.new.config.items
     c.read_top.result c.in_ok-take_after.ensures.0
     (start_read c.args.extent head here c.in_ok-take_after.ensures.1)
     (rw size at c.read_top.ensures.from)
 
 others_then : (extent : Extent) (head : List ℕ) (old mid new : Option (List ℕ)) (n : ℕ)
-    (result : Result (Sizes × Place) FileFault) → begins head ≡ true → Read (taken 12) old mid
-    head → IfOk result (λ p. Read (top_others extent (little_number 4 (drop 4 head) - 4)) mid new
+    (result : Result (Sizes × Place) FileFault) → begins extent head ≡ true → Read (taken 12) old mid
+    head → IfOk result (λ p. Read (top_others extent (little_number 4 (drop 4 head))) mid new
     n) → IfOk result (λ p. Read (others_read extent) old new n)
 unfolding others_read
 others_then extent head old mid new n (Ok p) is first more =
@@ -175,9 +174,9 @@ returns-clause-others g c =
     (omega (arith, long, length-drop 8 head)) in
     let size : c.read_u32-size.result ≡ little_number 4 (drop 4 head) = c.read_u32-size.ensures ∙
     number_taken 8 (drop 4 head) (omega arith) in
-    let enough : nat_le 4 (little_number 4 (drop 4 head)) ≡ true = le-leb _ _
-    (omega (arith, size, c.if-size-lt4.false)) in
-    let here : begins head ≡ true = all_three _ _ _ (sym c.if-not-is_name.ensures)
+    let enough : has_form c.args.extent (little_number 4 (drop 4 head)) ≡ true =
+    ap (has_form c.args.extent) (sym size) ∙ sym c.if-not-has_form.ensures in
+    let here : begins c.args.extent head ≡ true = all_three _ _ _ (sym c.if-not-is_name.ensures)
     (ap (λ y. is_name y (codes "AVI ")) (sym form) ∙ sym c.if-not-is_name-2.ensures) enough in
     others_then c.args.extent head _ _ _ _ c.read_top.result here c.in_ok-take_after.ensures.1
     (rw size at c.read_top.ensures.others)

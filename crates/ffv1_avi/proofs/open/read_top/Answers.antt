@@ -27,9 +27,10 @@ returns-in_err-more-clause-answer g c = answers_err _ _ _ _ c.from_residual-in_e
     (answers_first _ _ c.in_err-more.ensures.answer))
 
 pub returns-in-Movi-clause-answer : goal.returns-in-Movi-clause-answer
-returns-in-Movi-clause-answer g c = answers_ok (answers_entry _ _ _ _ _ c.loop-entry.invariant.0
+returns-in-Movi-clause-answer g c = rw c.place_in.ensures
+    (answers_ok (answers_entry _ _ _ _ _ c.loop-entry.invariant.0
     (rw c.in-Some.is at c.in_ok-entry.ensures.answer) (answers_next _
-    (rw c.in-Movi.is at c.in_ok-more.ensures.answer) answers_given))
+    (rw c.in-Movi.is at c.in_ok-more.ensures.answer) answers_given)))
 
 pub loop-entry-preserved : goal.loop-entry-preserved
 loop-entry-preserved g c =
@@ -43,7 +44,7 @@ loop-entry-preserved g c =
           (rw c.in-On.is at c.in_ok-more.ensures.answer),
       room_then c.loop-entry.invariant.2 (room_then (room_kept _ c.in_ok-entry.ensures.answer.1)
           c.in_ok-more.ensures.grown),
-      spot_next c.args.extent found c.loop-entry.left e
+      spot_next c.args.extent c.args.size found c.loop-entry.left e
           (headers_with c.in-On.more c.visit_top.new.config.items)
           (rw c.in-Some.is at c.in_ok-entry.ensures.listed) c.loop-entry.invariant.3
           (rw c.in-Some.is at c.in_ok-entry.ensures.answer).1
@@ -62,10 +63,10 @@ returns-in-Movi-clause-grown g c = room_then c.loop-entry.invariant.2
 
 pub loop-entry-init : goal.loop-entry-init
 unfolding top_others top_read
-loop-entry-init g c = (
-  goes_none (top_read c.args.extent c.args.room)
+loop-entry-init g c = rw c.room_in-left.ensures (
+  goes_none (top_read c.args.extent c.args.size)
       (g.R.ByteIn.remaining c.args.input.now) (g.R.ByteIn.failures c.args.input.now),
-  goes_none (top_others c.args.extent c.args.room)
+  goes_none (top_others c.args.extent c.args.size)
       (g.R.ByteIn.remaining c.args.input.now) (g.R.ByteIn.failures c.args.input.now),
   room_none _ _,
   reads_still,
@@ -78,7 +79,7 @@ returns-in_err-entry-clause-from g c =
     let inv = c.loop-entry.invariant in
     let found = headers_with c.loop-entry.found c.loop-entry.config.items in
     rw (p.1, p.2) (stops_then f inv.0.same inv.3
-    (stops_here f (header_refused c.args.extent found c.loop-entry.left _ _ _ _ f
+    (stops_here f (header_refused c.args.extent c.args.size found c.loop-entry.left _ _ _ _ f
     c.in_err-entry.ensures.answer)))
 
 pub returns-in_err-more-clause-from : goal.returns-in_err-more-clause-from
@@ -90,7 +91,7 @@ returns-in_err-more-clause-from g c =
     let found = headers_with c.loop-entry.found c.loop-entry.config.items in
     let e = c.in-Some.entry in
     rw (p.1, p.2) (stops_then f inv.0.same inv.3
-    (stops_here f (visit_refused c.args.extent found c.loop-entry.left e _ _ _ _ _ _ f
+    (stops_here f (visit_refused c.args.extent c.args.size found c.loop-entry.left e _ _ _ _ _ _ f
     (rw c.in-Some.is at c.in_ok-entry.ensures.answer) c.in_err-more.ensures.answer)))
 
 pub returns-in-Movi-clause-from : goal.returns-in-Movi-clause-from
@@ -99,17 +100,17 @@ returns-in-Movi-clause-from g c =
     let found = headers_with c.loop-entry.found c.loop-entry.config.items in
     let head = head_with c.in-Movi.sizes c.visit_top.new.config.items in
     let more = headers_with c.in-Movi.known c.visit_top.new.config.items in
-    movi_begins c.args.extent found c.loop-entry.left e more (head, c.in-Movi.place)
+    rw c.place_in.ensures (movi_begins c.args.extent c.args.size found c.loop-entry.left e more (head, c.in-Movi.place)
     (rw c.in-Some.is at c.in_ok-entry.ensures.listed) c.loop-entry.invariant.3
     (rw c.in-Some.is at c.in_ok-entry.ensures.answer).1
-    (rw c.in-Movi.is at c.in_ok-more.ensures.answer).1 c.saturating_add.ensures
+    (rw c.in-Movi.is at c.in_ok-more.ensures.answer).1 c.saturating_add.ensures)
 
 pub returns-clause-from : goal.returns-clause-from
 returns-clause-from g c =
     let inv = c.loop-entry.invariant in
     let found = headers_with c.loop-entry.found c.loop-entry.config.items in
     stops_then fault.NotAvi inv.0.same inv.3 (stops_here fault.NotAvi
-    (end_refused c.args.extent found c.loop-entry.left _ _ _ _
+    (end_refused c.args.extent c.args.size found c.loop-entry.left _ _ _ _
     (rw c.in_default.is at c.in_ok-entry.ensures.answer)))
 
 pub returns-in-Movi-clause-others : goal.returns-in-Movi-clause-others

@@ -1,6 +1,7 @@
 -- A list of hdrl of a given size, by its own name.
 use Rattle.std.proofs.Common.{◌≡◌, ℕ, List, [], true, false, codes, refl, sym, ap}
-use Rattle.ffv1_avi.specs.Files.{Headers, extended_visited, header_list, header_named, list_skipped}
+use Rattle.ffv1_avi.specs.Files.{Headers, extended_visited, header_list, header_named}
+use Rattle.ffv1_avi.specs.Opens.{list_skipped}
 use Rattle.ffv1_avi.specs.Files.{stream_came, stream_visited}
 use Rattle.ffv1_avi.specs.Internal.Views.{headers_next, headers_with}
 use Rattle.ffv1_avi.specs.Walk.{is_name}

@@ -2,7 +2,8 @@
 use Rattle.std.proofs.Common.{rules, ◌≡◌, ◌<◌, ◌≤◌, ◌-◌, ◌%◌, ◌∙◌, ap, ℕ, List, Option, Some, None}
 use Rattle.std.proofs.Common.{refl, arith}
 use Rattle.std.proofs.lemmas.Bool.{lt-ltb, le-ltb}
-use Rattle.ffv1_avi.specs.Files.{Headers, list_skipped, stream_known, stream_visited}
+use Rattle.ffv1_avi.specs.Files.{Headers, stream_known, stream_visited}
+use Rattle.ffv1_avi.specs.Opens.{list_skipped}
 use Rattle.ffv1_reads.specs.Head.{Head}
 use Rattle.ffv1_reads.specs.Reads.{Reading, given, passed, ◌>>=◌}
 use Rattle.ffv1_avi.specs.Streams.{stream_read}

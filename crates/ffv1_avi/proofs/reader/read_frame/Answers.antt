@@ -170,8 +170,8 @@ returns-in_err-fill-clause-from g c =
     let f = c.in_err-fill.field-0.0 in
     let from = rw c.in-Some.is at c.in_ok-size.ensures.from in
     let same = (rw c.in-Some.is at c.in_ok-size.ensures.answer).0 in
-    rw (p.1, p.2) (stops_then f refl from.5 (stops_here f
-    (fill_refused from.0 c.in-Some.size from.2 _ _ _ _ _ _ f from.3 same
+    rw (p.1, p.2) (stops_then f refl from.3 (stops_here f
+    (fill_refused from.0 c.in-Some.size c.in-Some.after _ _ _ _ _ _ f from.2 same
     c.in_err-fill.ensures.answer)))
 
 pub returns-in_err-pass-clause-from : goal.returns-in_err-pass-clause-from
@@ -181,16 +181,16 @@ returns-in_err-pass-clause-from g c =
     let f = c.in_err-pass.field-0.0 in
     let from = rw c.in-Some.is at c.in_ok-size.ensures.from in
     let same = (rw c.in-Some.is at c.in_ok-size.ensures.answer).0 in
-    rw (p.1, p.2) (stops_then f refl from.5 (stops_here f
-    (pad_refused from.0 c.in-Some.size from.2 c.fill.new.bytes.items _ _ _ _ _ _ _ _ f from.3
+    rw (p.1, p.2) (stops_then f refl from.3 (stops_here f
+    (pad_refused from.0 c.in-Some.size c.in-Some.after c.fill.new.bytes.items _ _ _ _ _ _ _ _ f from.2
     same c.in_ok-fill.ensures.answer (rw c.from.ensures at c.in_err-pass.ensures))))
 
 pub returns-clause-from : goal.returns-clause-from
 returns-clause-from g c =
     let from = rw c.in-Some.is at c.in_ok-size.ensures.from in
     let pad = rw c.from.ensures at c.in_ok-pass.ensures in
-    rw from.4 (frame_next from.0 c.in-Some.size from.2 c.fill.new.bytes.items from.5 from.3
-    c.in_ok-fill.ensures.answer.1 pad.1 (rw c.padded.ensures at c.saturating_add.ensures))
+    frame_next from.0 c.in-Some.size c.in-Some.after c.fill.new.bytes.items from.3 from.2
+    c.in_ok-fill.ensures.answer.1 pad.1 (rw c.padded.ensures at c.saturating_add.ensures)
 
 pub returns-clause-names : goal.returns-clause-names
 returns-clause-names g c =

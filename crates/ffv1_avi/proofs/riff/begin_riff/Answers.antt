@@ -13,7 +13,8 @@ use Rattle.ffv1_reads.proofs.Answered.{answers_fault, answers_from, answers_refu
 use Rattle.ffv1_reads.proofs.Reading.{goes_none, goes_same}
 use Rattle.ffv1_avi.specs.declared.place.Extent.TheVariants.{EveryRiff}
 use Rattle.ffv1_avi.specs.declared.place.Place.{Place}
-use Rattle.ffv1_avi.specs.Files.{or_end, riff_begun, riff_entered, riff_named, taken_or_end}
+use Rattle.ffv1_avi.specs.Files.{riff_begun, riff_entered, riff_named}
+use Rattle.ffv1_avi.specs.Opens.{or_end, taken_or_end}
 use Rattle.ffv1_avi.specs.Walk.{is_name}
 use Rattle.ffv1_avi.proofs.EndReadings.{none_ends, none_err, none_given, none_last, none_read}
 use Rattle.ffv1_avi.proofs.EndReadings.{none_refused_end}

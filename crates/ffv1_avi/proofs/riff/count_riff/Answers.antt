@@ -8,13 +8,13 @@ use Rattle.ffv1_avi.proofs.TakenBytes.{told_after}
 use Rattle.ffv1_avi.proofs.riff.count_riff.Goals as goal
 
 pub returns-in-Ok-Some-clause-from : goal.returns-in-Ok-Some-clause-from
-returns-in-Ok-Some-clause-from g c = λ more. next_reached c.args.place c.in-Ok-Some.next more
+returns-in-Ok-Some-clause-from g c = λ known more. next_reached c.args.place c.in-Ok-Some.next known more
     (some_read EveryRiff (riff_begun c.args.place) _ _ c.in-Ok-Some.next
     (rw c.in-Ok-Some.field-0-is at c.in-Ok-Some.ensures.answer).1) c.saturating_add.ensures
 
 pub returns-in-Err-clause-from : goal.returns-in-Err-clause-from
-returns-in-Err-clause-from g c = λ more. stops_here c.in-Err.fault
-    (next_refused c.args.place _ _ _ _ c.in-Err.fault more c.in-Err.ensures.answer)
+returns-in-Err-clause-from g c = λ known more. stops_here c.in-Err.fault
+    (next_refused c.args.place _ _ _ _ c.in-Err.fault known more c.in-Err.ensures.answer)
 
 pub returns-in-Ok-None-clause-told : goal.returns-in-Ok-None-clause-told
 returns-in-Ok-None-clause-told g c = λ none. rw c.if_some.ensures

@@ -52,22 +52,23 @@ pub returns-in_err-movi-clause-from : goal.returns-in_err-movi-clause-from
 returns-in_err-movi-clause-from g c =
     let p = err_from_is_err_and c.from_residual.result c.from_residual.ensures.1 in
     let some : 0 < c.args.place.input = omega (arith, c.if-place-eq0.false) in
-    rw (p.1, p.2) (c.in_err-movi.ensures.from some)
+    rw (p.1, p.2) (c.in_err-movi.ensures.from c.requires some)
 
 pub returns-in_default-clause-from : goal.returns-in_default-clause-from
 returns-in_default-clause-from g c =
     let some : 0 < c.args.place.input = omega (arith, c.if-place-eq0.false) in
     moves_then _ _ _ c.count_riff.result (rw c.in_default.is at c.in_ok-movi.ensures.answer).0
-    (rw c.in_default.is at c.in_ok-movi.ensures.from some) (c.count_riff.ensures.from some)
+    (rw c.in_default.is at c.in_ok-movi.ensures.from c.requires some)
+    (c.count_riff.ensures.from c.requires some)
 
 pub returns-clause-from : goal.returns-clause-from
 returns-clause-from g c =
     let some : 0 < c.args.place.input = omega (arith, c.if-place-eq0.false) in
-    rw c.in-Some.is at c.in_ok-movi.ensures.from some
+    rw c.in-Some.is at c.in_ok-movi.ensures.from c.requires some
 
 pub returns-then-place-eq0-clause-behind : goal.returns-then-place-eq0-clause-behind
 returns-then-place-eq0-clause-behind g c = λ none.
-    rw (extent_first c.args.place c.if-place-eq0.true) refl
+    rw (extent_first c.args.place c.if-place-eq0.true) (refl, refl)
 
 pub returns-in_err-movi-clause-behind : goal.returns-in_err-movi-clause-behind
 returns-in_err-movi-clause-behind g c =
@@ -76,6 +77,6 @@ returns-in_err-movi-clause-behind g c =
 pub returns-in_default-clause-behind : goal.returns-in_default-clause-behind
 returns-in_default-clause-behind g c =
     let some : 0 < c.args.place.input = omega (arith, c.if-place-eq0.false) in
-    moves_behind _ _ _ _ c.args.place c.count_riff.result some
-    (rw c.in_default.is at c.in_ok-movi.ensures.from some) c.count_riff.ensures.answer
+    moves_behind _ _ _ _ c.args.place c.count_riff.result c.requires some
+    (rw c.in_default.is at c.in_ok-movi.ensures.from c.requires some) c.count_riff.ensures.answer
     c.count_riff.ensures.told

@@ -16,7 +16,7 @@ unfolding movi_sought
 loop-entry-init g c = (
   goes_none (movi_sought c.args.place.names c.args.place.riff)
       (g.R.ByteIn.remaining c.args.input.now) (g.R.ByteIn.failures c.args.input.now),
-  λ more.
+  λ known more.
       reads_still,
 )
 
@@ -42,8 +42,8 @@ loop-entry-preserved g c =
     let header = (rw c.in-Some.is at c.in_ok-entry.ensures.answer).1 in
     let visit = (rw c.in_default-2.is at c.in_ok-movi.ensures).1 in (
       goes_read _ _ _ _ _ here (rw c.in_default-2.is at c.in_ok-movi.ensures),
-      λ more. passed_next c.args.place c.loop-entry.left e more
-          (rw c.in-Some.is at c.in_ok-entry.ensures.listed) (c.loop-entry.invariant.1 more) header
+      λ known more. passed_next c.args.place c.loop-entry.left e known more
+          (rw c.in-Some.is at c.in_ok-entry.ensures.listed) (c.loop-entry.invariant.1 known more) header
           visit (rw c.padded.ensures at c.saturating_add-in-Some.ensures),
     )
 
@@ -56,8 +56,8 @@ returns-in_err-entry-clause-from g c =
     let p = err_from_is_err_and c.from_residual.result c.from_residual.ensures.1 in
     let f = c.in_err-entry.field-0.0 in
     let inv = c.loop-entry.invariant in
-    rw (p.1, p.2) (λ more. stops_then f inv.0.same (inv.1 more)
-    (stops_here f (riff_entry_refused c.args.place c.loop-entry.left more _ _ _ _ f
+    rw (p.1, p.2) (λ known more. stops_then f inv.0.same (inv.1 known more)
+    (stops_here f (riff_entry_refused c.args.place c.loop-entry.left known more _ _ _ _ f
     c.in_err-entry.ensures.answer)))
 
 pub returns-in_err-movi-clause-from : goal.returns-in_err-movi-clause-from
@@ -67,8 +67,8 @@ returns-in_err-movi-clause-from g c =
     let f = c.in_err-movi.field-0.0 in
     let e = c.in-Some.entry in
     let inv = c.loop-entry.invariant in
-    rw (p.1, p.2) (λ more. stops_then f inv.0.same (inv.1 more)
-    (stops_here f (riff_visit_refused c.args.place c.loop-entry.left more e _ _ _ _ _ _ f
+    rw (p.1, p.2) (λ known more. stops_then f inv.0.same (inv.1 known more)
+    (stops_here f (riff_visit_refused c.args.place c.loop-entry.left known more e _ _ _ _ _ _ f
     (rw c.in-Some.is at c.in_ok-entry.ensures.answer) c.in_err-movi.ensures)))
 
 pub returns-in-Some-2-clause-from : goal.returns-in-Some-2-clause-from
@@ -76,13 +76,13 @@ returns-in-Some-2-clause-from g c =
     let e = c.in-Some.entry in
     let header = (rw c.in-Some.is at c.in_ok-entry.ensures.answer).1 in
     let visit = (rw c.in-Some-2.is at c.in_ok-movi.ensures).1 in
-    λ more. movi_next c.args.place c.loop-entry.left e c.in-Some-2.movi more
-    (rw c.in-Some.is at c.in_ok-entry.ensures.listed) (c.loop-entry.invariant.1 more) header
+    λ known more. movi_next c.args.place c.loop-entry.left e c.in-Some-2.movi known more
+    (rw c.in-Some.is at c.in_ok-entry.ensures.listed) (c.loop-entry.invariant.1 known more) header
     visit c.saturating_add.ensures
 
 pub returns-clause-from : goal.returns-clause-from
 returns-clause-from g c =
     let read = (rw c.in_default.is at c.in_ok-entry.ensures.answer).1 in
     let end = entry_end _ c.loop-entry.left read in
-    λ more. (let h = c.loop-entry.invariant.1 more in
+    λ known more. (let h = c.loop-entry.invariant.1 known more in
     (h.0, rw end at (still _ c.loop-entry.left h.1 read), h.2))

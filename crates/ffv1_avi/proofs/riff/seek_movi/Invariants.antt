@@ -1,5 +1,7 @@
-use Rattle.std.specs.Prelude.{◌<◌}
-use Rattle.ffv1_avi.specs.Files.{movi_sought, visit_riff}
+use Rattle.std.specs.Prelude.{◌≡◌, ◌<◌}
+use Rattle.ffv1_avi.specs.declared.place.Open.TheVariants.{Sized}
+use Rattle.ffv1_avi.specs.Files.{movi_sought}
+use Rattle.ffv1_avi.specs.Opens.{visit_riff}
 use Rattle.ffv1_reads.specs.Reads.{given, ◌>>=◌}
 use Rattle.ffv1_avi.specs.Offsets.{ReadsUpTo, riff_left}
 use Rattle.ffv1_avi.specs.Walk.{walk}
@@ -12,7 +14,7 @@ invariant-loop-entry g l =
     (g.R.ByteIn.failures l.initial.input)
     (walk (visit_riff l.fn.place.names) l.left tt >>= λ p. given p.1) (g.R.ByteIn.remaining l.input)
     (g.R.ByteIn.failures l.input))
-    × (0 < l.fn.place.input → ReadsUpTo (riff_left l.fn.place l.fn.place.riff)
+    × (l.fn.place.open_in ≡ Sized → 0 < l.fn.place.input → ReadsUpTo (riff_left l.fn.place l.fn.place.riff)
     (g.R.ByteIn.remaining l.initial.input) (g.R.ByteIn.remaining l.input)
     (riff_left l.fn.place l.left) l.initial.offset l.offset)
 

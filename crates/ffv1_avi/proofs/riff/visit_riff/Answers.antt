@@ -1,6 +1,6 @@
 -- A chunk of RIFF after a movi: the bytes of the next movi, or None if it was passed.
 use Rattle.std.proofs.Common.{◌≡◌, ℕ, List, true, false, codes, refl, sym}
-use Rattle.ffv1_avi.specs.Files.{list_skipped, riff_list, visit_riff}
+use Rattle.ffv1_avi.specs.Opens.{list_skipped, riff_list, visit_riff}
 use Rattle.ffv1_reads.specs.Reads.{taken, ◌>>=◌}
 use Rattle.ffv1_avi.specs.Walk.{is_name}
 use Rattle.ffv1_avi.specs.declared.chunk.Entry.{Entry}

@@ -8,7 +8,7 @@ use ffv1_wire::FromRead;
 use std::alloc::Global;
 
 /// The example, and after it a RIFF.
-fn two_riffs() -> [u8; 336] {
+pub(super) fn two_riffs() -> [u8; 336] {
     let mut file = [0; 336];
     file[..298].copy_from_slice(&EXAMPLE);
     file[298..].copy_from_slice(&MORE);

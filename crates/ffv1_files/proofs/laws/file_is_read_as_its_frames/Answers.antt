@@ -7,4 +7,4 @@ returns-clause-first c = first_read c.file_is_read_as_its_frames.ensures.read
 
 pub returns-clause-whole : goal.returns-clause-whole
 returns-clause-whole c = whole_read c.file_is_read_as_its_frames.ensures.every_then
-    c.file_is_read_wherever_its_tracks_stand.ensures.read
+    c.file_without_sizes_is_read.ensures.read c.file_is_read_wherever_its_tracks_stand.ensures.read

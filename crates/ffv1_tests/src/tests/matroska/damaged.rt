@@ -2,8 +2,8 @@
 
 use super::closed::{BLOCK, INNER, NUMBER, POSITION, UNKNOWN};
 use ffv1_engine::{Fault, Notes, Profile, check_all};
-use ffv1_matroska::{Item, MatroskaReader};
-use ffv1_reads::FileFault;
+use ffv1_matroska::MatroskaReader;
+use ffv1_reads::{FileFault, Item};
 use ffv1_wire::{FromRead, ToWrite};
 use std::alloc::Global;
 use std::process::Abort;

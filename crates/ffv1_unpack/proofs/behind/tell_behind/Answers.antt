@@ -11,7 +11,7 @@ use Rattle.ffv1_unpack.proofs.behind.tell_behind.Goals as goal
 
 pub returns-in-Ok-clause-answer : goal.returns-in-Ok-clause-answer
 returns-in-Ok-clause-answer g c =
-    notes_told c.args.player.now.reader c.args.player.now.cued
+    notes_told c.args.player.now.reader c.args.player.now.course c.args.player.now.cued
     (passage g.R.ByteIn.remaining g.R.ByteIn.failures c.args.input.now
     c.look_behind_items.new.input)
     (g.W.ByteOut.contents c.args.output.now) (g.W.ByteOut.failures c.args.output.now)
@@ -19,7 +19,8 @@ returns-in-Ok-clause-answer g c =
 
 pub returns-then-not-is_another-clause-answer : goal.returns-then-not-is_another-clause-answer
 returns-then-not-is_another-clause-answer g c =
-    rw c.from.ensures (behind_unread c.args.player.now.reader c.args.player.now.cued
+    rw c.from.ensures (behind_unread c.args.player.now.reader c.args.player.now.course
+    c.args.player.now.cued
     (passage g.R.ByteIn.remaining g.R.ByteIn.failures c.args.input.now
     c.look_behind_items.new.input)
     (g.W.ByteOut.contents c.args.output.now) (g.W.ByteOut.failures c.args.output.now)
@@ -31,7 +32,8 @@ returns-in-Ok-clause-noted g c = c.in-Ok.ensures.noted
 
 pub returns-then-not-is_another-clause-own : goal.returns-then-not-is_another-clause-own
 returns-then-not-is_another-clause-own g c =
-    rw c.from.ensures (unread_own c.args.player.now.reader c.args.player.now.cued
+    rw c.from.ensures (unread_own c.args.player.now.reader c.args.player.now.course
+    c.args.player.now.cued
     (passage g.R.ByteIn.remaining g.R.ByteIn.failures c.args.input.now
     c.look_behind_items.new.input)
     (g.W.ByteOut.contents c.args.output.now) (g.W.ByteOut.failures c.args.output.now)
@@ -43,15 +45,16 @@ pub returns-in_err-write_told-in-Err-clause-answer :
 returns-in_err-write_told-in-Err-clause-answer g c =
     let p = err_from_is_err_and c.from_residual.result c.from_residual.ensures.1 in
     let r = c.args.player.now.reader in
+    let course = c.args.player.now.course in
     let cued = c.args.player.now.cued in
     let i = passage g.R.ByteIn.remaining g.R.ByteIn.failures c.args.input.now
     c.look_behind_items.new.input in
-    let met = subst (λ z. StopsReading any_value (items_noted r cued) i z)
+    let met = subst (λ z. StopsReading any_value (items_noted r course cued) i z)
     (c.is_another.ensures.yes c.if-not-is_another.false) c.in-Err.ensures.answer in
-    rw (p.1, p.2) (another_untold r cued i
+    rw (p.1, p.2) (another_untold r course cued i
     (g.W.ByteOut.contents c.args.output.now) (g.W.ByteOut.contents c.write_told.new.output)
     (g.W.ByteOut.failures c.args.output.now) (g.W.ByteOut.failures c.write_told.new.output)
-    (λ output. another_is r cued i output met) c.in_err-write_told-in-Err.field-0.0
+    (λ output. another_is r course cued i output met) c.in_err-write_told-in-Err.field-0.0
     (rw c.end.ensures at c.in_err-write_told-in-Err.ensures))
 
 pub returns-in_err-write_told-in-Err-clause-own : goal.returns-in_err-write_told-in-Err-clause-own
@@ -62,17 +65,18 @@ returns-in_err-write_told-in-Err-clause-own g c =
 pub returns-in_ok-write_told-in-Err-clause-answer : goal.returns-in_ok-write_told-in-Err-clause-answer
 returns-in_ok-write_told-in-Err-clause-answer g c =
     let r = c.args.player.now.reader in
+    let course = c.args.player.now.course in
     let cued = c.args.player.now.cued in
     let i = passage g.R.ByteIn.remaining g.R.ByteIn.failures c.args.input.now
     c.look_behind_items.new.input in
-    let met = subst (λ z. StopsReading any_value (items_noted r cued) i z)
+    let met = subst (λ z. StopsReading any_value (items_noted r course cued) i z)
     (c.is_another.ensures.yes c.if-not-is_another.false) c.in-Err.ensures.answer in
-    another_told r cued i
+    another_told r course cued i
     (g.W.ByteOut.contents c.args.output.now) (g.W.ByteOut.contents c.write_told.new.output)
     (g.W.ByteOut.failures c.args.output.now) (g.W.ByteOut.failures c.write_told.new.output)
-    (λ output. another_is r cued i output met) c.args.counts.now c.tell.new.self
+    (λ output. another_is r course cued i output met) c.args.counts.now c.tell.new.self
     (rw c.end.ensures at c.in_ok-write_told-in-Err.ensures) c.tell.ensures
 
 pub returns-in_ok-write_told-in-Err-clause-noted : goal.returns-in_ok-write_told-in-Err-clause-noted
-returns-in_ok-write_told-in-Err-clause-noted g c = λ avi scope text ends.
+returns-in_ok-write_told-in-Err-clause-noted g c = λ avi plain scope text ends.
     absurd (avi_unread c.args.player.now.reader.place c.in-Err.fault c.in-Err.ensures.own avi)

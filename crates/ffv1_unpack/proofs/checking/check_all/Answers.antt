@@ -1,32 +1,21 @@
 -- Decodes all frames of a file that the profile reads, and goes on after a payload that is refused,
--- and in Matroska after a fault of the file itself.
-use Rattle.std.proofs.Common.{rules, ◌≡◌, true, false, ap, sym, ◌∙◌, inl, inr}
-use Rattle.std.proofs.lemmas.Result.{err_from_is_err_and}
-use Rattle.ffv1_files.specs.Places.{container_of}
-use Rattle.ffv1_unpack.specs.Internal.Containers.{is_segment}
+-- and at `Wide` after a fault of the file itself.
+use Rattle.std.proofs.Common.{◌≡◌, true, false, ap, sym, ◌∙◌, inl, inr}
 use Rattle.ffv1_wire.specs.Passage.{passage}
-use Rattle.ffv1_unpack.specs.Internal.Opens.{stream_of}
-use Rattle.ffv1_unpack.specs.Located.{Stands}
-use Rattle.ffv1_unpack.specs.ToldItems.{is_told}
-use Rattle.ffv1_unpack.proofs.ToldChecks.{again_again, again_err, again_ok, err_so, ok_so}
-use Rattle.ffv1_unpack.proofs.ToldChecks.{tried_again, tried_avi, tried_line, tried_telling}
-use Rattle.ffv1_unpack.proofs.FileRead.{holds_payloads}
-use Rattle.ffv1_unpack.proofs.FileEnded.{all_ended, behind_fails, behind_told}
-use Rattle.ffv1_unpack.proofs.AllJudged.{all_judged, all_none, all_stop, all_uncounted}
-use Rattle.ffv1_unpack.proofs.FileChecked.{lacks_opening}
-use Rattle.ffv1_unpack.proofs.FileItems.{count_fails, items_done, items_stop, items_unopened}
-use Rattle.ffv1_unpack.proofs.FileItems.{no_items}
-use Rattle.ffv1_unpack.proofs.OpenedAs.{either_read, read_as}
-use Rattle.ffv1_unpack.proofs.OwnFaults.{opening_checks, told_checks}
+use Rattle.ffv1_video.specs.Profiles.{scope_in}
 use Rattle.ffv1_unpack.specs.CheckAll.{judged_count}
 use Rattle.ffv1_unpack.specs.Judged.{IsJudged, judged_lines, payload_of}
-use Rattle.ffv1_unpack.proofs.ItemsJudged.{line_own}
-use Rattle.std.proofs.Common.{length, refl}
-use Rattle.ffv1_video.specs.Profiles.{scope_in}
-use Rattle.ffv1_unpack.proofs.ReadAgain.{line_again, telling_again, told_again}
+use Rattle.ffv1_unpack.specs.Located.{Stands}
+use Rattle.ffv1_unpack.specs.Internal.Plainly.{is_plain}
+use Rattle.ffv1_unpack.specs.ToldItems.{is_told}
+use Rattle.ffv1_unpack.proofs.FileChecked.{lacks_opening}
+use Rattle.ffv1_unpack.proofs.FileItems.{items_unopened}
+use Rattle.ffv1_unpack.proofs.OpenedAs.{either_on, read_on_as}
+use Rattle.ffv1_unpack.proofs.OwnFaults.{opening_checks, passing_checks}
+use Rattle.ffv1_unpack.proofs.ReadAgain.{passing_again, telling_again}
+use Rattle.ffv1_unpack.proofs.ToldChecks.{again_again, again_err, again_ok, err_so, ok_so, on_again}
+use Rattle.ffv1_unpack.proofs.ToldChecks.{on_checks, on_tried, plain_tried, tried_again}
 use Rattle.ffv1_unpack.proofs.checking.check_all.Goals as goal
-use Rattle.ffv1_unpack.proofs.checking.check_all.Goals.{else-counts-eq0-2-via-else-counts-eq0-2}
-use Rattle.ffv1_unpack.proofs.checking.check_all.Goals.{else-counts-eq0-2-via-then-counts-eq0-2+else-counts-eq0-3}
 
 pub returns-in-Err-clause-err : goal.returns-in-Err-clause-err
 returns-in-Err-clause-err g c =
@@ -36,7 +25,7 @@ returns-in-Err-clause-err g c =
     let n = g.W.ByteOut.failures in
     let f = c.in-Err.fault in
     let told = rw c.tells_byte-byte.ensures at c.tell_byte.ensures in
-    elim (either_read c.args.profile (i c.args.input.now)) [
+    elim (either_on c.args.profile (i c.args.input.now)) [
       | inl avi ↦ inl (
         avi,
         lacks_opening IsJudged payload_of (judged_lines c.args.place) judged_count
@@ -63,439 +52,111 @@ pub returns-in-Err-clause-own : goal.returns-in-Err-clause-own
 returns-in-Err-clause-own g c =
     opening_checks c.args.profile c.in-Err.fault c.in-Err.ensures.own
 
-pub returns-in_err-counts-in-Avi-clause-err : goal.returns-in_err-counts-in-Avi-clause-err
-returns-in_err-counts-in-Avi-clause-err g c =
-    let p = err_from_is_err_and c.from_residual.result c.from_residual.ensures.1 in
-    let o = g.W.ByteOut.contents c.args.output.now in
-    let n = g.W.ByteOut.failures c.args.output.now in
-    let kind : is_segment (container_of c.in-Ok.player.reader.place) ≡ false =
-    ap is_segment (sym c.container.ensures ∙ c.in-Avi.is) in
-    let read = read_as c.args.profile (g.R.ByteIn.remaining c.args.input.now)
-    (g.R.ByteIn.remaining c.open_player_located.new.input) c.in-Ok.player.reader.head
-    c.in-Ok.player.reader.place c.in-Ok.ensures.ok.known false kind in
-    rw (p.1, p.2) (inl (
-      read,
-      all_stop c.args.profile c.args.place (g.R.ByteIn.remaining c.args.input.now)
-          (g.R.ByteIn.remaining c.open_player_located.new.input)
-          (g.R.ByteIn.remaining c.judge_frames.new.input)
-          o (g.W.ByteOut.contents c.judge_frames.new.output) o (g.R.ByteIn.failures c.args.input.now)
-          (g.R.ByteIn.failures c.open_player_located.new.input)
-          (g.R.ByteIn.failures c.judge_frames.new.input)
-          n (g.W.ByteOut.failures c.judge_frames.new.output) n c.in-Ok.player.reader
-          c.in-Ok.player.decoder.accepted c.in-Ok.ensures.ok
-          (record {
-            reached = c.in-Ok.ensures.located;
-            ends = c.in-Ok.ensures.ends;
-            noted = c.in-Ok.ensures.noted;
-          })
-          c.in_err-counts-in-Avi.field-0.0 (rw c.tells_byte-byte.ensures at
-          c.in_err-counts-in-Avi.ensures.err),
-    ))
-
-pub returns-in_err-counts-in-Avi-clause-own : goal.returns-in_err-counts-in-Avi-clause-own
-returns-in_err-counts-in-Avi-clause-own g c =
-    let p = err_from_is_err_and c.from_residual.result c.from_residual.ensures.1 in
-    rw (p.1, p.2) (told_checks c.args.profile c.in-Ok.player.reader
-    (g.R.ByteIn.remaining c.args.input.now)
-    (g.R.ByteIn.remaining c.open_player_located.new.input)
-    c.in_err-counts-in-Avi.field-0.0 (record {
-      reached = c.in-Ok.ensures.located;
-      ends = c.in-Ok.ensures.ends;
-      noted = c.in-Ok.ensures.noted;
-    })
-    c.in-Ok.ensures.ok.within c.in_err-counts-in-Avi.ensures.own)
-
-pub returns-then-counts-eq0-clause-err : goal.returns-then-counts-eq0-clause-err
-returns-then-counts-eq0-clause-err g c =
-    let o = g.W.ByteOut.contents c.args.output.now in
-    let n = g.W.ByteOut.failures c.args.output.now in
-    let kind : is_segment (container_of c.in-Ok.player.reader.place) ≡ false =
-    ap is_segment (sym c.container.ensures ∙ c.in-Avi.is) in
-    let read = read_as c.args.profile (g.R.ByteIn.remaining c.args.input.now)
-    (g.R.ByteIn.remaining c.open_player_located.new.input) c.in-Ok.player.reader.head
-    c.in-Ok.player.reader.place c.in-Ok.ensures.ok.known false kind in
-    let told = c.in_ok-counts-in-Avi.ensures.ok in
-    let none : c.in_ok-counts-in-Avi.counts.frames ≡ 0 = search rules in
-    inl (
-      read,
-      all_none c.args.profile c.args.place (g.R.ByteIn.remaining c.args.input.now)
-          (g.R.ByteIn.remaining c.open_player_located.new.input)
-          (g.R.ByteIn.remaining c.judge_frames.new.input)
-          o (g.W.ByteOut.contents c.judge_frames.new.output) o (g.R.ByteIn.failures c.args.input.now)
-          (g.R.ByteIn.failures c.open_player_located.new.input)
-          (g.R.ByteIn.failures c.judge_frames.new.input)
-          n (g.W.ByteOut.failures c.judge_frames.new.output) n c.in-Ok.player.reader
-          c.in-Ok.player.decoder.accepted c.in-Ok.ensures.ok
-          c.judge_frames.new.player.notes told.0 c.in_ok-counts-in-Avi.counts told.1 told.2 none,
-    )
-
-pub returns-in_err-write_counts-in-Avi-clause-err :
-    goal.returns-in_err-write_counts-in-Avi-clause-err
-returns-in_err-write_counts-in-Avi-clause-err g c =
-    let p = err_from_is_err_and c.from_residual-in_err-write_counts-in-Avi.result
-    c.from_residual-in_err-write_counts-in-Avi.ensures.1 in
-    let kind : is_segment (container_of c.in-Ok.player.reader.place) ≡ false =
-    ap is_segment (sym c.container.ensures ∙ c.in-Avi.is) in
-    let read = read_as c.args.profile (g.R.ByteIn.remaining c.args.input.now)
-    (g.R.ByteIn.remaining c.open_player_located.new.input) c.in-Ok.player.reader.head
-    c.in-Ok.player.reader.place c.in-Ok.ensures.ok.known false kind in
-    let told = c.in_ok-counts-in-Avi.ensures.ok in
-    rw (p.1, p.2) (inl (
-      read,
-      all_uncounted c.args.profile c.args.place (g.R.ByteIn.remaining c.args.input.now)
-          (g.R.ByteIn.remaining c.open_player_located.new.input)
-          (g.R.ByteIn.remaining c.judge_frames.new.input)
-          (g.W.ByteOut.contents c.args.output.now) (g.W.ByteOut.contents c.judge_frames.new.output)
-          (g.W.ByteOut.contents c.write_counts.new.output)
-          (g.R.ByteIn.failures c.args.input.now)
-          (g.R.ByteIn.failures c.open_player_located.new.input)
-          (g.R.ByteIn.failures c.judge_frames.new.input)
-          (g.W.ByteOut.failures c.args.output.now) (g.W.ByteOut.failures c.judge_frames.new.output)
-          (g.W.ByteOut.failures c.write_counts.new.output)
-          c.in-Ok.player.reader
-          c.in-Ok.player.decoder.accepted c.in-Ok.ensures.ok
-          c.judge_frames.new.player.notes told.0 c.in_ok-counts-in-Avi.counts told.1 told.2 c.in_err-write_counts-in-Avi.field-0.0
-          c.in_err-write_counts-in-Avi.ensures,
-    ))
-
-pub returns-in-Avi-clause-ok : goal.returns-in-Avi-clause-ok
-returns-in-Avi-clause-ok g c =
-    let kind : is_segment (container_of c.in-Ok.player.reader.place) ≡ false =
-    ap is_segment (sym c.container.ensures ∙ c.in-Avi.is) in
-    let read = read_as c.args.profile (g.R.ByteIn.remaining c.args.input.now)
-    (g.R.ByteIn.remaining c.open_player_located.new.input) c.in-Ok.player.reader.head
-    c.in-Ok.player.reader.place c.in-Ok.ensures.ok.known false kind in
-    let told = c.in_ok-counts-in-Avi.ensures.ok in
-    inl (
-      read,
-      all_judged c.args.profile c.args.place (g.R.ByteIn.remaining c.args.input.now)
-          (g.R.ByteIn.remaining c.open_player_located.new.input)
-          (g.R.ByteIn.remaining c.judge_frames.new.input)
-          (g.W.ByteOut.contents c.args.output.now) (g.W.ByteOut.contents c.judge_frames.new.output)
-          (g.W.ByteOut.contents c.write_counts.new.output)
-          (g.R.ByteIn.failures c.args.input.now)
-          (g.R.ByteIn.failures c.open_player_located.new.input)
-          (g.R.ByteIn.failures c.judge_frames.new.input)
-          (g.W.ByteOut.failures c.args.output.now) (g.W.ByteOut.failures c.judge_frames.new.output)
-          (g.W.ByteOut.failures c.write_counts.new.output)
-          c.in-Ok.player.reader
-          c.in-Ok.player.decoder.accepted c.in-Ok.ensures.ok
-          c.judge_frames.new.player.notes told.0 c.in_ok-counts-in-Avi.counts told.1 told.2
-          (holds_payloads c.frames_come_in_turn.ensures c.what_is_read_is_a_file.ensures.first
-          c.what_is_read_is_a_file.ensures.whole)
-          c.if-counts-eq0.false
-          c.in_ok-write_counts-in-Avi.ensures.0 c.in_ok-write_counts-in-Avi.ensures.1
-          (c.in_ok-counts-in-Avi.ensures.noted (length told.0) told.1.frames refl
-          (scope_in c.args.profile) (g.R.ByteIn.remaining c.args.input.now) (record {
-            reached = c.in-Ok.ensures.located;
-            ends = c.in-Ok.ensures.ends;
-            noted = c.in-Ok.ensures.noted;
-          })),
-    )
-
-pub returns-in_err-counts-in-Matroska-clause-err : goal.returns-in_err-counts-in-Matroska-clause-err
-returns-in_err-counts-in-Matroska-clause-err g c =
-    let p = err_from_is_err_and c.from_residual-in_err-counts-in-Matroska.result
-    c.from_residual-in_err-counts-in-Matroska.ensures.1 in
-    let kind : is_segment (container_of c.in-Ok.player.reader.place) ≡ true =
-    ap is_segment (sym c.container.ensures ∙ c.in-Matroska.is) in
-    let read = read_as c.args.profile (g.R.ByteIn.remaining c.args.input.now)
-    (g.R.ByteIn.remaining c.open_player_located.new.input) c.in-Ok.player.reader.head
-    c.in-Ok.player.reader.place c.in-Ok.ensures.ok.known true kind in
-    rw (p.1, p.2) (inr (inl (
-      read,
-      items_stop c.args.profile (g.R.ByteIn.remaining c.args.input.now)
-          (g.R.ByteIn.remaining c.open_player_located.new.input)
-          (g.R.ByteIn.remaining c.judge_items.new.input)
-          (g.R.ByteIn.failures c.args.input.now)
-          (g.R.ByteIn.failures c.open_player_located.new.input)
-          (g.R.ByteIn.failures c.judge_items.new.input)
-          c.in-Ok.player.reader c.in-Ok.player.decoder.accepted c.in-Ok.ensures.ok
-          c.in-Ok.ensures.located c.args.place (g.W.ByteOut.contents c.args.output.now)
-          (g.W.ByteOut.contents c.judge_items.new.output) (g.W.ByteOut.failures c.args.output.now)
-          (g.W.ByteOut.failures c.judge_items.new.output)
-          c.in_err-counts-in-Matroska.field-0.0 c.in_err-counts-in-Matroska.ensures.err,
-    )))
-
-pub returns-in_err-notes-in-Matroska-clause-err : goal.returns-in_err-notes-in-Matroska-clause-err
-returns-in_err-notes-in-Matroska-clause-err g c =
-    let p = err_from_is_err_and c.from_residual-in_err-notes-in-Matroska.result
-    c.from_residual-in_err-notes-in-Matroska.ensures.1 in
-    let kind : is_segment (container_of c.in-Ok.player.reader.place) ≡ true =
-    ap is_segment (sym c.container.ensures ∙ c.in-Matroska.is) in
-    let read = read_as c.args.profile (g.R.ByteIn.remaining c.args.input.now)
-    (g.R.ByteIn.remaining c.open_player_located.new.input) c.in-Ok.player.reader.head
-    c.in-Ok.player.reader.place c.in-Ok.ensures.ok.known true kind in
-    let told = c.in_ok-counts-in-Matroska.ensures.ok in
-    let counts = c.in_ok-counts-in-Matroska.counts in
-    let r = c.in-Ok.player.reader in
-    let cued = c.judge_items.new.player.cued in
+pub returns-then-is_plain-clause-ok : goal.returns-then-is_plain-clause-ok
+returns-then-is_plain-clause-ok g c =
     let stands : Stands (scope_in c.args.profile) (g.R.ByteIn.remaining c.args.input.now)
-    (g.R.ByteIn.remaining c.open_player_located.new.input) r = record {
+    (g.R.ByteIn.remaining c.open_player_located.new.input) c.in-Ok.player.reader = record {
       reached = c.in-Ok.ensures.located;
       ends = c.in-Ok.ensures.ends;
       noted = c.in-Ok.ensures.noted;
     } in
-    let cues = rw c.in-Ok.ensures.uncued at c.in_ok-counts-in-Matroska.ensures.cued in
-    let stays = c.in_ok-counts-in-Matroska.ensures.reader in
-    rw (p.1, p.2) (inr (inl (
-      read,
-      behind_fails c.args.profile (g.R.ByteIn.remaining c.args.input.now)
-          (g.R.ByteIn.remaining c.open_player_located.new.input)
-          (g.R.ByteIn.remaining c.judge_items.new.input) (g.R.ByteIn.remaining c.tell_behind.new.input)
-          (g.R.ByteIn.failures c.args.input.now) (g.R.ByteIn.failures c.open_player_located.new.input)
-          (g.R.ByteIn.failures c.judge_items.new.input) (g.R.ByteIn.failures c.tell_behind.new.input)
-          r c.in-Ok.player.decoder.accepted c.in-Ok.ensures.ok stands kind cued cues c.args.place
-          (g.W.ByteOut.contents c.args.output.now) (g.W.ByteOut.contents c.judge_items.new.output)
-          (g.W.ByteOut.contents c.tell_behind.new.output) (g.W.ByteOut.failures c.args.output.now)
-          (g.W.ByteOut.failures c.judge_items.new.output) (g.W.ByteOut.failures c.tell_behind.new.output)
-          told.0 counts told.1 told.2
-          c.in_err-notes-in-Matroska.field-0.0
-          (rw stays at c.in_err-notes-in-Matroska.ensures.answer),
-    )))
+    let is = ap is_plain (sym c.course.ensures) ∙ sym c.is_plain.ensures ∙ c.if-is_plain.true in
+    let read = read_on_as c.args.profile (g.R.ByteIn.remaining c.args.input.now)
+    (g.R.ByteIn.remaining c.open_player_located.new.input) c.in-Ok.player.reader stands true
+    is in
+    ok_so _ _ c.judge_plainly.result (λ told h. inl (read, h))
+    (c.judge_plainly.ensures.ok c.args.profile (g.R.ByteIn.remaining c.args.input.now)
+    (g.R.ByteIn.failures c.args.input.now) c.in-Ok.ensures.ok stands)
 
-pub returns-in_err-notes-in-Matroska-clause-own : goal.returns-in_err-notes-in-Matroska-clause-own
-returns-in_err-notes-in-Matroska-clause-own g c =
-    let p = err_from_is_err_and c.from_residual-in_err-notes-in-Matroska.result
-    c.from_residual-in_err-notes-in-Matroska.ensures.1 in
-    rw (p.1, p.2) (inr (inl c.in_err-notes-in-Matroska.ensures.own))
-
-pub returns-then-counts-eq0-3-clause-err : goal.returns-then-counts-eq0-3-clause-err
-returns-then-counts-eq0-3-clause-err g c =
-    let kind : is_segment (container_of c.in-Ok.player.reader.place) ≡ true =
-    ap is_segment (sym c.container.ensures ∙ c.in-Matroska.is) in
-    let read = read_as c.args.profile (g.R.ByteIn.remaining c.args.input.now)
-    (g.R.ByteIn.remaining c.open_player_located.new.input) c.in-Ok.player.reader.head
-    c.in-Ok.player.reader.place c.in-Ok.ensures.ok.known true kind in
-    let told = c.in_ok-counts-in-Matroska.ensures.ok in
-    let counts = c.in_ok-counts-in-Matroska.counts in
-    let r = c.in-Ok.player.reader in
-    let cued = c.judge_items.new.player.cued in
+pub returns-then-is_plain-clause-err : goal.returns-then-is_plain-clause-err
+returns-then-is_plain-clause-err g c =
     let stands : Stands (scope_in c.args.profile) (g.R.ByteIn.remaining c.args.input.now)
-    (g.R.ByteIn.remaining c.open_player_located.new.input) r = record {
+    (g.R.ByteIn.remaining c.open_player_located.new.input) c.in-Ok.player.reader = record {
       reached = c.in-Ok.ensures.located;
       ends = c.in-Ok.ensures.ends;
       noted = c.in-Ok.ensures.noted;
     } in
-    let cues = rw c.in-Ok.ensures.uncued at c.in_ok-counts-in-Matroska.ensures.cued in
-    let stays = c.in_ok-counts-in-Matroska.ensures.reader in
-    let notes = c.in_ok-notes-in-Matroska.notes in
-    let new = c.tell_behind.new.counts in
-    let behind = behind_told c.args.profile (g.R.ByteIn.remaining c.args.input.now)
-    (g.R.ByteIn.remaining c.open_player_located.new.input)
-    (g.R.ByteIn.remaining c.judge_items.new.input) (g.R.ByteIn.remaining c.tell_behind.new.input)
-    (g.R.ByteIn.failures c.args.input.now) (g.R.ByteIn.failures c.open_player_located.new.input)
-    (g.R.ByteIn.failures c.judge_items.new.input) (g.R.ByteIn.failures c.tell_behind.new.input)
-    r c.in-Ok.player.decoder.accepted c.in-Ok.ensures.ok stands kind cued cues c.args.place
-    (g.W.ByteOut.contents c.args.output.now) (g.W.ByteOut.contents c.judge_items.new.output)
-    (g.W.ByteOut.contents c.tell_behind.new.output) (g.W.ByteOut.failures c.args.output.now)
-    (g.W.ByteOut.failures c.judge_items.new.output) (g.W.ByteOut.failures c.tell_behind.new.output)
-    told.0 counts told.1 told.2 new notes
-    (rw stays at c.in_ok-notes-in-Matroska.ensures.answer) in
-    let ended = all_ended c.args.profile (g.R.ByteIn.remaining c.args.input.now)
-    (g.R.ByteIn.remaining c.open_player_located.new.input)
-    (g.R.ByteIn.remaining c.judge_items.new.input) (g.R.ByteIn.remaining c.tell_behind.new.input)
-    (g.R.ByteIn.failures c.args.input.now) (g.R.ByteIn.failures c.open_player_located.new.input)
-    (g.R.ByteIn.failures c.judge_items.new.input) (g.R.ByteIn.failures c.tell_behind.new.input)
-    r c.in-Ok.player.decoder.accepted c.in-Ok.ensures.ok stands kind cued cues c.args.place
-    (g.W.ByteOut.contents c.args.output.now) (g.W.ByteOut.contents c.judge_items.new.output)
-    (g.W.ByteOut.contents c.tell_behind.new.output) (g.W.ByteOut.failures c.args.output.now)
-    (g.W.ByteOut.failures c.judge_items.new.output) (g.W.ByteOut.failures c.tell_behind.new.output)
-    told.0 counts told.1 told.2 new notes behind in
-    let frames : new.frames ≡ 0 = search rules in
-    let faults : new.faults ≡ 0 = search rules in
-    inr (inl (
-      read,
-      no_items c.args.profile c.args.place
-          (passage g.R.ByteIn.remaining g.R.ByteIn.failures c.args.input.now
-          c.tell_behind.new.input)
-          (g.W.ByteOut.contents c.args.output.now) (g.W.ByteOut.contents c.tell_behind.new.output)
-          (g.W.ByteOut.failures c.args.output.now) (g.W.ByteOut.failures c.tell_behind.new.output)
-          (stream_of r c.in-Ok.player.decoder.accepted) told.0 behind.behind notes new ended
-          behind.counted (behind.written ∙ told.2.wrote.written) behind.writes
-          frames faults,
-    ))
+    let is = ap is_plain (sym c.course.ensures) ∙ sym c.is_plain.ensures ∙ c.if-is_plain.true in
+    let read = read_on_as c.args.profile (g.R.ByteIn.remaining c.args.input.now)
+    (g.R.ByteIn.remaining c.open_player_located.new.input) c.in-Ok.player.reader stands true
+    is in
+    err_so _ _ c.judge_plainly.result (λ f h. inl (read, h))
+    (c.judge_plainly.ensures.err c.args.profile (g.R.ByteIn.remaining c.args.input.now)
+    (g.R.ByteIn.failures c.args.input.now) c.in-Ok.ensures.ok stands c.tells_byte-byte.ensures)
 
-pub returns-in_err-write_counts-in-Matroska-clause-err :
-    goal.returns-in_err-write_counts-in-Matroska-clause-err
-returns-in_err-write_counts-in-Matroska-clause-err g c =
-    let p = err_from_is_err_and c.from_residual-in_err-write_counts-in-Matroska.result
-    c.from_residual-in_err-write_counts-in-Matroska.ensures.1 in
-    let kind : is_segment (container_of c.in-Ok.player.reader.place) ≡ true =
-    ap is_segment (sym c.container.ensures ∙ c.in-Matroska.is) in
-    let read = read_as c.args.profile (g.R.ByteIn.remaining c.args.input.now)
-    (g.R.ByteIn.remaining c.open_player_located.new.input) c.in-Ok.player.reader.head
-    c.in-Ok.player.reader.place c.in-Ok.ensures.ok.known true kind in
-    let told = c.in_ok-counts-in-Matroska.ensures.ok in
-    let counts = c.in_ok-counts-in-Matroska.counts in
-    let r = c.in-Ok.player.reader in
-    let cued = c.judge_items.new.player.cued in
+pub returns-then-is_plain-clause-own : goal.returns-then-is_plain-clause-own
+returns-then-is_plain-clause-own g c =
     let stands : Stands (scope_in c.args.profile) (g.R.ByteIn.remaining c.args.input.now)
-    (g.R.ByteIn.remaining c.open_player_located.new.input) r = record {
+    (g.R.ByteIn.remaining c.open_player_located.new.input) c.in-Ok.player.reader = record {
       reached = c.in-Ok.ensures.located;
       ends = c.in-Ok.ensures.ends;
       noted = c.in-Ok.ensures.noted;
     } in
-    let cues = rw c.in-Ok.ensures.uncued at c.in_ok-counts-in-Matroska.ensures.cued in
-    let stays = c.in_ok-counts-in-Matroska.ensures.reader in
-    let notes = c.in_ok-notes-in-Matroska.notes in
-    let new = c.tell_behind.new.counts in
-    let behind = behind_told c.args.profile (g.R.ByteIn.remaining c.args.input.now)
-    (g.R.ByteIn.remaining c.open_player_located.new.input)
-    (g.R.ByteIn.remaining c.judge_items.new.input) (g.R.ByteIn.remaining c.tell_behind.new.input)
-    (g.R.ByteIn.failures c.args.input.now) (g.R.ByteIn.failures c.open_player_located.new.input)
-    (g.R.ByteIn.failures c.judge_items.new.input) (g.R.ByteIn.failures c.tell_behind.new.input)
-    r c.in-Ok.player.decoder.accepted c.in-Ok.ensures.ok stands kind cued cues c.args.place
-    (g.W.ByteOut.contents c.args.output.now) (g.W.ByteOut.contents c.judge_items.new.output)
-    (g.W.ByteOut.contents c.tell_behind.new.output) (g.W.ByteOut.failures c.args.output.now)
-    (g.W.ByteOut.failures c.judge_items.new.output) (g.W.ByteOut.failures c.tell_behind.new.output)
-    told.0 counts told.1 told.2 new notes
-    (rw stays at c.in_ok-notes-in-Matroska.ensures.answer) in
-    let ended = all_ended c.args.profile (g.R.ByteIn.remaining c.args.input.now)
-    (g.R.ByteIn.remaining c.open_player_located.new.input)
-    (g.R.ByteIn.remaining c.judge_items.new.input) (g.R.ByteIn.remaining c.tell_behind.new.input)
-    (g.R.ByteIn.failures c.args.input.now) (g.R.ByteIn.failures c.open_player_located.new.input)
-    (g.R.ByteIn.failures c.judge_items.new.input) (g.R.ByteIn.failures c.tell_behind.new.input)
-    r c.in-Ok.player.decoder.accepted c.in-Ok.ensures.ok stands kind cued cues c.args.place
-    (g.W.ByteOut.contents c.args.output.now) (g.W.ByteOut.contents c.judge_items.new.output)
-    (g.W.ByteOut.contents c.tell_behind.new.output) (g.W.ByteOut.failures c.args.output.now)
-    (g.W.ByteOut.failures c.judge_items.new.output) (g.W.ByteOut.failures c.tell_behind.new.output)
-    told.0 counts told.1 told.2 new notes behind in
-    rw (p.1, p.2) (inr (inl (
-      read,
-      count_fails c.args.profile c.args.place
-          (passage g.R.ByteIn.remaining g.R.ByteIn.failures c.args.input.now
-          c.tell_behind.new.input)
-          (g.W.ByteOut.contents c.args.output.now) (g.W.ByteOut.contents c.tell_behind.new.output)
-          (g.W.ByteOut.failures c.args.output.now) (g.W.ByteOut.failures c.tell_behind.new.output)
-          (stream_of r c.in-Ok.player.decoder.accepted) told.0 behind.behind notes new ended
-          behind.counted (behind.written ∙ told.2.wrote.written) behind.writes
-          (g.W.ByteOut.contents c.write_counts-in-Matroska.new.output)
-          (g.W.ByteOut.failures c.write_counts-in-Matroska.new.output)
-          c.in_err-write_counts-in-Matroska.field-0.0 c.in_err-write_counts-in-Matroska.ensures,
-    )))
+    err_so _ _ c.judge_plainly.result (λ f h. passing_checks c.args.profile c.in-Ok.player.reader
+    (g.R.ByteIn.remaining c.args.input.now) (g.R.ByteIn.remaining c.open_player_located.new.input)
+    f stands c.in-Ok.ensures.ok.within h) c.judge_plainly.ensures.own
 
-pub returns-in_err-write_counts-in-Matroska-clause-own :
-    goal.returns-in_err-write_counts-in-Matroska-clause-own
-returns-in_err-write_counts-in-Matroska-clause-own g c =
-    let p = err_from_is_err_and c.from_residual-in_err-write_counts-in-Matroska.result
-    c.from_residual-in_err-write_counts-in-Matroska.ensures.1 in
-    rw (p.1, p.2) (inr (inl (line_own _ _ c.in_err-write_counts-in-Matroska.field-0.0
-    c.in_err-write_counts-in-Matroska.ensures)))
+pub returns-then-is_plain-clause-again : goal.returns-then-is_plain-clause-again
+returns-then-is_plain-clause-again g c =
+    err_so _ _ c.judge_plainly.result (passing_again c.args.profile (g.R.AgainIn.begins c.args.input.now)
+    (passage g.R.ByteIn.remaining g.R.ByteIn.failures c.args.input.now c.judge_plainly.new.input)
+    c.in-Ok.player.reader (g.R.ByteIn.remaining c.open_player_located.new.input))
+    c.judge_plainly.ensures.own
+
+pub returns-then-is_plain-clause-tried : goal.returns-then-is_plain-clause-tried
+returns-then-is_plain-clause-tried g c =
+    let is = ap is_plain (sym c.course.ensures) ∙ sym c.is_plain.ensures ∙ c.if-is_plain.true in
+    err_so _ _ c.judge_plainly.result (plain_tried c.args.profile (g.R.AgainIn.begins c.args.input.now)
+    (passage g.R.ByteIn.remaining g.R.ByteIn.failures c.args.input.now c.judge_plainly.new.input)
+    c.in-Ok.player.reader (g.R.ByteIn.remaining c.open_player_located.new.input) is)
+    c.judge_plainly.ensures.own
 
 pub returns-clause-ok : goal.returns-clause-ok
 returns-clause-ok g c =
-    let kind : is_segment (container_of c.in-Ok.player.reader.place) ≡ true =
-    ap is_segment (sym c.container.ensures ∙ c.in-Matroska.is) in
-    let read = read_as c.args.profile (g.R.ByteIn.remaining c.args.input.now)
-    (g.R.ByteIn.remaining c.open_player_located.new.input) c.in-Ok.player.reader.head
-    c.in-Ok.player.reader.place c.in-Ok.ensures.ok.known true kind in
-    let told = c.in_ok-counts-in-Matroska.ensures.ok in
-    let counts = c.in_ok-counts-in-Matroska.counts in
-    let r = c.in-Ok.player.reader in
-    let cued = c.judge_items.new.player.cued in
     let stands : Stands (scope_in c.args.profile) (g.R.ByteIn.remaining c.args.input.now)
-    (g.R.ByteIn.remaining c.open_player_located.new.input) r = record {
+    (g.R.ByteIn.remaining c.open_player_located.new.input) c.in-Ok.player.reader = record {
       reached = c.in-Ok.ensures.located;
       ends = c.in-Ok.ensures.ends;
       noted = c.in-Ok.ensures.noted;
     } in
-    let cues = rw c.in-Ok.ensures.uncued at c.in_ok-counts-in-Matroska.ensures.cued in
-    let stays = c.in_ok-counts-in-Matroska.ensures.reader in
-    let notes = c.in_ok-notes-in-Matroska.notes in
-    let new = c.tell_behind.new.counts in
-    let behind = behind_told c.args.profile (g.R.ByteIn.remaining c.args.input.now)
-    (g.R.ByteIn.remaining c.open_player_located.new.input)
-    (g.R.ByteIn.remaining c.judge_items.new.input) (g.R.ByteIn.remaining c.tell_behind.new.input)
-    (g.R.ByteIn.failures c.args.input.now) (g.R.ByteIn.failures c.open_player_located.new.input)
-    (g.R.ByteIn.failures c.judge_items.new.input) (g.R.ByteIn.failures c.tell_behind.new.input)
-    r c.in-Ok.player.decoder.accepted c.in-Ok.ensures.ok stands kind cued cues c.args.place
-    (g.W.ByteOut.contents c.args.output.now) (g.W.ByteOut.contents c.judge_items.new.output)
-    (g.W.ByteOut.contents c.tell_behind.new.output) (g.W.ByteOut.failures c.args.output.now)
-    (g.W.ByteOut.failures c.judge_items.new.output) (g.W.ByteOut.failures c.tell_behind.new.output)
-    told.0 counts told.1 told.2 new notes
-    (rw stays at c.in_ok-notes-in-Matroska.ensures.answer) in
-    let ended = all_ended c.args.profile (g.R.ByteIn.remaining c.args.input.now)
-    (g.R.ByteIn.remaining c.open_player_located.new.input)
-    (g.R.ByteIn.remaining c.judge_items.new.input) (g.R.ByteIn.remaining c.tell_behind.new.input)
-    (g.R.ByteIn.failures c.args.input.now) (g.R.ByteIn.failures c.open_player_located.new.input)
-    (g.R.ByteIn.failures c.judge_items.new.input) (g.R.ByteIn.failures c.tell_behind.new.input)
-    r c.in-Ok.player.decoder.accepted c.in-Ok.ensures.ok stands kind cued cues c.args.place
-    (g.W.ByteOut.contents c.args.output.now) (g.W.ByteOut.contents c.judge_items.new.output)
-    (g.W.ByteOut.contents c.tell_behind.new.output) (g.W.ByteOut.failures c.args.output.now)
-    (g.W.ByteOut.failures c.judge_items.new.output) (g.W.ByteOut.failures c.tell_behind.new.output)
-    told.0 counts told.1 told.2 new notes behind in
-    let some : new.frames ≡ 0 → new.faults ≡ 0 → ⊥ = elim c.else-counts-eq0-2.branch [
-      | else-counts-eq0-2-via-then-counts-eq0-2+else-counts-eq0-3 w ↦
-          λ frames faults. w.if-counts-eq0-3.false faults
-      | else-counts-eq0-2-via-else-counts-eq0-2 w ↦ λ frames faults. w.if-counts-eq0-2.false frames
-    ] in
-    inr (inl (
-      read,
-      items_done c.args.profile c.args.place
-          (passage g.R.ByteIn.remaining g.R.ByteIn.failures c.args.input.now
-          c.tell_behind.new.input)
-          (g.W.ByteOut.contents c.args.output.now) (g.W.ByteOut.contents c.tell_behind.new.output)
-          (g.W.ByteOut.failures c.args.output.now) (g.W.ByteOut.failures c.tell_behind.new.output)
-          (stream_of r c.in-Ok.player.decoder.accepted) told.0 behind.behind notes new ended
-          behind.counted (behind.written ∙ told.2.wrote.written) behind.writes
-          (g.W.ByteOut.contents c.write_counts-in-Matroska.new.output)
-          (g.W.ByteOut.failures c.write_counts-in-Matroska.new.output)
-          some c.in_ok-write_counts-in-Matroska.ensures.0 c.in_ok-write_counts-in-Matroska.ensures.1,
-    ))
+    let is = ap is_plain (sym c.course.ensures) ∙ sym c.is_plain.ensures ∙ c.if-is_plain.false in
+    let read = read_on_as c.args.profile (g.R.ByteIn.remaining c.args.input.now)
+    (g.R.ByteIn.remaining c.open_player_located.new.input) c.in-Ok.player.reader stands false
+    is in
+    ok_so _ _ c.judge_on.result (λ told h. inr (inl (read, h)))
+    (c.judge_on.ensures.ok c.args.profile (g.R.ByteIn.remaining c.args.input.now)
+    (g.R.ByteIn.failures c.args.input.now) c.in-Ok.ensures.ok stands c.in-Ok.ensures.uncued)
 
-pub returns-in_err-counts-in-Avi-clause-again : goal.returns-in_err-counts-in-Avi-clause-again
-returns-in_err-counts-in-Avi-clause-again g c =
-    let p = err_from_is_err_and c.from_residual.result c.from_residual.ensures.1 in
-    rw (p.1, p.2) (told_again c.args.profile
-    (g.R.AgainIn.begins c.args.input.now)
-    (passage g.R.ByteIn.remaining g.R.ByteIn.failures c.args.input.now c.judge_frames.new.input)
-    c.in-Ok.player.reader (g.R.ByteIn.remaining c.open_player_located.new.input)
-    c.in_err-counts-in-Avi.field-0.0 c.in_err-counts-in-Avi.ensures.own)
+pub returns-clause-err : goal.returns-clause-err
+returns-clause-err g c =
+    let stands : Stands (scope_in c.args.profile) (g.R.ByteIn.remaining c.args.input.now)
+    (g.R.ByteIn.remaining c.open_player_located.new.input) c.in-Ok.player.reader = record {
+      reached = c.in-Ok.ensures.located;
+      ends = c.in-Ok.ensures.ends;
+      noted = c.in-Ok.ensures.noted;
+    } in
+    let is = ap is_plain (sym c.course.ensures) ∙ sym c.is_plain.ensures ∙ c.if-is_plain.false in
+    let read = read_on_as c.args.profile (g.R.ByteIn.remaining c.args.input.now)
+    (g.R.ByteIn.remaining c.open_player_located.new.input) c.in-Ok.player.reader stands false
+    is in
+    err_so _ _ c.judge_on.result (λ f h. inr (inl (read, h)))
+    (c.judge_on.ensures.err c.args.profile (g.R.ByteIn.remaining c.args.input.now)
+    (g.R.ByteIn.failures c.args.input.now) c.in-Ok.ensures.ok stands c.in-Ok.ensures.uncued)
 
-pub returns-in_err-write_counts-in-Avi-clause-again : goal.returns-in_err-write_counts-in-Avi-clause-again
-returns-in_err-write_counts-in-Avi-clause-again g c =
-    let p = err_from_is_err_and c.from_residual-in_err-write_counts-in-Avi.result
-    c.from_residual-in_err-write_counts-in-Avi.ensures.1 in
-    rw (p.1, p.2) (line_again c.args.profile
-    (g.R.AgainIn.begins c.args.input.now)
-    (passage g.R.ByteIn.remaining g.R.ByteIn.failures c.args.input.now c.judge_frames.new.input)
-    _ _ c.in_err-write_counts-in-Avi.field-0.0 c.in_err-write_counts-in-Avi.ensures)
+pub returns-clause-own : goal.returns-clause-own
+returns-clause-own g c = err_so _ _ c.judge_on.result (on_checks c.args.profile) c.judge_on.ensures.own
 
-pub returns-in_err-counts-in-Matroska-clause-again : goal.returns-in_err-counts-in-Matroska-clause-again
-returns-in_err-counts-in-Matroska-clause-again g c =
-    let p = err_from_is_err_and c.from_residual-in_err-counts-in-Matroska.result
-    c.from_residual-in_err-counts-in-Matroska.ensures.1 in
-    rw (p.1, p.2) (telling_again c.args.profile
-    (g.R.AgainIn.begins c.args.input.now)
-    (passage g.R.ByteIn.remaining g.R.ByteIn.failures c.args.input.now c.judge_items.new.input)
-    c.in_err-counts-in-Matroska.field-0.0 c.in_err-counts-in-Matroska.ensures.own)
+pub returns-clause-again : goal.returns-clause-again
+returns-clause-again g c =
+    err_so _ _ c.judge_on.result (on_again c.args.profile (g.R.AgainIn.begins c.args.input.now)
+    (passage g.R.ByteIn.remaining g.R.ByteIn.failures c.args.input.now c.judge_on.new.input))
+    c.judge_on.ensures.own
 
-pub returns-in_err-notes-in-Matroska-clause-again : goal.returns-in_err-notes-in-Matroska-clause-again
-returns-in_err-notes-in-Matroska-clause-again g c =
-    let p = err_from_is_err_and c.from_residual-in_err-notes-in-Matroska.result
-    c.from_residual-in_err-notes-in-Matroska.ensures.1 in
-    rw (p.1, p.2) (telling_again c.args.profile
-    (g.R.AgainIn.begins c.args.input.now)
-    (passage g.R.ByteIn.remaining g.R.ByteIn.failures c.args.input.now c.tell_behind.new.input)
-    c.in_err-notes-in-Matroska.field-0.0 c.in_err-notes-in-Matroska.ensures.own)
-
-pub returns-in_err-write_counts-in-Matroska-clause-again : goal.returns-in_err-write_counts-in-Matroska-clause-again
-returns-in_err-write_counts-in-Matroska-clause-again g c =
-    let p = err_from_is_err_and c.from_residual-in_err-write_counts-in-Matroska.result
-    c.from_residual-in_err-write_counts-in-Matroska.ensures.1 in
-    rw (p.1, p.2) (line_again c.args.profile
-    (g.R.AgainIn.begins c.args.input.now)
-    (passage g.R.ByteIn.remaining g.R.ByteIn.failures c.args.input.now c.tell_behind.new.input)
-    _ _ c.in_err-write_counts-in-Matroska.field-0.0 c.in_err-write_counts-in-Matroska.ensures)
-
-pub returns-in_err-write_counts-in-Avi-clause-own :
-    goal.returns-in_err-write_counts-in-Avi-clause-own
-returns-in_err-write_counts-in-Avi-clause-own g c =
-    let p = err_from_is_err_and c.from_residual-in_err-write_counts-in-Avi.result
-    c.from_residual-in_err-write_counts-in-Avi.ensures.1 in
-    rw (p.1, p.2) (inr (inl (line_own _ _ c.in_err-write_counts-in-Avi.field-0.0
-    c.in_err-write_counts-in-Avi.ensures)))
+pub returns-clause-tried : goal.returns-clause-tried
+returns-clause-tried g c =
+    err_so _ _ c.judge_on.result (on_tried c.args.profile (g.R.AgainIn.begins c.args.input.now)
+    (passage g.R.ByteIn.remaining g.R.ByteIn.failures c.args.input.now c.judge_on.new.input))
+    c.judge_on.ensures.own
 
 pub returns-in-Some-clause-ok : goal.returns-in-Some-clause-ok
 returns-in-Some-clause-ok g c =
@@ -545,49 +206,3 @@ returns-in-Some-clause-tried g c =
     (g.R.ByteIn.failures c.check_again.new.input)
     (passage g.W.ByteOut.contents g.W.ByteOut.failures c.args.output.now c.check_again.new.output)
     c.in-Err.fault f _ h) stops
-
-pub returns-in_err-counts-in-Avi-clause-tried : goal.returns-in_err-counts-in-Avi-clause-tried
-returns-in_err-counts-in-Avi-clause-tried g c =
-    let p = err_from_is_err_and c.from_residual.result c.from_residual.ensures.1 in
-    let kind : is_segment (container_of c.in-Ok.player.reader.place) ≡ false =
-    ap is_segment (sym c.container.ensures ∙ c.in-Avi.is) in
-    rw (p.1, p.2) (tried_avi c.args.profile (g.R.AgainIn.begins c.args.input.now)
-    (passage g.R.ByteIn.remaining g.R.ByteIn.failures c.args.input.now c.judge_frames.new.input)
-    c.in-Ok.player.reader _ c.in_err-counts-in-Avi.field-0.0 kind
-    c.in_err-counts-in-Avi.ensures.own)
-
-pub returns-in_err-write_counts-in-Avi-clause-tried :
-    goal.returns-in_err-write_counts-in-Avi-clause-tried
-returns-in_err-write_counts-in-Avi-clause-tried g c =
-    let p = err_from_is_err_and c.from_residual-in_err-write_counts-in-Avi.result
-    c.from_residual-in_err-write_counts-in-Avi.ensures.1 in
-    rw (p.1, p.2) (tried_line c.args.profile (g.R.AgainIn.begins c.args.input.now)
-    (passage g.R.ByteIn.remaining g.R.ByteIn.failures c.args.input.now c.judge_frames.new.input)
-    _ _ c.in_err-write_counts-in-Avi.field-0.0 c.in_err-write_counts-in-Avi.ensures)
-
-pub returns-in_err-counts-in-Matroska-clause-tried :
-    goal.returns-in_err-counts-in-Matroska-clause-tried
-returns-in_err-counts-in-Matroska-clause-tried g c =
-    let p = err_from_is_err_and c.from_residual-in_err-counts-in-Matroska.result
-    c.from_residual-in_err-counts-in-Matroska.ensures.1 in
-    rw (p.1, p.2) (tried_telling c.args.profile (g.R.AgainIn.begins c.args.input.now)
-    (passage g.R.ByteIn.remaining g.R.ByteIn.failures c.args.input.now c.judge_items.new.input)
-    c.in_err-counts-in-Matroska.field-0.0 c.in_err-counts-in-Matroska.ensures.own)
-
-pub returns-in_err-notes-in-Matroska-clause-tried :
-    goal.returns-in_err-notes-in-Matroska-clause-tried
-returns-in_err-notes-in-Matroska-clause-tried g c =
-    let p = err_from_is_err_and c.from_residual-in_err-notes-in-Matroska.result
-    c.from_residual-in_err-notes-in-Matroska.ensures.1 in
-    rw (p.1, p.2) (tried_telling c.args.profile (g.R.AgainIn.begins c.args.input.now)
-    (passage g.R.ByteIn.remaining g.R.ByteIn.failures c.args.input.now c.tell_behind.new.input)
-    c.in_err-notes-in-Matroska.field-0.0 c.in_err-notes-in-Matroska.ensures.own)
-
-pub returns-in_err-write_counts-in-Matroska-clause-tried :
-    goal.returns-in_err-write_counts-in-Matroska-clause-tried
-returns-in_err-write_counts-in-Matroska-clause-tried g c =
-    let p = err_from_is_err_and c.from_residual-in_err-write_counts-in-Matroska.result
-    c.from_residual-in_err-write_counts-in-Matroska.ensures.1 in
-    rw (p.1, p.2) (tried_line c.args.profile (g.R.AgainIn.begins c.args.input.now)
-    (passage g.R.ByteIn.remaining g.R.ByteIn.failures c.args.input.now c.tell_behind.new.input)
-    _ _ c.in_err-write_counts-in-Matroska.field-0.0 c.in_err-write_counts-in-Matroska.ensures)

@@ -1,14 +1,14 @@
--- Judges the next item of a Segment, and writes its lines.
+-- Judges the next item of a file that is read on, and writes its lines.
 use Rattle.std.proofs.Common.{ap, subst, ◌∙◌}
 use Rattle.std.proofs.lemmas.Result.{err_from_is_err_and}
 use Rattle.ffv1_wire.specs.Passage.{passage}
 use Rattle.ffv1_files.specs.Answers.{ReadsAs}
 use Rattle.ffv1_files.specs.Items.{item_of, item_read}
-use Rattle.ffv1_files.specs.Places.{container_of}
 use Rattle.ffv1_unpack.specs.JudgedItems.{OfFrame, ToldAt}
 use Rattle.ffv1_unpack.specs.Internal.JudgedItems.{told_counted}
 use Rattle.ffv1_unpack.proofs.ItemsJudged.{frame_comes, item_fails, item_own, line_fails}
-use Rattle.ffv1_unpack.proofs.ItemsJudged.{segment_stays, told_comes}
+use Rattle.ffv1_unpack.proofs.ItemsJudged.{told_comes}
+use Rattle.ffv1_unpack.proofs.ItemsCourse.{kind_kept, plain_not}
 use Rattle.ffv1_unpack.proofs.judging_items.judge_item.Goals as goal
 
 pub returns-in-Err-clause-answer : goal.returns-in-Err-clause-answer
@@ -19,22 +19,18 @@ returns-in-Err-clause-answer g c =
     let reading = passage g.R.ByteIn.remaining g.R.ByteIn.failures c.args.input.now
     c.next_item-next.new.input in
     rw c.from.ensures
-    (item_fails c.args.place a c.args.judging.now.counts.frames c.next_item-next.new.self.place
-    course c.next_item-next.new.course reading (g.W.ByteOut.contents c.args.output.now)
-    (g.W.ByteOut.failures c.args.output.now) from c.requires.segment c.in-Err.fault
-    (c.in-Err.ensures.answer c.requires.sound))
+    (item_fails c.args.place a c.args.judging.now.counts.frames from
+    c.next_item-next.new.self.place course c.next_item-next.new.course reading
+    (g.W.ByteOut.contents c.args.output.now) (g.W.ByteOut.failures c.args.output.now)
+    c.requires.reads c.in-Err.fault (c.in-Err.ensures.answer c.requires.sound))
 
 pub returns-in-Err-clause-own : goal.returns-in-Err-clause-own
 returns-in-Err-clause-own g c =
     let from = c.args.player.now.reader.place in
-    let a = c.args.player.now.decoder.accepted in
-    let course = c.args.judging.now.course in
     let reading = passage g.R.ByteIn.remaining g.R.ByteIn.failures c.args.input.now
     c.next_item-next.new.input in
     rw c.from.ensures
-    (item_own c.args.place a c.args.judging.now.counts.frames c.next_item-next.new.self.place
-    course c.next_item-next.new.course reading (g.W.ByteOut.contents c.args.output.now)
-    (g.W.ByteOut.failures c.args.output.now) from c.requires.segment c.in-Err.fault
+    (item_own from c.args.judging.now.course c.requires.reads reading c.in-Err.fault
     (c.in-Err.ensures.answer c.requires.sound))
 
 pub returns-in_err-judge_payload-in-Frame-clause-answer :
@@ -65,8 +61,7 @@ pub returns-in_err-judge_payload-in-Frame-clause-reader :
     goal.returns-in_err-judge_payload-in-Frame-clause-reader
 returns-in_err-judge_payload-in-Frame-clause-reader g c =
     c.judge_payload.ensures.reader
-    ∙ segment_stays (container_of c.args.player.now.reader.place) c.args.player.now.reader
-    c.next_item-next.new.self c.requires.segment c.next_item-next.ensures.stays
+    ∙ c.next_item-next.ensures.still (plain_not c.args.judging.now.course c.requires.reads)
 
 pub returns-in_ok-judge_payload-in-Frame-clause-answer :
     goal.returns-in_ok-judge_payload-in-Frame-clause-answer
@@ -98,8 +93,7 @@ pub returns-in_ok-judge_payload-in-Frame-clause-reader :
     goal.returns-in_ok-judge_payload-in-Frame-clause-reader
 returns-in_ok-judge_payload-in-Frame-clause-reader g c =
     c.judge_payload.ensures.reader
-    ∙ segment_stays (container_of c.args.player.now.reader.place) c.args.player.now.reader
-    c.next_item-next.new.self c.requires.segment c.next_item-next.ensures.stays
+    ∙ c.next_item-next.ensures.still (plain_not c.args.judging.now.course c.requires.reads)
 
 pub returns-in_err-write_told-in-Told-clause-answer :
     goal.returns-in_err-write_told-in-Told-clause-answer
@@ -161,3 +155,38 @@ returns-in_ok-judge_payload-in-Frame-clause-cued g c =
 
 pub returns-in_ok-write_told-in-Told-clause-cued : goal.returns-in_ok-write_told-in-Told-clause-cued
 returns-in_ok-write_told-in-Told-clause-cued g c = c.in-Ok.ensures.cued c.requires.sound
+
+pub returns-in-End-clause-reader : goal.returns-in-End-clause-reader
+returns-in-End-clause-reader g c =
+    c.next_item-next.ensures.still (plain_not c.args.judging.now.course c.requires.reads)
+
+pub returns-in_ok-write_told-in-Told-clause-reader : goal.returns-in_ok-write_told-in-Told-clause-reader
+returns-in_ok-write_told-in-Told-clause-reader g c =
+    c.next_item-next.ensures.still (plain_not c.args.judging.now.course c.requires.reads)
+
+pub returns-in_err-write_told-in-Told-clause-reader : goal.returns-in_err-write_told-in-Told-clause-reader
+returns-in_err-write_told-in-Told-clause-reader g c =
+    c.next_item-next.ensures.still (plain_not c.args.judging.now.course c.requires.reads)
+
+pub returns-in-Err-clause-reader : goal.returns-in-Err-clause-reader
+returns-in-Err-clause-reader g c =
+    c.next_item-next.ensures.still (plain_not c.args.judging.now.course c.requires.reads)
+
+pub returns-in-End-clause-kind : goal.returns-in-End-clause-kind
+returns-in-End-clause-kind g c =
+    kind_kept c.args.judging.now.course c.next_item-next.new.course c.requires.reads
+    c.next_item-next.ensures.kind ∙ c.requires.reads
+
+pub returns-in_ok-judge_payload-in-Frame-clause-kind : goal.returns-in_ok-judge_payload-in-Frame-clause-kind
+returns-in_ok-judge_payload-in-Frame-clause-kind g c =
+    kind_kept c.args.judging.now.course c.next_item-next.new.course c.requires.reads
+    c.next_item-next.ensures.kind ∙ c.requires.reads
+
+pub returns-in_ok-write_told-in-Told-clause-kind : goal.returns-in_ok-write_told-in-Told-clause-kind
+returns-in_ok-write_told-in-Told-clause-kind g c =
+    kind_kept c.args.judging.now.course c.next_item-next.new.course c.requires.reads
+    c.next_item-next.ensures.kind ∙ c.requires.reads
+
+pub returns-in-End-clause-over : goal.returns-in-End-clause-over
+returns-in-End-clause-over g c = λ none avi.
+    c.in-Ok.ensures.ended c.requires.sound avi c.in-End.is

@@ -1,8 +1,12 @@
-use Rattle.std.proofs.Common.{◌≡◌, ◌-◌}
+use Rattle.std.proofs.Common.{◌≡◌, ◌-◌, false}
 use Rattle.ffv1_matroska.proofs.CuedTurns.{CuedSoFar}
-use Rattle.ffv1_unpack.specs.ItemsEnd.{cued_left, cued_up_to}
+use Rattle.ffv1_unpack.specs.ItemsEnd.{course_left, course_up_to, cued_left, cued_up_to}
 use Rattle.ffv1_wire.specs.Passage.{passage}
 use Rattle.ffv1_files.specs.Items.{course_of}
+use Rattle.ffv1_files.specs.Places.{container_of}
+use Rattle.ffv1_files.specs.declared.container.Container.TheVariants as container
+use Rattle.ffv1_unpack.specs.Internal.Plainly.{is_plain}
+use Rattle.ffv1_unpack.proofs.ItemsCourse.{CourseSoFar}
 use Rattle.ffv1_unpack.proofs.ItemsJudged.{ItemsSo}
 use Rattle.ffv1_unpack.proofs.judging_items.judge_items.Given as goal
 
@@ -18,3 +22,8 @@ invariant-loop-item g l =
     × CuedSoFar (cued_left l.fn.player.reader.place (course_of l.fn.player.reader) l.fn.player.cued)
     (cued_up_to (18446744073709551615 - l._item) l.fn.player.reader.place l.judging.course
     l.player.cued) (g.R.ByteIn.remaining l.initial.input) (g.R.ByteIn.remaining l.input)
+    × (is_plain l.judging.course ≡ false)
+    × (container_of l.fn.player.reader.place ≡ container.Avi →
+    CourseSoFar (course_left l.fn.player.reader.place (course_of l.fn.player.reader))
+    (course_up_to (18446744073709551615 - l._item) l.fn.player.reader.place l.judging.course)
+    (g.R.ByteIn.remaining l.initial.input) (g.R.ByteIn.remaining l.input))

@@ -170,8 +170,8 @@ returns-in_ok-salvage_frame-in-Frame-clause-cued g c =
 
 pub returns-in_ok-salvage_frame-in-Frame-clause-stays :
     goal.returns-in_ok-salvage_frame-in-Frame-clause-stays
-returns-in_ok-salvage_frame-in-Frame-clause-stays g c = λ size segment.
-    c.salvage_frame.ensures.reader ∙ c.in-Ok.ensures.stays size segment
+returns-in_ok-salvage_frame-in-Frame-clause-stays g c = λ reads.
+    c.salvage_frame.ensures.reader ∙ c.in-Ok.ensures.stays reads
 
 pub returns-in-End-clause-ended : goal.returns-in-End-clause-ended
 returns-in-End-clause-ended g c = λ none avi. c.in-Ok.ensures.ended c.in-End.is avi
@@ -184,3 +184,11 @@ returns-in_ok-write_told-in-Told-clause-fits g c = λ s fs same ready held. held
 
 pub returns-in_ok-write_told-in-Told-clause-cued : goal.returns-in_ok-write_told-in-Told-clause-cued
 returns-in_ok-write_told-in-Told-clause-cued g c = c.in-Ok.ensures.cued
+
+pub returns-in_ok-salvage_frame-in-Frame-clause-kept :
+    goal.returns-in_ok-salvage_frame-in-Frame-clause-kept
+returns-in_ok-salvage_frame-in-Frame-clause-kept g c =
+    rw c.salvage_frame.ensures.course c.read_item.ensures.kind
+
+pub returns-in-End-clause-over : goal.returns-in-End-clause-over
+returns-in-End-clause-over g c = λ none avi. c.in-Ok.ensures.over c.in-End.is avi

@@ -7,7 +7,7 @@ use Rattle.ffv1_avi.specs.Files.{frame_read}
 use Rattle.ffv1_avi.specs.Places.{extent_of}
 use Rattle.ffv1_avi.proofs.EndReadings.{answers_by, refused_by}
 use Rattle.ffv1_avi.proofs.Moves.{extent_first, frame_ends}
-use Rattle.ffv1_avi.proofs.BehindLaws.{end_told}
+use Rattle.ffv1_avi.proofs.BehindLaws.{end_open, end_told}
 use Rattle.ffv1_avi.proofs.ReadingFaults.{frame_own}
 use Rattle.ffv1_reads.proofs.Reading.{consumes_none}
 use Rattle.ffv1_avi.proofs.reader.AviReader.next_frame.Goals as goal
@@ -49,8 +49,20 @@ returns-in-Err-clause-answer g c =
 
 pub returns-in-Ok-None-clause-behind : goal.returns-in-Ok-None-clause-behind
 returns-in-Ok-None-clause-behind g c = rw (← c.self.view_is) (λ sound.
-    end_told (extent_of c.self.inside.place) _ _ _ _ _
+    end_told (extent_of c.self.inside.place) _ _ _ _ _ _
     (rw c.in-Ok-None.field-0-is at c.in-Ok-None.ensures.behind refl))
+
+pub returns-in-Ok-None-clause-open_ended : goal.returns-in-Ok-None-clause-open_ended
+returns-in-Ok-None-clause-open_ended g c = rw (← c.self.view_is) (λ sound.
+    end_open (extent_of c.self.inside.place) _ _ _ _ _ _
+    (rw c.in-Ok-None.field-0-is at c.in-Ok-None.ensures.behind refl))
+
+pub returns-then-self-eq0-2-clause-open_ended : goal.returns-then-self-eq0-2-clause-open_ended
+returns-then-self-eq0-2-clause-open_ended g c =
+    let place = c.args.self.now.place in
+    let input : place.input ≡ 0 = search rules in
+    λ sound. rw (extent_first place input)
+    (λ none. ap (λ (v : Standing). v.open_ended) c.self.view_is ∙ none)
 
 pub returns-then-self-eq0-2-clause-behind : goal.returns-then-self-eq0-2-clause-behind
 returns-then-self-eq0-2-clause-behind g c =

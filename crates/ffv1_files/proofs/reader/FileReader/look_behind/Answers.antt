@@ -7,14 +7,14 @@ use Rattle.ffv1_files.proofs.reader.FileReader.look_behind.Goals as goal
 
 pub returns-in-Avi-clause-answer : goal.returns-in-Avi-clause-answer
 returns-in-Avi-clause-answer g c = rw (← c.self.view_is, c.in-Avi.is, c.avi_notes.ensures)
-    (lists_noted None _ 0 false _ _ _ (passage g.R.ByteIn.remaining g.R.ByteIn.failures c.args.input.now
+    (lists_noted None _ 0 false _ _ _ _ (passage g.R.ByteIn.remaining g.R.ByteIn.failures c.args.input.now
     c.args.input.now) refl refl)
 
 pub returns-in-Avi-clause-noted : goal.returns-in-Avi-clause-noted
 returns-in-Avi-clause-noted g c =
     let rest = passage g.R.ByteIn.remaining g.R.ByteIn.failures c.args.input.now c.args.input.now in
     rw (← c.self.view_is, c.in-Avi.is, c.avi_notes.ensures) (λ s text ends.
-    noted_answer s text _ rest (Ok _) (lists_noted None _ 0 false _ _ _ rest refl refl) ends)
+    noted_answer s text _ rest (Ok _) (lists_noted None _ 0 false _ _ _ _ rest refl refl) ends)
 
 pub returns-in-Matroska-clause-answer : goal.returns-in-Matroska-clause-answer
 returns-in-Matroska-clause-answer g c = rw (← c.self.view_is, c.in-Matroska.is)

@@ -80,6 +80,15 @@ returns-clause-behind g c = elim c.match-self.branch [
       rw (← c.self.view_is, w.in-Matroska.is, w.self-inside-is) (λ none. refl)
 ]
 
+pub returns-clause-open_ended : goal.returns-clause-open_ended
+returns-clause-open_ended g c = elim c.match-self.branch [
+  | in-Avi w ↦
+      rw (← c.self.view_is, w.in-Avi.is, w.self-inside-is, w.result-is, w.input-is)
+      w.next_frame.ensures.open_ended
+  | in-Matroska w ↦
+      rw (← c.self.view_is, w.in-Matroska.is, w.self-inside-is) (λ none. refl)
+]
+
 pub returns-clause-repeats : goal.returns-clause-repeats
 returns-clause-repeats g c = elim c.match-self.branch [
   | in-Avi w ↦
@@ -112,7 +121,8 @@ returns-clause-noted g c = elim c.match-self.branch [
         counted = w.next_frame.ensures.repeats;
         streams = w.next_frame.ensures.others;
       })
-      w.next_frame.ensures.same (w.next_frame.ensures.behind none)))
+      w.next_frame.ensures.same (w.next_frame.ensures.behind none)
+      (w.next_frame.ensures.open_ended none)))
   | in-Matroska w ↦
       rw (← c.self.view_is, w.in-Matroska.is, w.self-inside-is, w.result-is, w.input-is)
       (λ none s text reached. segment_noted s text w.in-Matroska.reader

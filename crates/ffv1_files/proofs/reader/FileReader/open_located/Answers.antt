@@ -4,7 +4,7 @@
 use Rattle.std.proofs.Common.{inl, refl, arith}
 use Rattle.ffv1_wire.specs.Passage.{passage}
 use Rattle.ffv1_files.proofs.Locations.{movi_reached, movi_stopped}
-use Rattle.ffv1_files.proofs.Noted.{opens_noted}
+use Rattle.ffv1_files.proofs.NotedOpenings.{opens_noted}
 use Rattle.ffv1_files.proofs.NotedStreams.{movi_streams}
 use Rattle.ffv1_files.proofs.NotedTimes.{lists_begin}
 use Rattle.ffv1_matroska.specs.Times.{times_begun}
@@ -55,7 +55,7 @@ returns-in-Ok-clause-noted g c =
     rw c.in-FirstMovi.is (opens_noted _ p.old p.new _
     (movi_opens p (reader.head, reader.place) c.in-Ok.ensures.answer).1
     (movi_reached p reader c.open_located.new.offset c.in-Ok.ensures.offset) tt refl
-    c.in-Ok.ensures.none (omega (arith, c.in-Ok.ensures.least)) c.in-Ok.ensures.uncounted
+    c.in-Ok.ensures.none c.in-Ok.ensures.shut (omega (arith, c.in-Ok.ensures.least)) c.in-Ok.ensures.uncounted
     (movi_streams p.old p.new reader.others (InAvi reader.place) c.in-Ok.ensures.others)
     (lists_begin p.old p.new _ reader.place (times_begun 0)
     (movi_opens p (reader.head, reader.place) c.in-Ok.ensures.answer).1))
@@ -64,5 +64,5 @@ pub returns-in-Ok-open_whole-clause-noted : goal.returns-in-Ok-open_whole-clause
 returns-in-Ok-open_whole-clause-noted g c =
     let done = c.in-Ok-open_whole.ensures in
     rw c.in-Whole.is (opens_noted _ _ _ c.in-Ok-open_whole.reader done.answer.1 done.located
-    done.ends done.uncued done.untold done.least done.uncounted
+    done.ends done.uncued done.untold done.shut done.least done.uncounted
     done.streams done.times)
