@@ -17,7 +17,8 @@ ghost use Rattle.ffv1_decode.specs.Internal.Stands.{IsParked};
 
 use crate::column::Column;
 use ffv1_frame::fault::CodecFault;
-use ffv1_frame::line_word::{Above, LineCoding, LineWord};
+use ffv1_frame::line_word::LineWord;
+use ffv1_line::{Above, Coding};
 use ffv1_rice::{Bits, Fault, laws as rice_laws};
 use std::alloc::Allocator;
 
@@ -81,32 +82,29 @@ pub(crate) fn bits_left<'a>(column: &Column, bytes: &'a [u8]) -> Bits<'a>
 pub(crate) fn read_bits<W: LineWord, B: Allocator>(
     column: &mut Column,
     bytes: &[u8],
-    coding: &LineCoding<'_, B>,
+    coding: &Coding<'_, B>,
     states: &mut [u8],
     above: &Above<'_, W>,
     cur: &mut [W],
 ) -> Result<(), Refusal>
     requires holds { W.holds coding.now.bits }
     requires bits { (coding.now.bits ≡ 8) ⊎ (coding.now.bits ≡ 9) }
-    requires two_long { length above.now.two.now ≡ length cur.old }
-    requires one_long { length above.now.one.now ≡ length cur.old }
+    requires one_long { length above.now.one ≡ length cur.old }
     requires wide { length cur.old < 2 ^ 16 }
     requires index { column.old.index ≤ 32 }
     requires left { (n : ℕ) → column.old.bits ≡ Some n → n ≤ 8 * length bytes.now }
-    requires rows { length states.old ≡ contexts_of coding.now.set.now * 32 }
-    requires states { AreStates coding.now.bits (contexts_of coding.now.set.now) states.old }
+    requires rows { length states.old ≡ contexts_of coding.now.set * 32 }
+    requires states { AreStates coding.now.bits (contexts_of coding.now.set) states.old }
     ensures exact { (a : Accepted) (past : List Step) (read : List Bool) →
         let row = W.samples cur.new in
         IsParked bytes.now a.table column.old.parked past →
         AreLeft a bytes.now past read column.old.bits →
         (text : List Bool) × IsBehind a bytes.now past (read ++ text)
         × MatchResult result
-        (λ _. BitsRead (reading_of coding.now.set.now coding.now.bits
-        (W.samples above.now.two.now) (W.samples above.now.one.now)
+        (λ _. BitsRead (reading_of coding.now.set coding.now.bits above.now.two above.now.one
         (begins (state_at states.old) column.old.index) text) row (state_at states.new)
         column.new.index column.new.bits)
-        (λ e. BitsRefused (reading_of coding.now.set.now coding.now.bits
-        (W.samples above.now.two.now) (W.samples above.now.one.now)
+        (λ e. BitsRefused (reading_of coding.now.set coding.now.bits above.now.two above.now.one
         (begins (state_at states.old) column.old.index) text) row e.x e.fault) }
     ensures small { OnOk result ((x : ℕ) → x < length (W.samples cur.new) →
         slice_index (W.samples cur.new) x < 2 ^ coding.now.bits) }
@@ -118,7 +116,7 @@ pub(crate) fn read_bits<W: LineWord, B: Allocator>(
       bits = column.new.bits;
       index = column.new.index;
     } }
-    ensures states { AreStates coding.now.bits (contexts_of coding.now.set.now) states.new }
+    ensures states { AreStates coding.now.bits (contexts_of coding.now.set) states.new }
 {
     let mut bits = bits_left(column, bytes);
     match W::decode_bits(&mut bits, coding, states, &mut column.index, above, cur) {

@@ -31,8 +31,8 @@ use crate::places;
 use crate::shared::{first_difference, said_left};
 use ffv1_frame::class::class_of;
 use ffv1_frame::fault::{CodecFault, FrameFault};
-use ffv1_frame::line_word::{Above, LineCoding, LineWord, bits_of};
-use ffv1_line::{TooLong, laws as line_laws};
+use ffv1_frame::line_word::{LineWord, bits_of};
+use ffv1_line::{Above, Coding, TooLong, laws as line_laws};
 use ffv1_range::{Parked, laws as range_laws};
 use ffv1_record::{Colour, laws as record_laws};
 use ffv1_rice::laws as rice_laws;
@@ -43,7 +43,7 @@ use std::alloc::Allocator;
 fn read_segment<W: LineWord, B: Allocator>(
     parked: &mut Option<Parked>,
     bytes: &[u8],
-    coding: &LineCoding<'_, B>,
+    coding: &Coding<'_, B>,
     states: &mut [u8],
     above: &Above<'_, W>,
     cur: &mut [W],
@@ -52,26 +52,23 @@ fn read_segment<W: LineWord, B: Allocator>(
     requires bits { W.holds coding.now.bits }
     requires few { coding.now.bits ≤ 17 }
     requires some { 0 < length cur.old }
-    requires two_long { length above.now.two.now ≡ length cur.old }
-    requires one_long { length above.now.one.now ≡ length cur.old }
-    requires rows { length states.old ≡ contexts_of coding.now.set.now * 32 }
-    requires held { AllHeld coding.now.table.now states.old }
+    requires one_long { length above.now.one ≡ length cur.old }
+    requires rows { length states.old ≡ contexts_of coding.now.set * 32 }
+    requires held { AllHeld coding.now.table states.old }
     ensures exact { (past : List Step) (base : ℕ) (samples : List ℕ) (y : ℕ) →
-        let table = coding.now.table.now in
-        let set = coding.now.set.now in
         let row = W.samples cur.new in
-        Stands bytes.now table base parked.old states.old past →
-        Rolls (length row) samples (W.samples above.now.two.now) (W.samples above.now.one.now) y →
+        Stands bytes.now coding.now.table base parked.old states.old past →
+        Rolls (length row) samples above.now.two above.now.one y →
         MatchResult result
-        (λ _. SegmentRead bytes.now (coding_by table set coding.now.bits) base base past samples
-        (length row) y parked.new states.new row)
-        (λ e. SegmentRefused bytes.now (coding_by table set coding.now.bits) base base past samples
-        (length row) y parked.new (take e.x row) e.x) }
+        (λ _. SegmentRead bytes.now coding.now base base past samples (length row) y parked.new
+        states.new row)
+        (λ e. SegmentRefused bytes.now coding.now base base past samples (length row) y parked.new
+        (take e.x row) e.x) }
     ensures small { OnOk result ((x : ℕ) → x < length (W.samples cur.new) →
         slice_index (W.samples cur.new) x < 2 ^ coding.now.bits) }
     ensures inside { IfErr result (λ e. e.x < length (W.samples cur.new)) }
     ensures open { IsSome parked.new }
-    ensures held { AllHeld coding.now.table.now states.new }
+    ensures held { AllHeld coding.now.table states.new }
 {
     range_laws::array_states_follow_the_history();
     range_laws::decisions_of_two_parts_join();
@@ -117,8 +114,7 @@ fn read_column<W: LineWord, A: Allocator>(
         column.old }
     requires some { 0 < length cur.old }
     requires wide { length cur.old < 2 ^ 16 }
-    requires two_long { length above.now.two.now ≡ length cur.old }
-    requires one_long { length above.now.one.now ≡ length cur.old }
+    requires one_long { length above.now.one ≡ length cur.old }
     requires rows { length states.old ≡ slots_in frame.now.checked.now.configuration }
     requires kept { AreKept frame.now.checked.now states.old }
     ensures exact { is_rice frame.now.checked.now.configuration.coder ≡ false →
@@ -130,7 +126,7 @@ fn read_column<W: LineWord, A: Allocator>(
         let base = base_of a.configuration segment.now.plane in
         let row = W.samples cur.new in
         Stands bytes a.table 33 column.old.parked states.old past →
-        Rolls (length row) samples (W.samples above.now.two.now) (W.samples above.now.one.now) y →
+        Rolls (length row) samples above.now.two above.now.one y →
         MatchResult result
         (λ _. SegmentRead bytes (coding_by a.table set (bits_of a.configuration)) base 33 past
         samples (length row) y column.new.parked states.new row)
@@ -146,8 +142,7 @@ fn read_column<W: LineWord, A: Allocator>(
         column.old.indexes ≡ q.head.indexes →
         IsParked (coded n) a.table column.old.parked q.past →
         KeepsBits a (coded n) column.old states.old q →
-        Rolls (length row) (plane q.cells p) (W.samples above.now.two.now)
-        (W.samples above.now.one.now) segment.now.y →
+        Rolls (length row) (plane q.cells p) above.now.two above.now.one segment.now.y →
         MatchResult result
         (λ _. BitsLine a coded n p (length row) segment.now.y q row column.new states.new)
         (λ e. BitsStop a coded n p (length row) segment.now.y q row e.x e.fault) }
@@ -176,7 +171,7 @@ fn read_column<W: LineWord, A: Allocator>(
     let at = class * frame.most * 32;
     let end = at + set.contexts() as usize * 32;
     let bytes = &frame.payload[column.first..column.last];
-    let coding = LineCoding {
+    let coding = Coding {
         table: frame.checked.table(),
         set,
         bits: bits_of(frame.checked),
@@ -257,7 +252,7 @@ fn read_on<W: LineWord, A: Allocator>(
     segment: &Segment,
     columns: &mut [Column],
     states: &mut [u8],
-    above: &Above<'_, W>,
+    above: &LinesAbove<'_, W>,
     cur: &mut [W],
 ) -> Result<(), FrameFault>
     requires row { IsRow frame.now segment.now.row (row_slices columns.old states.old) }
@@ -331,11 +326,7 @@ pub(crate) fn read_at<W: LineWord, A: Allocator>(
     range_laws::counters_from_zero_show_all_steps();
     places::slices_lie_beside_one_another();
     let said = said_left(frame, segment, cur);
-    let lines = Above {
-        two: above.two,
-        one: above.one,
-    };
-    read_on(frame, segment, columns, states, &lines, cur)?;
+    read_on(frame, segment, columns, states, above, cur)?;
     let column = &columns[segment.column];
     if is_overread(frame, column) {
         return Err(frame.fault_in(CodecFault::Overread, segment, 0));

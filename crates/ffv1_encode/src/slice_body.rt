@@ -21,8 +21,8 @@ use crate::cell_rows::{ColourWord, PlaneRows, SlicePlane, load_all, restart, res
 use crate::slice::{Slice, index_of};
 use ffv1_frame::class::class_of;
 use ffv1_frame::fault::CodecFault;
-use ffv1_frame::line_word::{Above, LineCoding, LineWord, bits_of};
-use ffv1_line::{CellRows, Coding, RollingRows, encode_cell, laws as line_laws};
+use ffv1_frame::line_word::{LineWord, bits_of};
+use ffv1_line::{Above, CellRows, Coding, RollingRows, encode_cell, laws as line_laws};
 use ffv1_range::{RangeEncoder, laws as range_laws};
 use ffv1_record::laws as record_laws;
 use std::alloc::Allocator;
@@ -30,7 +30,7 @@ use std::alloc::Allocator;
 /// Codes a row of a cell, by the states of its class, which begin at this offset of all states.
 fn put_row<W: LineWord, R: Allocator, A: Allocator>(
     encoder: &mut RangeEncoder<R>,
-    coding: &LineCoding<'_, A>,
+    coding: &Coding<'_, A>,
     states: &mut [u8],
     at: usize,
     rows: &RollingRows<Vec<W, R>>,
@@ -41,13 +41,13 @@ fn put_row<W: LineWord, R: Allocator, A: Allocator>(
         ≡ length (W.samples rows.now.cur.items) }
     requires one_long { length (W.samples rows.now.one.items)
         ≡ length (W.samples rows.now.cur.items) }
-    requires fits { at + contexts_of coding.now.set.now * 32 ≤ length states.old }
-    requires held { AllHeld coding.now.table.now states.old }
+    requires fits { at + contexts_of coding.now.set * 32 ≤ length states.old }
+    requires held { AllHeld coding.now.table states.old }
     ensures ok { OnOk result ((cell : Cell) (y : ℕ) → Loaded W.samples cell y rows.now →
-        PutsAfter coding.now.table.now encoder.old states.old encoder.new states.new
-        (shifted (33 + at) (row_steps coding.now.set.now cell y 0
-        (chosen_row coding.now.set.now coding.now.bits cell y cell.width)))) }
-    ensures held { OnOk result (AllHeld coding.now.table.now states.new) }
+        PutsAfter coding.now.table encoder.old states.old encoder.new states.new
+        (shifted (33 + at) (row_steps coding.now.set cell y 0
+        (chosen_row coding.now.set coding.now.bits cell y cell.width)))) }
+    ensures held { OnOk result (AllHeld coding.now.table states.new) }
     ensures err { IfErr result (λ f. f ≡ fault.OutOfMemory) }
 {
     range_laws::array_states_follow_the_history();
@@ -70,24 +70,23 @@ fn put_row<W: LineWord, R: Allocator, A: Allocator>(
 /// Codes the rows of a cell, by the states of its class, which begin at this offset of all states.
 fn put_cell<R: Allocator, A: Allocator, C: CellRows>(
     encoder: &mut RangeEncoder<R>,
-    coding: &LineCoding<'_, A>,
+    coding: &Coding<'_, A>,
     states: &mut [u8],
     at: usize,
     rows: &mut RollingRows<Vec<u16, R>>,
     cell: &C,
 ) -> Result<(), CodecFault>
-    requires least { 8 ≤ coding.now.bits }
     requires most { coding.now.bits ≤ 16 }
     requires some { 0 < (C.cell cell.now).width }
     requires two { rows.old.two.items ≡ replicate (C.cell cell.now).width 0 }
     requires one { rows.old.one.items ≡ replicate (C.cell cell.now).width 0 }
     requires cur_long { length rows.old.cur.items ≡ (C.cell cell.now).width }
-    requires fits { at + contexts_of coding.now.set.now * 32 ≤ length states.old }
-    requires held { AllHeld coding.now.table.now states.old }
-    ensures ok { OnOk result (PutsAfter coding.now.table.now encoder.old states.old encoder.new
-        states.new (shifted (33 + at) (cell_steps coding.now.set.now (C.cell cell.now) 0
-        (chosen_rows coding.now.set.now coding.now.bits (C.cell cell.now) (C.rows cell.now))))) }
-    ensures held { OnOk result (AllHeld coding.now.table.now states.new) }
+    requires fits { at + contexts_of coding.now.set * 32 ≤ length states.old }
+    requires held { AllHeld coding.now.table states.old }
+    ensures ok { OnOk result (PutsAfter coding.now.table encoder.old states.old encoder.new
+        states.new (shifted (33 + at) (cell_steps coding.now.set (C.cell cell.now) 0
+        (chosen_rows coding.now.set coding.now.bits (C.cell cell.now) (C.rows cell.now))))) }
+    ensures held { OnOk result (AllHeld coding.now.table states.new) }
     ensures err { IfErr result (λ f. f ≡ fault.OutOfMemory) }
     ensures capacity { capacity_of_rows rows.new ≡ capacity_of_rows rows.old }
 {
@@ -95,15 +94,10 @@ fn put_cell<R: Allocator, A: Allocator, C: CellRows>(
     range_laws::decisions_of_two_parts_join();
     range_laws::counters_go_on_by_both_parts();
     line_laws::residual_length_follows_from_digits();
-    let LineCoding { table, set, bits } = coding;
+    let set = coding.set;
     set.is_a_bounded_set();
     let end = at + set.contexts() as usize * 32;
-    let coding = Coding {
-        table,
-        set,
-        bits: *bits,
-    };
-    let Ok(()) = encode_cell(encoder, &coding, &mut states[at..end], rows, cell) else {
+    let Ok(()) = encode_cell(encoder, coding, &mut states[at..end], rows, cell) else {
         return Err(CodecFault::OutOfMemory);
     };
     Ok(())
@@ -114,14 +108,14 @@ fn put_cell<R: Allocator, A: Allocator, C: CellRows>(
 fn coding_of<'a, A: Allocator, B: Allocator>(
     slice: &Slice<'a, A, B>,
     plane: u32,
-) -> (LineCoding<'a, A>, usize)
+) -> (Coding<'a, A>, usize)
     requires plane { plane < plane_count slice.now.checked.now.configuration }
-    ensures table { result.0.table.now ≡ slice.now.checked.now.table }
-    ensures set { result.0.set.now ≡ set_in slice.now.checked.now.configuration
+    ensures table { result.0.table ≡ slice.now.checked.now.table }
+    ensures set { result.0.set ≡ set_in slice.now.checked.now.configuration
         (chosen_head slice.now.checked.now.configuration slice.now.info) plane }
     ensures bits { result.0.bits ≡ bits_of slice.now.checked.now.configuration }
     ensures at { 33 + result.1 ≡ base_of slice.now.checked.now.configuration plane }
-    ensures fits { result.1 + contexts_of result.0.set.now * 32
+    ensures fits { result.1 + contexts_of result.0.set * 32
         ≤ states_in slice.now.checked.now.configuration }
 {
     record_laws::accepted_configuration_is_in_range();
@@ -131,7 +125,7 @@ fn coding_of<'a, A: Allocator, B: Allocator>(
     let at = 32 * (config.sets.most_contexts() as usize * class);
     let table = slice.checked.table();
     let bits = bits_of(slice.checked);
-    (LineCoding { table, set, bits }, at)
+    (Coding { table, set, bits }, at)
 }
 
 /// Codes a row of a plane, by the set and the states of the plane's class.

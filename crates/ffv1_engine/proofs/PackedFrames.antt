@@ -23,7 +23,7 @@ use Rattle.ffv1_codec.specs.Lines.{lines_of}
 use Rattle.ffv1_codec.specs.Picture.{IsPicture, Planes}
 use Rattle.ffv1_codec.specs.SliceList.{Said, chosen_slice}
 use Rattle.ffv1_frame.specs.declared.fault.FrameFault.{FrameFault}
-use Rattle.ffv1_frame.proofs.FromCoded.{coded_bytes}
+use Rattle.ffv1_frame.proofs.lemmas.laws.decoding.FromCoded.{coded_bytes}
 use Rattle.ffv1_video.specs.Video.{SaidHead}
 use Rattle.ffv1_words.specs.declared.order.Choice.{Choice}
 use Rattle.ffv1_words.specs.declared.order.CoderChoice.{CoderChoice}

@@ -8,44 +8,17 @@ ghost use Rattle.ffv1_range.specs.Symbols.{AllHeld};
 ghost use Rattle.ffv1_plane.specs.Quantisation.{contexts_of};
 ghost use Rattle.ffv1_line.specs.Decoded.{Lined, LinedToRefusal};
 ghost use Rattle.ffv1_line.specs.Encoded.{FailsForGood, Written, MayBeRefusedRow, CountsFirst};
-ghost use Rattle.ffv1_line.specs.Coding.{coding_by};
 ghost use Rattle.ffv1_line.specs.Coder.{decoder_by, encoder_by};
-ghost use Rattle.ffv1_line.specs.Above.{rows_above};
 ghost use Rattle.ffv1_rice.specs.Kept.{AreStates, state_at};
 ghost use Rattle.ffv1_rice.specs.Row.{begins};
 ghost use Rattle.ffv1_rice.specs.Rows.{AreSamples, IsRefused, RowRead, reading_of};
 ghost use Rattle.ffv1_frame.specs.SliceList.{bits_of};
 
-use ffv1_line::{
-    Coding, TooLong, WideAbove, WideCoding, Word, decode_line, decode_wide, encode_line,
-    encode_wide,
-};
-use ffv1_plane::QuantSet;
-use ffv1_range::{Fault, RangeDecoder, RangeEncoder, StateTable};
+use ffv1_line::{Above, Coding, TooLong, Word, decode_line, decode_wide, encode_line, encode_wide};
+use ffv1_range::{Fault, RangeDecoder, RangeEncoder};
 use ffv1_record::{Checked, Colour, laws as record_laws};
 use ffv1_rice::{Below, Bits, Fault as RiceFault, Refused, decode_row};
 use std::alloc::{AllocError, Allocator};
-
-/// The two lines above one that is read.
-#[derive(Clone, Copy)]
-pub struct Above<'a, W: Word> {
-    /// The upper one.
-    pub two: &'a [W],
-    /// The lower one.
-    pub one: &'a [W],
-}
-
-/// How a line is coded: by which table of states, by which quantisation table set, and how many
-/// bits a coded sample has.
-#[derive(Drop)]
-pub struct LineCoding<'a, B: Allocator> {
-    /// How states move.
-    pub table: &'a StateTable,
-    /// The quantisation table set of the plane.
-    pub set: &'a QuantSet<B>,
-    /// The bits of a coded sample.
-    pub bits: u8,
-}
 
 /// Words that lines of samples of some numbers of bits are coded in: 8 to 16 bits in words of 16
 /// bits, and 17 in words of 32.
@@ -56,53 +29,49 @@ pub trait LineWord: Word {
     /// Decodes a row of a cell, as `ffv1_line::decode_line` does.
     fn decode<B: Allocator>(
         decoder: &mut RangeDecoder<'_>,
-        coding: &LineCoding<'_, B>,
+        coding: &Coding<'_, B>,
         states: &mut [u8],
         above: &Above<'_, Self>,
         cur: &mut [Self],
     ) -> Result<(), TooLong>
         requires bits { holds coding.now.bits }
         requires some { 0 < length cur.old }
-        requires two_long { length above.now.two.now ≡ length cur.old }
-        requires one_long { length above.now.one.now ≡ length cur.old }
-        requires rows { length states.old ≡ contexts_of coding.now.set.now * 32 }
-        requires held { AllHeld coding.now.table.now states.old }
-        ensures ok { OnOk result (Lined (coding_by coding.now.table.now coding.now.set.now
-            coding.now.bits) (decoder_by decoder.old states.old) (decoder_by decoder.new states.new)
-            (rows_above (Self.samples above.now.two.now) (Self.samples above.now.one.now))
-            (Self.samples cur.new) (length (Self.samples cur.new))) }
-        ensures refused { IfErr result (λ e. LinedToRefusal (coding_by coding.now.table.now
-            coding.now.set.now coding.now.bits) (decoder_by decoder.old states.old)
-            (decoder_by decoder.new states.new) (rows_above (Self.samples above.now.two.now)
-            (Self.samples above.now.one.now)) (Self.samples cur.new) e.x) }
+        requires one_long { length above.now.one ≡ length cur.old }
+        requires rows { length states.old ≡ contexts_of coding.now.set * 32 }
+        requires held { AllHeld coding.now.table states.old }
+        ensures ok { OnOk result (Lined coding.now (decoder_by decoder.old states.old)
+            (decoder_by decoder.new states.new) above.now (Self.samples cur.new)
+            (length (Self.samples cur.new))) }
+        ensures refused { IfErr result (λ e. LinedToRefusal coding.now
+            (decoder_by decoder.old states.old) (decoder_by decoder.new states.new) above.now
+            (Self.samples cur.new) e.x) }
         ensures inside { IfErr result (λ e. e.x < length (Self.samples cur.new)) }
-        ensures held { AllHeld coding.now.table.now states.new };
+        ensures held { AllHeld coding.now.table states.new };
 
     /// Reads a row of a cell of Golomb-Rice coded samples, as `ffv1_rice::decode_row` does, if
     /// lines of so many bits are coded in words of this type. They have 8 or 9 bits, which words of
     /// 32 bits are never for, and these read nothing.
     fn decode_bits<B: Allocator>(
         bits: &mut Bits<'_>,
-        coding: &LineCoding<'_, B>,
+        coding: &Coding<'_, B>,
         states: &mut [u8],
         index: &mut u32,
         above: &Above<'_, Self>,
         cur: &mut [Self],
     ) -> Result<(), Refused>
         requires bits { (coding.now.bits ≡ 8) ⊎ (coding.now.bits ≡ 9) }
-        requires two_long { length above.now.two.now ≡ length cur.old }
-        requires one_long { length above.now.one.now ≡ length cur.old }
+        requires one_long { length above.now.one ≡ length cur.old }
         requires wide { length cur.old < 2 ^ 16 }
         requires index { index.old ≤ 32 }
-        requires rows { length states.old ≡ contexts_of coding.now.set.now * 32 }
-        requires states { AreStates coding.now.bits (contexts_of coding.now.set.now) states.old }
-        ensures ok { holds coding.now.bits → OnOk result (RowRead (reading_of coding.now.set.now
-            coding.now.bits (Self.samples above.now.two.now) (Self.samples above.now.one.now)
+        requires rows { length states.old ≡ contexts_of coding.now.set * 32 }
+        requires states { AreStates coding.now.bits (contexts_of coding.now.set) states.old }
+        ensures ok { holds coding.now.bits → OnOk result (RowRead (reading_of coding.now.set
+            coding.now.bits above.now.two above.now.one
             (begins (state_at states.old) index.old) bits.old) (Self.samples cur.new)
             (state_at states.new) index.new bits.new) }
         ensures refused { holds coding.now.bits → IfErr result (λ e. IsRefused
-            (reading_of coding.now.set.now coding.now.bits (Self.samples above.now.two.now)
-            (Self.samples above.now.one.now) (begins (state_at states.old) index.old) bits.old)
+            (reading_of coding.now.set coding.now.bits above.now.two
+            above.now.one (begins (state_at states.old) index.old) bits.old)
             (Self.samples cur.new) e.x e.fault) }
         ensures inside { holds coding.now.bits →
             IfErr result (λ e. e.x < length (Self.samples cur.new)) }
@@ -111,38 +80,31 @@ pub trait LineWord: Word {
         ensures samples_before { holds coding.now.bits →
             IfErr result (λ e. AreSamples coding.now.bits e.x (Self.samples cur.new)) }
         ensures index { index.new ≤ 32 }
-        ensures states { AreStates coding.now.bits (contexts_of coding.now.set.now) states.new };
+        ensures states { AreStates coding.now.bits (contexts_of coding.now.set) states.new };
 
     /// Codes a row of a cell, as `ffv1_line::encode_line` does.
     fn encode<R: Allocator, B: Allocator>(
         encoder: &mut RangeEncoder<R>,
-        coding: &LineCoding<'_, B>,
+        coding: &Coding<'_, B>,
         states: &mut [u8],
         above: &Above<'_, Self>,
         cur: &[Self],
     ) -> Result<(), Fault>
         requires bits { holds coding.now.bits }
         requires some { 0 < length (Self.samples cur.now) }
-        requires two_long { length (Self.samples above.now.two.now)
-            ≡ length (Self.samples cur.now) }
-        requires one_long { length (Self.samples above.now.one.now)
-            ≡ length (Self.samples cur.now) }
-        requires rows { length states.old ≡ contexts_of coding.now.set.now * 32 }
-        requires held { AllHeld coding.now.table.now states.old }
-        ensures ok { OnOk result (Written (coding_by coding.now.table.now coding.now.set.now
-            coding.now.bits) (encoder_by encoder.old states.old) (encoder_by encoder.new states.new)
-            (rows_above (Self.samples above.now.two.now) (Self.samples above.now.one.now))
-            (Self.samples cur.now) (length (Self.samples cur.now))) }
-        ensures refused { OnErr result (MayBeRefusedRow (coding_by coding.now.table.now
-            coding.now.set.now coding.now.bits) (encoder_by encoder.old states.old)
-            (rows_above (Self.samples above.now.two.now) (Self.samples above.now.one.now))
-            (Self.samples cur.now) (length (Self.samples cur.now))) }
-        ensures held { AllHeld coding.now.table.now states.new }
+        requires one_long { length above.now.one ≡ length (Self.samples cur.now) }
+        requires rows { length states.old ≡ contexts_of coding.now.set * 32 }
+        requires held { AllHeld coding.now.table states.old }
+        ensures ok { OnOk result (Written coding.now (encoder_by encoder.old states.old)
+            (encoder_by encoder.new states.new) above.now (Self.samples cur.now)
+            (length (Self.samples cur.now))) }
+        ensures refused { OnErr result (MayBeRefusedRow coding.now
+            (encoder_by encoder.old states.old) above.now (Self.samples cur.now)
+            (length (Self.samples cur.now))) }
+        ensures held { AllHeld coding.now.table states.new }
         ensures err { FailsForGood result encoder.new }
-        ensures kept { OnErr result (CountsFirst (coding_by coding.now.table.now coding.now.set.now
-            coding.now.bits) encoder.old.counts encoder.new.counts
-            (rows_above (Self.samples above.now.two.now) (Self.samples above.now.one.now))
-            (Self.samples cur.now)) };
+        ensures kept { OnErr result (CountsFirst coding.now encoder.old.counts encoder.new.counts
+            above.now (Self.samples cur.now)) };
 
     /// Sets each sample of some lines to 0.
     fn clear(lines: &mut [Self])
@@ -164,28 +126,18 @@ impl LineWord for u16 {
     #[inline(always)]
     fn decode<B: Allocator>(
         decoder: &mut RangeDecoder<'_>,
-        coding: &LineCoding<'_, B>,
+        coding: &Coding<'_, B>,
         states: &mut [u8],
         above: &Above<'_, u16>,
         cur: &mut [u16],
     ) -> Result<(), TooLong> {
-        let LineCoding { table, set, bits } = coding;
-        let coding = Coding {
-            table,
-            set,
-            bits: *bits,
-        };
-        let above = ffv1_line::Above {
-            two: above.two,
-            one: above.one,
-        };
-        decode_line(decoder, &coding, states, &above, cur)
+        decode_line(decoder, coding, states, above, cur)
     }
 
     #[inline(always)]
     fn decode_bits<B: Allocator>(
         bits: &mut Bits<'_>,
-        coding: &LineCoding<'_, B>,
+        coding: &Coding<'_, B>,
         states: &mut [u8],
         index: &mut u32,
         above: &Above<'_, u16>,
@@ -203,22 +155,12 @@ impl LineWord for u16 {
     #[inline(always)]
     fn encode<R: Allocator, B: Allocator>(
         encoder: &mut RangeEncoder<R>,
-        coding: &LineCoding<'_, B>,
+        coding: &Coding<'_, B>,
         states: &mut [u8],
         above: &Above<'_, u16>,
         cur: &[u16],
     ) -> Result<(), Fault> {
-        let LineCoding { table, set, bits } = coding;
-        let coding = Coding {
-            table,
-            set,
-            bits: *bits,
-        };
-        let above = ffv1_line::Above {
-            two: above.two,
-            one: above.one,
-        };
-        encode_line(encoder, &coding, states, &above, cur)
+        encode_line(encoder, coding, states, above, cur)
     }
 
     fn clear(lines: &mut [u16]) {
@@ -240,24 +182,18 @@ impl LineWord for u32 {
     #[inline(always)]
     fn decode<B: Allocator>(
         decoder: &mut RangeDecoder<'_>,
-        coding: &LineCoding<'_, B>,
+        coding: &Coding<'_, B>,
         states: &mut [u8],
         above: &Above<'_, u32>,
         cur: &mut [u32],
     ) -> Result<(), TooLong> {
-        let LineCoding { table, set, .. } = coding;
-        let coding = WideCoding { table, set };
-        let above = WideAbove {
-            two: above.two,
-            one: above.one,
-        };
-        decode_wide(decoder, &coding, states, &above, cur)
+        decode_wide(decoder, coding, states, above, cur)
     }
 
     #[inline(always)]
     fn decode_bits<B: Allocator>(
         _bits: &mut Bits<'_>,
-        _coding: &LineCoding<'_, B>,
+        _coding: &Coding<'_, B>,
         _states: &mut [u8],
         _index: &mut u32,
         _above: &Above<'_, u32>,
@@ -272,18 +208,12 @@ impl LineWord for u32 {
     #[inline(always)]
     fn encode<R: Allocator, B: Allocator>(
         encoder: &mut RangeEncoder<R>,
-        coding: &LineCoding<'_, B>,
+        coding: &Coding<'_, B>,
         states: &mut [u8],
         above: &Above<'_, u32>,
         cur: &[u32],
     ) -> Result<(), Fault> {
-        let LineCoding { table, set, .. } = coding;
-        let coding = WideCoding { table, set };
-        let above = WideAbove {
-            two: above.two,
-            one: above.one,
-        };
-        encode_wide(encoder, &coding, states, &above, cur)
+        encode_wide(encoder, coding, states, above, cur)
     }
 
     fn clear(lines: &mut [u32]) {

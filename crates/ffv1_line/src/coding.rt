@@ -4,7 +4,6 @@ ghost use Rattle.std.specs.Prelude.{◌≡◌, ◌⊎◌};
 
 pub mod states;
 pub(crate) mod way;
-pub mod wide;
 
 use ffv1_plane::QuantSet;
 use ffv1_range::StateTable;
@@ -12,16 +11,17 @@ use std::alloc::Allocator;
 use std::marker::Model;
 
 /// How the rows of a cell of a plane are coded: by which table of states, by which quantisation
-/// table set, and how many bits a sample of a line has, from 8 to 16: those of the pictures, and
+/// table set, and how many bits a sample of a line has, from 8 to 17: those of the pictures, and
 /// one more if colours are coded as luma and differences (RFC 9043, 3.7.2). Samples of 16 bits
-/// are predicted by signed numbers (RFC 9043, 3.3).
+/// are predicted by signed numbers (RFC 9043, 3.3). Up to 16 bits the samples of a line lie in
+/// words of 16 bits, and those of 17 bits in words of 32.
 #[derive(Drop)]
 pub struct Coding<'a, B: Allocator> {
     /// How states move.
     pub table: &'a StateTable,
     /// The quantisation table set of the plane.
     pub set: &'a QuantSet<B>,
-    /// The bits of a sample, from 8 to 16.
+    /// The bits of a sample, from 8 to 17.
     pub bits: u8,
 }
 
@@ -33,7 +33,7 @@ impl<'a, B: Allocator> Model for Coding<'a, B> {
 
     ghost view = { λ c. record { table = c.table.now; set = c.set.now; bits = c.bits } };
 
-    ghost invariant = { λ c. (8 ≤ c.bits) × (c.bits ≤ 16) };
+    ghost invariant = { λ c. (8 ≤ c.bits) × (c.bits ≤ 17) };
 }
 
 /// The bits as a constant, which 0 is not.

@@ -1,6 +1,6 @@
 //! Decodes a row.
 
-ghost use Rattle.std.specs.Prelude.{◌≡◌, ◌*◌, ◌<◌, IfErr, OnOk, length};
+ghost use Rattle.std.specs.Prelude.{◌≡◌, ◌*◌, ◌<◌, ◌≤◌, IfErr, OnOk, length};
 ghost use Rattle.ffv1_range.specs.Symbols.{AllHeld};
 ghost use Rattle.ffv1_plane.specs.Quantisation.{contexts_of};
 ghost use Rattle.ffv1_line.specs.Decoded.{Lined, LinedToRefusal, SameFrom};
@@ -14,14 +14,14 @@ mod plain;
 mod row;
 mod run;
 mod sample;
-mod sixteen;
+mod samples;
 mod wide;
 mod zeros;
 
 use crate::cell::above::Above;
 use crate::coding::Coding;
 use crate::decode::row::decode_row;
-use crate::decode::sixteen::decode_sixteen;
+use crate::decode::samples::decode_samples;
 use crate::fault::TooLong;
 pub use cell::{RowSink, decode_cell};
 use ffv1_range::RangeDecoder;
@@ -48,6 +48,7 @@ pub fn decode_line<'a, B: Allocator>(
     above: &Above<'_>,
     cur: &mut [u16],
 ) -> Result<(), TooLong>
+    requires bits { coding.now.bits ≤ 16 }
     requires some { 0 < length cur.old }
     requires one_long { length above.now.one ≡ length cur.old }
     requires rows { length states.old ≡ contexts_of coding.now.set * 32 }
@@ -65,9 +66,9 @@ pub fn decode_line<'a, B: Allocator>(
     let three_tables = set.has_three_tables();
     if *bits == 16 {
         if three_tables {
-            return decode_sixteen::<B, true>(decoder, coding, states, above, cur);
+            return decode_samples::<u16, B, true>(decoder, coding, states, above, cur);
         }
-        return decode_sixteen::<B, false>(decoder, coding, states, above, cur);
+        return decode_samples::<u16, B, false>(decoder, coding, states, above, cur);
     }
     if *bits == 8 {
         if three_tables {

@@ -16,7 +16,7 @@ mod cell;
 pub(crate) mod part;
 mod plain;
 mod row_of_bits;
-mod sixteen;
+mod samples;
 mod wide;
 
 use crate::cell::above::Above;
@@ -26,7 +26,7 @@ use crate::encode::block::{
 };
 use crate::encode::part::Part;
 use crate::encode::row_of_bits::encode_row_of_bits;
-use crate::encode::sixteen::encode_sixteen;
+use crate::encode::samples::encode_samples;
 pub use cell::{CellRows, encode_cell};
 use ffv1_range::{Fault, RangeEncoder, StateTable};
 use std::alloc::Allocator;
@@ -289,6 +289,7 @@ pub fn encode_line<A: Allocator, B: Allocator>(
     above: &Above<'_>,
     cur: &[u16],
 ) -> Result<(), Fault>
+    requires bits { coding.now.bits ≤ 16 }
     requires some { 0 < length cur.now }
     requires one_long { length above.now.one ≡ length cur.now }
     requires rows { length states.old ≡ contexts_of coding.now.set * 32 }
@@ -312,9 +313,9 @@ pub fn encode_line<A: Allocator, B: Allocator>(
     let three_tables = set.has_three_tables();
     if *bits > 15 {
         if three_tables {
-            return encode_sixteen::<A, B, true>(encoder, coding, states, above, cur);
+            return encode_samples::<u16, A, B, true>(encoder, coding, states, above, cur);
         }
-        return encode_sixteen::<A, B, false>(encoder, coding, states, above, cur);
+        return encode_samples::<u16, A, B, false>(encoder, coding, states, above, cur);
     }
     if *bits == 8 {
         if three_tables {

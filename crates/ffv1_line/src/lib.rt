@@ -19,8 +19,7 @@
 //! line by what has them (`CellRows`), or is handed to what takes them (`RowSink`).
 //!
 //! Samples of 17 bits lie in lines of 32 bits: `encode_wide` and `decode_wide` are the same calls
-//! for these, by a `WideCoding` and a `WideAbove`. Both kinds of lines have one plain body
-//! (`Word`).
+//! for these. Both kinds of lines have one plain body (`Word`).
 //!
 //! What each call says is by the coordinates of the standard, for every cell of which these are
 //! rows; `laws` has what follows: bytes code one row at most, and what was written comes back.
@@ -38,7 +37,6 @@ pub use cell::rows::RollingRows;
 pub use cell::word::Word;
 pub use coding::Coding;
 pub use coding::states::reset;
-pub use coding::wide::{WideAbove, WideCoding};
 pub use decode::{RowSink, decode_cell, decode_line, decode_wide};
 pub use encode::{CellRows, encode_cell, encode_line, encode_wide};
 pub use fault::TooLong;

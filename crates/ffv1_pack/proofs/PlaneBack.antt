@@ -9,9 +9,9 @@ use Rattle.ffv1_plane.specs.declared.prediction.Around.{Around}
 use Rattle.ffv1_plane.specs.Quantisation.{Set, contexts_of}
 use Rattle.ffv1_plane.specs.Context.{size_of}
 use Rattle.ffv1_line.specs.Cell.{Cell, Shows, cell_of}
-use Rattle.ffv1_line.proofs.CellBack.{sentinel_of_history, sentinel_bytes}
-use Rattle.ffv1_line.proofs.Suits.{chosen_rows_suit}
-use Rattle.ffv1_line.proofs.Lengths.{cell_below}
+use Rattle.ffv1_line.proofs.lemmas.decode.CellBack.{sentinel_of_history, sentinel_bytes}
+use Rattle.ffv1_line.proofs.lemmas.laws.Suits.{chosen_rows_suit}
+use Rattle.ffv1_line.proofs.lemmas.laws.Lengths.{cell_below}
 use Rattle.ffv1_pack.specs.Plane.{plane_residuals, plane_steps, plane_decisions, plane_code, CodesPlane}
 
 pub plane_coded : (t : Table) (set : Set) (w h : ℕ) (samples : List ℕ) → IsTable t.floor t.one → ((a : Around) → size_of set a < contexts_of set) → 0 < w → AreBytes samples →

@@ -4,7 +4,7 @@ use Rattle.ffv1_range.specs.Counts.{Counts, Counted, uncounted, saturated, total
 use Rattle.ffv1_plane.specs.Quantisation.{Set}
 use Rattle.ffv1_line.specs.Cell.{cell_of}
 use Rattle.ffv1_line.specs.Length.{cell_decisions}
-use Rattle.ffv1_line.proofs.Lengths.{cell_length, cell_most, chosen_rows_small, chosen_rows_many}
+use Rattle.ffv1_line.proofs.lemmas.laws.Lengths.{cell_length, cell_most, chosen_rows_small, chosen_rows_many}
 use Rattle.ffv1_pack.specs.Plane.{plane_residuals, plane_steps}
 
 pub plane_length : (set : Set) (w h : ℕ) (samples : List ℕ) → length (plane_steps set w h samples) ≡ cell_decisions (plane_residuals set w h samples)

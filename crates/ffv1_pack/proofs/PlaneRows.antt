@@ -2,7 +2,7 @@
 use Rattle.std.proofs.Common.{◌≡◌, ℕ, ◌+◌, ◌*◌, ◌<◌, List, take, drop, length, ◌∙◌, arith, suc, subst, length-take, length-drop}
 use Rattle.std.proofs.Math.Nat.{mul-le-mul_left}
 use Rattle.ffv1_line.specs.Cell.{Shows, cell_of}
-use Rattle.ffv1_line.proofs.Cells.{shows_inside}
+use Rattle.ffv1_line.proofs.lemmas.cell.Cells.{shows_inside}
 
 -- a row of a plane of w times h samples
 pub row_long : (samples : List ℕ) (w h y : ℕ) → length samples ≡ w * h → y < h → length (take w (drop (y * w) samples)) ≡ w

@@ -1,6 +1,6 @@
 //! The rows of a plane, coded and decoded over three rolling lines.
 
-ghost use Rattle.std.specs.Prelude.{◌≡◌, ◌*◌, ◌<◌, length};
+ghost use Rattle.std.specs.Prelude.{◌≤◌, ◌≡◌, ◌*◌, ◌<◌, length};
 ghost use Rattle.ffv1_plane.specs.Quantisation.{contexts_of};
 ghost use Rattle.ffv1_range.specs.Symbols.{AllHeld};
 
@@ -23,6 +23,7 @@ fn encode_row(
     states: &mut [u8],
     rows: &RollingRows<Vec<u16>>,
 ) -> Result<()>
+    requires narrow { coding.now.bits ≤ 16 }
     requires rows { length states.old ≡ contexts_of coding.now.set * 32 }
     requires held { AllHeld coding.now.table states.old }
     ensures held { AllHeld coding.now.table states.new }
@@ -46,6 +47,7 @@ fn encode_rows(
     rows: &mut RollingRows<Vec<u16>>,
     plane: &Plane<'_>,
 ) -> Result<()>
+    requires narrow { coding.now.bits ≤ 16 }
     requires wide { 0 < plane.now.width }
     requires rows { length states.old ≡ contexts_of coding.now.set * 32 }
     requires held { AllHeld coding.now.table states.old }
@@ -67,6 +69,7 @@ pub(crate) fn encode(
     states: &mut [u8],
     plane: &Plane<'_>,
 ) -> Result<Vec<u8>>
+    requires narrow { coding.now.bits ≤ 16 }
     requires wide { 0 < plane.now.width }
     requires rows { length states.old ≡ contexts_of coding.now.set * 32 }
     requires held { AllHeld coding.now.table states.old }
@@ -84,6 +87,7 @@ fn decode_row(
     states: &mut [u8],
     rows: &mut RollingRows<Vec<u16>>,
 ) -> Result<()>
+    requires narrow { coding.now.bits ≤ 16 }
     requires rows { length states.old ≡ contexts_of coding.now.set * 32 }
     requires held { AllHeld coding.now.table states.old }
     ensures held { AllHeld coding.now.table states.new }
@@ -116,6 +120,7 @@ fn decode_rows(
     bytes: &[u8],
     parks: bool,
 ) -> Result<bool>
+    requires narrow { coding.now.bits ≤ 16 }
     requires wide { 0 < plane.now.width }
     requires rows { length states.old ≡ contexts_of coding.now.set * 32 }
     requires held { AllHeld coding.now.table states.old }
@@ -144,6 +149,7 @@ pub(crate) fn decode(
     bytes: &[u8],
     parks: bool,
 ) -> Result<bool>
+    requires narrow { coding.now.bits ≤ 16 }
     requires wide { 0 < plane.now.width }
     requires rows { length states.old ≡ contexts_of coding.now.set * 32 }
     requires held { AllHeld coding.now.table states.old }

@@ -1,6 +1,6 @@
 //! How long it takes.
 
-ghost use Rattle.std.specs.Prelude.{◌≡◌, ◌*◌, ◌<◌, length, replicate};
+ghost use Rattle.std.specs.Prelude.{◌≤◌, ◌≡◌, ◌*◌, ◌<◌, length, replicate};
 ghost use Rattle.ffv1_range.specs.Symbols.{AllHeld};
 ghost use Rattle.ffv1_plane.specs.Quantisation.{contexts_of};
 
@@ -43,6 +43,7 @@ fn code(
     states: &mut [u8],
     plane: &Plane<'_>,
 ) -> Result<Vec<u8>>
+    requires narrow { coding.now.bits ≤ 16 }
     requires wide { 0 < plane.now.width }
     requires rows { length states.old ≡ contexts_of coding.now.set * 32 }
     requires fresh { AllHeld coding.now.table (replicate (length states.old) 128) }
@@ -61,6 +62,7 @@ fn shows(
     bytes: &[u8],
     parks: bool,
 ) -> Result<bool>
+    requires narrow { coding.now.bits ≤ 16 }
     requires wide { 0 < plane.now.width }
     requires rows { length states.old ≡ contexts_of coding.now.set * 32 }
     requires fresh { AllHeld coding.now.table (replicate (length states.old) 128) }
@@ -77,6 +79,7 @@ fn coding_time<R: AllocGlobal + Clock>(
     states: &mut [u8],
     plane: &Plane<'_>,
 ) -> Result<u128>
+    requires narrow { coding.now.bits ≤ 16 }
     requires wide { 0 < plane.now.width }
     requires rows { length states.old ≡ contexts_of coding.now.set * 32 }
     requires fresh { AllHeld coding.now.table (replicate (length states.old) 128) }
@@ -96,6 +99,7 @@ fn decoding_time<R: AllocGlobal + Clock>(
     bytes: &[u8],
     parks: bool,
 ) -> Result<u128>
+    requires narrow { coding.now.bits ≤ 16 }
     requires wide { 0 < plane.now.width }
     requires rows { length states.old ≡ contexts_of coding.now.set * 32 }
     requires fresh { AllHeld coding.now.table (replicate (length states.old) 128) }
@@ -115,6 +119,7 @@ fn time<R: AllocGlobal + Clock + Print>(
     bytes: &[u8],
     asked: Asked,
 ) -> Result<()>
+    requires narrow { coding.now.bits ≤ 16 }
     requires wide { 0 < plane.now.width }
     requires rows { length states.old ≡ contexts_of coding.now.set * 32 }
     requires fresh { AllHeld coding.now.table (replicate (length states.old) 128) }
@@ -140,6 +145,7 @@ fn compare<R: AllocGlobal + Clock + Print>(
     plane: &Plane<'_>,
     asked: Asked,
 ) -> Result<()>
+    requires narrow { coding.now.bits ≤ 16 }
     requires wide { 0 < plane.now.width }
     requires rows { length states.old ≡ contexts_of coding.now.set * 32 }
     requires fresh { AllHeld coding.now.table (replicate (length states.old) 128) }

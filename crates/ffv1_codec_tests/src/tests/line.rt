@@ -27,6 +27,7 @@ fn put_samples(
     states: &mut [u8],
     samples: &[u16],
 ) -> Result<(), Fault>
+    requires narrow { coding.now.bits ≤ 16 }
     requires bits { coding.now.bits ≡ 8 }
     requires rows { length states.old ≡ contexts_of coding.now.set * 32 }
     requires held { AllHeld coding.now.table states.old }
@@ -55,6 +56,7 @@ fn codes(
     sentinel: bool,
     code: &[u8],
 ) -> Result<(bool, u64), Fault>
+    requires narrow { coding.now.bits ≤ 16 }
     requires bits { coding.now.bits ≡ 8 }
     requires rows { length states.old ≡ contexts_of coding.now.set * 32 }
     requires fresh { AreHeld coding.now.table (replicate 32 128) }
@@ -199,6 +201,7 @@ fn code_of(
     zeros: &[u16],
     row: &[u16],
 ) -> Result<Vec<u8>, Fault>
+    requires narrow { coding.now.bits ≤ 16 }
     requires some { 0 < length row.now }
     requires zeros { length zeros.now ≡ length row.now }
     requires rows { length states.old ≡ contexts_of coding.now.set * 32 }
@@ -223,6 +226,7 @@ fn decodes_to(
     row: &[u16],
     other: &mut [u16],
 ) -> Result<bool, Fault>
+    requires narrow { coding.now.bits ≤ 16 }
     requires some { 0 < length row.now }
     requires zeros { length zeros.now ≡ length row.now }
     requires other { length other.old ≡ length row.now }

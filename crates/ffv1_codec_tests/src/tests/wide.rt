@@ -4,7 +4,7 @@ ghost use Rattle.std.specs.Prelude.{◌≡◌, ◌<◌, ◌*◌, length, replica
 ghost use Rattle.ffv1_plane.specs.Quantisation.{contexts_of};
 ghost use Rattle.ffv1_range.specs.Symbols.{AreHeld};
 
-use ffv1_line::{WideAbove, WideCoding, decode_wide, encode_wide, reset};
+use ffv1_line::{Above, Coding, decode_wide, encode_wide, reset};
 use ffv1_plane::{QuantSet, WideAround, context, low_around, wide_residual, wide_sample};
 use ffv1_range::{Fault, RangeDecoder, RangeEncoder, StateTable};
 use ffv1_rct::{CodedWide, NoColour, forward_wide, inverse_wide, narrow_wide};
@@ -75,9 +75,13 @@ fn coded(
     requires fresh { AreHeld table.now (replicate 32 128) }
 {
     let mut encoder = RangeEncoder::new(alloc);
-    let coding = WideCoding { table, set };
+    let coding = Coding {
+        table,
+        set,
+        bits: 17,
+    };
     let zeros = [0u32];
-    let above = WideAbove {
+    let above = Above {
         two: &zeros,
         one: &zeros,
     };
@@ -100,9 +104,13 @@ fn decoded(
     requires fresh { AreHeld table.now (replicate 32 128) }
 {
     let mut decoder = RangeDecoder::new(bytes)?;
-    let coding = WideCoding { table, set };
+    let coding = Coding {
+        table,
+        set,
+        bits: 17,
+    };
     let zeros = [0u32];
-    let above = WideAbove {
+    let above = Above {
         two: &zeros,
         one: &zeros,
     };

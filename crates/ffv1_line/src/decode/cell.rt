@@ -1,7 +1,7 @@
 //! Decodes the rows of a cell, one after the other.
 
-ghost use Rattle.std.specs.Prelude.{◌≡◌, ℕ, ℤ, ◌+◌, ◌*◌, ◌<◌, List, IfErr, IsOk, OnOk, length};
-ghost use Rattle.std.specs.Prelude.{replicate, vec_capacity};
+ghost use Rattle.std.specs.Prelude.{◌≡◌, ℕ, ℤ, ◌+◌, ◌*◌, ◌<◌, ◌≤◌, List, IfErr, IsOk, OnOk};
+ghost use Rattle.std.specs.Prelude.{length, replicate, vec_capacity};
 ghost use Rattle.ffv1_range.specs.Interval.{Decision};
 ghost use Rattle.ffv1_range.specs.Symbols.{AllHeld};
 ghost use Rattle.ffv1_plane.specs.Quantisation.{contexts_of};
@@ -51,6 +51,7 @@ pub fn decode_cell<B: Allocator, R: Allocator, T: RowSink>(
     height: u32,
     sink: &mut T,
 ) -> Result<(), TooLong>
+    requires bits { coding.now.bits ≤ 16 }
     requires some { 0 < length rows.old.cur.items }
     requires two { rows.old.two.items ≡ replicate (length rows.old.cur.items) 0 }
     requires one { rows.old.one.items ≡ replicate (length rows.old.cur.items) 0 }

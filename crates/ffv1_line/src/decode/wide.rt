@@ -6,9 +6,9 @@ ghost use Rattle.ffv1_plane.specs.Quantisation.{contexts_of};
 ghost use Rattle.ffv1_line.specs.Decoded.{Lined, LinedToRefusal, SameFrom};
 ghost use Rattle.ffv1_line.specs.Coder.{decoder_by};
 
-use crate::coding::way::Way;
-use crate::coding::wide::{WideAbove, WideCoding};
-use crate::decode::plain::decode_plain;
+use crate::cell::above::Above;
+use crate::coding::Coding;
+use crate::decode::samples::decode_samples;
 use crate::fault::TooLong;
 use ffv1_range::RangeDecoder;
 use std::alloc::Allocator;
@@ -26,11 +26,12 @@ use std::alloc::Allocator;
 #[inline(never)]
 pub fn decode_wide<B: Allocator>(
     decoder: &mut RangeDecoder<'_>,
-    coding: &WideCoding<'_, B>,
+    coding: &Coding<'_, B>,
     states: &mut [u8],
-    above: &WideAbove<'_>,
+    above: &Above<'_, u32>,
     cur: &mut [u32],
 ) -> Result<(), TooLong>
+    requires bits { coding.now.bits ≡ 17 }
     requires some { 0 < length cur.old }
     requires one_long { length above.now.one ≡ length cur.old }
     requires rows { length states.old ≡ contexts_of coding.now.set * 32 }
@@ -44,15 +45,8 @@ pub fn decode_wide<B: Allocator>(
     ensures behind { IfErr result (λ e. SameFrom e.x cur.old cur.new) }
     ensures held { AllHeld coding.now.table states.new }
 {
-    let WideCoding { table, set } = coding;
-    let WideAbove { two, one } = above;
-    let way = Way {
-        table,
-        set,
-        bits: 17,
-    };
-    if set.has_three_tables() {
-        return decode_plain::<u32, B, true>(decoder, &way, states, two, one, cur);
+    if coding.set.has_three_tables() {
+        return decode_samples::<u32, B, true>(decoder, coding, states, above, cur);
     }
-    decode_plain::<u32, B, false>(decoder, &way, states, two, one, cur)
+    decode_samples::<u32, B, false>(decoder, coding, states, above, cur)
 }

@@ -1,7 +1,7 @@
 //! Encodes the rows of a cell, one after the other.
 
-ghost use Rattle.std.specs.Prelude.{◌≡◌, ℕ, ◌+◌, ◌*◌, ◌<◌, OnOk, OnErr, IsErr, IsTrue, length};
-ghost use Rattle.std.specs.Prelude.{replicate, vec_capacity};
+ghost use Rattle.std.specs.Prelude.{◌≡◌, ℕ, ◌+◌, ◌*◌, ◌<◌, ◌≤◌, OnOk, OnErr, IsErr, IsTrue};
+ghost use Rattle.std.specs.Prelude.{length, replicate, vec_capacity};
 ghost use Rattle.ffv1_range.specs.Symbols.{AllHeld};
 ghost use Rattle.ffv1_range.specs.Puts.{Puts, MayBeRefused};
 ghost use Rattle.ffv1_plane.specs.Quantisation.{contexts_of};
@@ -67,6 +67,7 @@ pub fn encode_cell<A: Allocator, B: Allocator, R: Allocator, C: CellRows>(
     rows: &mut RollingRows<Vec<u16, R>>,
     cell: &C,
 ) -> Result<(), Fault>
+    requires bits { coding.now.bits ≤ 16 }
     requires some { 0 < (C.cell cell.now).width }
     requires two { rows.old.two.items ≡ replicate (C.cell cell.now).width 0 }
     requires one { rows.old.one.items ≡ replicate (C.cell cell.now).width 0 }

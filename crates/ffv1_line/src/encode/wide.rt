@@ -6,9 +6,9 @@ ghost use Rattle.ffv1_plane.specs.Quantisation.{contexts_of};
 ghost use Rattle.ffv1_line.specs.Encoded.{FailsForGood, Written, MayBeRefusedRow, CountsFirst};
 ghost use Rattle.ffv1_line.specs.Coder.{encoder_by};
 
-use crate::coding::way::Way;
-use crate::coding::wide::{WideAbove, WideCoding};
-use crate::encode::plain::encode_plain;
+use crate::cell::above::Above;
+use crate::coding::Coding;
+use crate::encode::samples::encode_samples;
 use ffv1_range::{Fault, RangeEncoder};
 use std::alloc::Allocator;
 
@@ -25,11 +25,12 @@ use std::alloc::Allocator;
 #[inline(never)]
 pub fn encode_wide<A: Allocator, B: Allocator>(
     encoder: &mut RangeEncoder<A>,
-    coding: &WideCoding<'_, B>,
+    coding: &Coding<'_, B>,
     states: &mut [u8],
-    above: &WideAbove<'_>,
+    above: &Above<'_, u32>,
     cur: &[u32],
 ) -> Result<(), Fault>
+    requires bits { coding.now.bits ≡ 17 }
     requires some { 0 < length cur.now }
     requires one_long { length above.now.one ≡ length cur.now }
     requires rows { length states.old ≡ contexts_of coding.now.set * 32 }
@@ -49,15 +50,8 @@ pub fn encode_wide<A: Allocator, B: Allocator>(
     if encoder.has_failed() {
         return Err(Fault::OutOfMemory);
     }
-    let WideCoding { table, set } = coding;
-    let WideAbove { two, one } = above;
-    let way = Way {
-        table,
-        set,
-        bits: 17,
-    };
-    if set.has_three_tables() {
-        return encode_plain::<u32, A, B, true>(encoder, &way, states, two, one, cur);
+    if coding.set.has_three_tables() {
+        return encode_samples::<u32, A, B, true>(encoder, coding, states, above, cur);
     }
-    encode_plain::<u32, A, B, false>(encoder, &way, states, two, one, cur)
+    encode_samples::<u32, A, B, false>(encoder, coding, states, above, cur)
 }

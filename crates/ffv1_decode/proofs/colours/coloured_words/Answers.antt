@@ -3,10 +3,10 @@ use Rattle.std.proofs.Common.{◌≡◌, ◌++◌, ◌*◌, ◌∙◌, sym, subs
 use Rattle.std.proofs.lemmas.Result.{on_ok_weaker}
 use Rattle.ffv1_samples.specs.Samples.{samples_of}
 use Rattle.ffv1_decode.specs.Internal.Finished.{AreMade}
-use Rattle.ffv1_decode.proofs.Outcomes.{err_all}
-use Rattle.ffv1_decode.proofs.FinishedLines.{plain, green_at, blue_at, three_parts, in_order}
-use Rattle.ffv1_decode.proofs.FinishedLines.{colours_end}
-use Rattle.ffv1_frame.proofs.Words.{words_long, three_samples}
+use Rattle.ffv1_decode.proofs.lemmas.colours.Outcomes.{err_all}
+use Rattle.ffv1_decode.proofs.lemmas.finish.FinishedLines.{plain, green_at, blue_at, three_parts, in_order}
+use Rattle.ffv1_decode.proofs.lemmas.finish.FinishedLines.{colours_end}
+use Rattle.ffv1_frame.proofs.lemmas.picture.Words.{words_long, three_samples}
 use Rattle.ffv1_decode.proofs.colours.coloured_words.Goals.{After-split_at-2}
 use Rattle.ffv1_decode.proofs.colours.coloured_words.Goals as goal
 

@@ -1,7 +1,7 @@
 -- Red, green and blue of a line, or the first place that has none.
 use Rattle.std.proofs.Common.{◌≡◌, ◌++◌, ◌∙◌, length, arith}
-use Rattle.ffv1_decode.proofs.FinishedLines.{line_0, line_1, line_2, three_parts, colours_made}
-use Rattle.ffv1_decode.proofs.FinishedLines.{colours_end}
+use Rattle.ffv1_decode.proofs.lemmas.finish.FinishedLines.{line_0, line_1, line_2, three_parts, colours_made}
+use Rattle.ffv1_decode.proofs.lemmas.finish.FinishedLines.{colours_end}
 use Rattle.ffv1_decode.proofs.colours.colours.Goals.{After-split_at-2}
 use Rattle.ffv1_decode.proofs.colours.colours.Goals as goal
 

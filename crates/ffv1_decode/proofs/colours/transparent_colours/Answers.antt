@@ -3,8 +3,8 @@ use Rattle.std.proofs.Common.{◌≡◌, ℕ, ◌*◌, ◌<◌, ◌++◌, ◌∙
 use Rattle.std.proofs.Common.{slice_index, arith}
 use Rattle.std.proofs.lemmas.Result.{err_from_is_err_and}
 use Rattle.std.proofs.lemmas.List.{get_or-take, length-take-le}
-use Rattle.ffv1_decode.proofs.Outcomes.{ok_both, err_all}
-use Rattle.ffv1_decode.proofs.FinishedLines.{two_parts, both_made, alpha_end, colour_end, sooner_end}
+use Rattle.ffv1_decode.proofs.lemmas.colours.Outcomes.{ok_both, err_all}
+use Rattle.ffv1_decode.proofs.lemmas.finish.FinishedLines.{two_parts, both_made, alpha_end, colour_end, sooner_end}
 use Rattle.ffv1_decode.proofs.colours.transparent_colours.Goals.{After-split_at}
 use Rattle.ffv1_decode.proofs.colours.transparent_colours.Goals as goal
 

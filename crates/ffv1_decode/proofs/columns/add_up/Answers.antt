@@ -6,7 +6,7 @@ use Rattle.ffv1_decode.specs.declared.column.Column.{Column}
 use Rattle.ffv1_decode.specs.Internal.Stands.{told_by}
 use Rattle.ffv1_decode.specs.Internal.Tied.{column_at, no_column}
 use Rattle.ffv1_decode.specs.Internal.Tallies.{tally_over, both}
-use Rattle.ffv1_decode.proofs.TalliesUp.{decided_is, upto_more, upto_all}
+use Rattle.ffv1_decode.proofs.lemmas.columns.TalliesUp.{decided_is, upto_more, upto_all}
 use Rattle.ffv1_decode.proofs.columns.add_up.Goals as goal
 
 pub loop-k-init : goal.loop-k-init

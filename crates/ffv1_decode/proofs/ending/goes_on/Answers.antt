@@ -1,7 +1,7 @@
 -- Whether the bytes of a column's slice do not end where it was read up to.
 use Rattle.std.proofs.Common.{sym}
-use Rattle.ffv1_decode.proofs.BitsEnd.{left_bytes, has_padding, lacks_padding, has_ending}
-use Rattle.ffv1_decode.proofs.BitsEnd.{lacks_ending}
+use Rattle.ffv1_decode.proofs.lemmas.ending.BitsEnd.{left_bytes, has_padding, lacks_padding, has_ending}
+use Rattle.ffv1_decode.proofs.lemmas.ending.BitsEnd.{lacks_ending}
 use Rattle.ffv1_decode.proofs.ending.goes_on.Goals as goal
 
 pub bits_left-requires : goal.bits_left-requires

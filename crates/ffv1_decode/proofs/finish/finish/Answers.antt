@@ -8,10 +8,10 @@ use Rattle.ffv1_samples.specs.Samples.{bytes_of, sample_bytes}
 use Rattle.ffv1_slice.specs.Grid.{Division}
 use Rattle.ffv1_record.specs.Configuration.{Configuration, is_rct}
 use Rattle.ffv1_frame.specs.Picture.{plane_count, plane_width, width_bytes}
-use Rattle.ffv1_decode.proofs.LineFinished.{together_one, together_all, rct_is, all_small}
-use Rattle.ffv1_frame.proofs.PlaneWidths.{wide_none}
-use Rattle.ffv1_decode.proofs.LineFinished.{samples_finished, colours_missing, colours_finished}
-use Rattle.ffv1_frame.proofs.WideLines.{rct_bits}
+use Rattle.ffv1_decode.proofs.lemmas.finish.LineFinished.{together_one, together_all, rct_is, all_small}
+use Rattle.ffv1_frame.proofs.lemmas.picture.PlaneWidths.{wide_none}
+use Rattle.ffv1_decode.proofs.lemmas.finish.LineFinished.{samples_finished, colours_missing, colours_finished}
+use Rattle.ffv1_frame.proofs.lemmas.picture.WideLines.{rct_bits}
 use Rattle.ffv1_decode.proofs.finish.finish.Given.{Over}
 use Rattle.ffv1_decode.proofs.finish.finish.Goals.{After-sample_bytes, In-Rct}
 use Rattle.ffv1_decode.proofs.finish.finish.Goals as goal

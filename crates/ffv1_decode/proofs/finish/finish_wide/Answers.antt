@@ -3,10 +3,10 @@ use Rattle.std.proofs.Common.{◌≡◌, ◌*◌, ◌<◌, true, ◌∙◌, ap, 
 use Rattle.ffv1_record.specs.Configuration.{is_rct}
 use Rattle.ffv1_frame.specs.Order.{lines_down}
 use Rattle.ffv1_frame.specs.Picture.{plane_count, plane_width, width_bytes}
-use Rattle.ffv1_decode.proofs.LineFinished.{together_all, rct_is, colours_missing}
-use Rattle.ffv1_frame.proofs.PlaneWidths.{wide_none}
-use Rattle.ffv1_decode.proofs.LineFinished.{colours_finished}
-use Rattle.ffv1_frame.proofs.WideLines.{wide_is}
+use Rattle.ffv1_decode.proofs.lemmas.finish.LineFinished.{together_all, rct_is, colours_missing}
+use Rattle.ffv1_frame.proofs.lemmas.picture.PlaneWidths.{wide_none}
+use Rattle.ffv1_decode.proofs.lemmas.finish.LineFinished.{colours_finished}
+use Rattle.ffv1_frame.proofs.lemmas.picture.WideLines.{wide_is}
 use Rattle.ffv1_decode.proofs.finish.finish_wide.Given.{Over}
 use Rattle.ffv1_decode.proofs.finish.finish_wide.Goals.{After-accepted_configuration_has_sound_parts}
 use Rattle.ffv1_decode.proofs.finish.finish_wide.Goals as goal

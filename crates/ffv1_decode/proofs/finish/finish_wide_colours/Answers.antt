@@ -5,7 +5,7 @@ use Rattle.ffv1_record.specs.Configuration.{Configuration}
 use Rattle.ffv1_frame.specs.Picture.{plane_count, width_bytes}
 use Rattle.ffv1_decode.specs.Internal.Finished.{AreMade, Colouring, IsFirstWithout, colouring_of}
 use Rattle.ffv1_decode.specs.Internal.Finished.{words_colouring}
-use Rattle.ffv1_decode.proofs.WideColouring.{wide_colouring}
+use Rattle.ffv1_decode.proofs.lemmas.finish.WideColouring.{wide_colouring}
 use Rattle.ffv1_decode.proofs.finish.finish_wide_colours.Given.{Over}
 use Rattle.ffv1_decode.proofs.finish.finish_wide_colours.Goals.{After-config-config}
 use Rattle.ffv1_decode.proofs.finish.finish_wide_colours.Goals as goal

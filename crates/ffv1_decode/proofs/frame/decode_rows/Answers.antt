@@ -15,7 +15,7 @@ use Rattle.ffv1_decode.specs.declared.buffers.Lines.{Lines}
 use Rattle.ffv1_decode.specs.Internal.Tied.{line_length}
 use Rattle.ffv1_decode.specs.Internal.Shared.{KeepsChroma, kept_in}
 use Rattle.ffv1_decode.specs.Internal.Buffers.{length_of_lines, samples_of_lines}
-use Rattle.ffv1_decode.proofs.RowsDecodes.{between, rows_none, rows_more, rows_fail, rows_end}
+use Rattle.ffv1_decode.proofs.lemmas.frame.RowsDecodes.{between, rows_none, rows_more, rows_fail, rows_end}
 use Rattle.ffv1_decode.proofs.frame.decode_rows.Given.{Over}
 use Rattle.ffv1_decode.proofs.frame.decode_rows.Goals.{After-rows-row-end, After-close}
 use Rattle.ffv1_decode.proofs.frame.decode_rows.Goals as goal

@@ -2,7 +2,7 @@
 use Rattle.std.proofs.Common.{◌≡◌, ◌+◌, ◌<◌, arith}
 use Rattle.ffv1_slice.specs.Grid.{down, division_of}
 use Rattle.ffv1_frame.specs.Decoding.{top_of}
-use Rattle.ffv1_decode.proofs.PartPlaces.{inside}
+use Rattle.ffv1_decode.proofs.lemmas.parts.PartPlaces.{inside}
 use Rattle.ffv1_decode.proofs.hand.hand_line.Given.{Over}
 use Rattle.ffv1_decode.proofs.hand.hand_line.Goals.{After-first_top-top}
 use Rattle.ffv1_decode.proofs.hand.hand_line.Goals as goal

@@ -9,8 +9,8 @@ use Rattle.ffv1_slice.specs.Grid.{Division}
 use Rattle.ffv1_frame.specs.Picture.{line_bytes, width_bytes}
 use Rattle.ffv1_frame.specs.Windows.{window}
 use Rattle.ffv1_decode.specs.Internal.Progress.{Handed}
-use Rattle.ffv1_frame.proofs.Sizes.{part_apart}
-use Rattle.ffv1_decode.proofs.LinesHanded.{one_handed, one_refused}
+use Rattle.ffv1_frame.proofs.lemmas.Sizes.{part_apart}
+use Rattle.ffv1_decode.proofs.lemmas.hand.LinesHanded.{one_handed, one_refused}
 use Rattle.ffv1_decode.proofs.hand.hand_lines.Given.{Over}
 use Rattle.ffv1_decode.proofs.hand.hand_lines.Goals.{After-width}
 use Rattle.ffv1_decode.proofs.hand.hand_lines.Goals as goal

@@ -1,7 +1,7 @@
 -- The byte of a slice at which its bits begin, or its end, if that is before.
 use Rattle.std.proofs.Common.{◌≤◌, ◌^◌, ◌-◌, refl, length, rules, inl, inr, arith}
 use Rattle.ffv1_range.specs.Codes.{AreBytes}
-use Rattle.ffv1_decode.proofs.BitsBegin.{none_parked, begins_behind}
+use Rattle.ffv1_decode.proofs.lemmas.left_bits.BitsBegin.{none_parked, begins_behind}
 use Rattle.ffv1_decode.proofs.left_bits.bits_begin.Goals as goal
 
 pub returns-in-None-clause-behind : goal.returns-in-None-clause-behind

@@ -1,6 +1,6 @@
 -- The bits of a slice that are left, behind its head or behind the last line that was read.
 use Rattle.std.proofs.Common.{◌-◌, ◌*◌, length}
-use Rattle.ffv1_decode.proofs.BitsBegin.{few_behind, begun_behind, woken_behind}
+use Rattle.ffv1_decode.proofs.lemmas.left_bits.BitsBegin.{few_behind, begun_behind, woken_behind}
 use Rattle.ffv1_decode.proofs.left_bits.bits_left.Goals as goal
 
 pub returns-in-None-clause-few : goal.returns-in-None-clause-few

@@ -1,6 +1,6 @@
 -- Reads a segment from the bits that are left of its slice.
 use Rattle.std.proofs.Common.{◌≡◌, ◌∙◌, Some, ap, sym, arith, length, length-append}
-use Rattle.ffv1_decode.proofs.BitsTied.{same_number, none_is_not}
+use Rattle.ffv1_decode.proofs.lemmas.left_bits.BitsTied.{same_number, none_is_not}
 use Rattle.ffv1_decode.proofs.left_bits.read_bits.Goals as goal
 
 pub returns-in-Ok-clause-exact : goal.returns-in-Ok-clause-exact

@@ -9,10 +9,10 @@ use Rattle.ffv1_range.specs.History.{HasStates}
 use Rattle.ffv1_slice.specs.Cutting.{span_of}
 use Rattle.ffv1_slice.specs.Head.{key_steps, head_steps}
 use Rattle.ffv1_frame.specs.Decoding.{AgreesWith}
-use Rattle.ffv1_decode.proofs.BitsTied.{none_is_not}
-use Rattle.ffv1_decode.proofs.Openings.{span_known, begins_before, ends_inside, opening_below}
-use Rattle.ffv1_decode.proofs.Openings.{fresh_has, head_told, column_opened, column_differs}
-use Rattle.ffv1_decode.proofs.Openings.{column_overread, column_stopped, column_bad, indexes_few}
+use Rattle.ffv1_decode.proofs.lemmas.left_bits.BitsTied.{none_is_not}
+use Rattle.ffv1_decode.proofs.lemmas.opening.Openings.{span_known, begins_before, ends_inside, opening_below}
+use Rattle.ffv1_decode.proofs.lemmas.opening.Openings.{fresh_has, head_told, column_opened, column_differs}
+use Rattle.ffv1_decode.proofs.lemmas.opening.Openings.{column_overread, column_stopped, column_bad, indexes_few}
 use Rattle.ffv1_decode.proofs.opening.open_column.Given.{Over}
 use Rattle.ffv1_decode.proofs.opening.open_column.Goals.{After-is_overread}
 use Rattle.ffv1_decode.proofs.opening.open_column.Goals.{After-unwrap-begin}

@@ -9,8 +9,8 @@ use Rattle.ffv1_frame.specs.Decoding.{slice_number}
 use Rattle.ffv1_decode.specs.Internal.Tied.{IsOpen, column_at, no_column}
 use Rattle.ffv1_decode.specs.Internal.Opened.{RowOpened, ColumnOpened, ColumnRefused, coded_by}
 use Rattle.ffv1_decode.specs.Internal.Opened.{row_heads}
-use Rattle.ffv1_frame.proofs.Sizes.{part_apart, grid_small}
-use Rattle.ffv1_decode.proofs.RowOpenings.{one_opened, one_refused}
+use Rattle.ffv1_frame.proofs.lemmas.Sizes.{part_apart, grid_small}
+use Rattle.ffv1_decode.proofs.lemmas.opening.RowOpenings.{one_opened, one_refused}
 use Rattle.ffv1_decode.proofs.opening.open_row.Given.{Over}
 use Rattle.ffv1_decode.proofs.opening.open_row.Goals.{After-open_column}
 use Rattle.ffv1_decode.proofs.opening.open_row.Goals as goal

@@ -1,5 +1,5 @@
 -- Reads the key and the head of a slice.
-use Rattle.ffv1_decode.proofs.Openings.{key_refused, head_read, head_refused}
+use Rattle.ffv1_decode.proofs.lemmas.opening.Openings.{key_refused, head_read, head_refused}
 use Rattle.ffv1_decode.proofs.opening.read_head.Goals as goal
 
 pub returns-in-Err-clause-err : goal.returns-in-Err-clause-err

@@ -1,7 +1,7 @@
 -- What a head says, in whichever profile it is one.
 use Rattle.std.proofs.Common.{◌≡◌, ◌<◌, ◌∙◌, sym, rules}
 use Rattle.ffv1_frame.specs.SliceList.{Said}
-use Rattle.ffv1_frame.proofs.Aspects.{no_aspect, whole_aspect, said_none, said_as}
+use Rattle.ffv1_frame.proofs.lemmas.Aspects.{no_aspect, whole_aspect, said_none, said_as}
 use Rattle.ffv1_decode.proofs.opening.said.Goals as goal
 
 pub returns-then-head : goal.returns-then-head

@@ -3,8 +3,8 @@ use Rattle.std.proofs.Common.{◌≡◌, suc, ◌+◌, ◌*◌, ◌<◌, ◌≤�
 use Rattle.std.proofs.lemmas.Result.{err_from_is_err_and}
 use Rattle.ffv1_frame.specs.Decoding.{State}
 use Rattle.ffv1_decode.specs.Internal.Tied.{PlanesRead}
-use Rattle.ffv1_frame.proofs.Sizes.{part_apart}
-use Rattle.ffv1_decode.proofs.PlanesReads.{plane_more, column_done, planes_stopped, kept_stays}
+use Rattle.ffv1_frame.proofs.lemmas.Sizes.{part_apart}
+use Rattle.ffv1_decode.proofs.lemmas.plane_lines.PlanesReads.{plane_more, column_done, planes_stopped, kept_stays}
 use Rattle.ffv1_decode.proofs.plane_lines.read_planes.Goals as goal
 
 pub read_at-requires-clause-segment : goal.read_at-requires-clause-segment

@@ -5,24 +5,24 @@ use Rattle.std.proofs.Common.{List, take, drop, refl, inl, arith}
 use Rattle.ffv1_slice.specs.Grid.{division_of, across}
 use Rattle.ffv1_decode.specs.Internal.Finished.{AreTogether}
 use Rattle.ffv1_decode.specs.Internal.Places.{AreParts}
-use Rattle.ffv1_frame.proofs.LastLine.{planes_some}
-use Rattle.ffv1_decode.proofs.LineFinished.{rct_is}
+use Rattle.ffv1_frame.proofs.lemmas.laws.decoding.LastLine.{planes_some}
+use Rattle.ffv1_decode.proofs.lemmas.finish.LineFinished.{rct_is}
 use Rattle.std.proofs.lemmas.Result.{err_from_is_err_and, MatchResult-weaker}
 use Rattle.ffv1_record.specs.Configuration.{Configuration, is_rct}
 use Rattle.ffv1_frame.specs.Picture.{plane_count}
-use Rattle.ffv1_decode.proofs.KeptBuffers.{slices_kept}
-use Rattle.ffv1_decode.proofs.PlanesDecodes.{together_decoded, together_fails, plane_kept}
-use Rattle.ffv1_decode.proofs.PlanesDecodes.{plane_fails, planes_kept}
+use Rattle.ffv1_decode.proofs.lemmas.row.KeptBuffers.{slices_kept}
+use Rattle.ffv1_decode.proofs.lemmas.row.PlanesDecodes.{together_decoded, together_fails, plane_kept}
+use Rattle.ffv1_decode.proofs.lemmas.row.PlanesDecodes.{plane_fails, planes_kept}
 use Rattle.ffv1_frame.specs.Picture.{plane_width}
 use Rattle.ffv1_frame.specs.Decoding.{State}
 use Rattle.ffv1_decode.specs.Internal.Tied.{TiedKept, line_length}
 use Rattle.ffv1_decode.specs.Internal.Shared.{AreAbove, IsChroma, KeepsChroma, KeepsLine}
 use Rattle.ffv1_decode.specs.Internal.Shared.{kept_in}
-use Rattle.ffv1_decode.proofs.WordLines.{piece_long, window_samples, put_samples}
-use Rattle.ffv1_frame.proofs.WrittenParts.{put, put_long}
-use Rattle.ffv1_decode.proofs.KeptPlanes.{planes_few, together_long, line_new, line_old, last_more}
-use Rattle.ffv1_decode.proofs.KeptPlanes.{length_apart, length_together, kept_behind, kept_before}
-use Rattle.ffv1_decode.proofs.KeptPlanes.{line_of_rct, tied_part, part_is}
+use Rattle.ffv1_decode.proofs.lemmas.WordLines.{piece_long, window_samples, put_samples}
+use Rattle.ffv1_frame.proofs.lemmas.WrittenParts.{put, put_long}
+use Rattle.ffv1_decode.proofs.lemmas.row.KeptPlanes.{planes_few, together_long, line_new, line_old, last_more}
+use Rattle.ffv1_decode.proofs.lemmas.row.KeptPlanes.{length_apart, length_together, kept_behind, kept_before}
+use Rattle.ffv1_decode.proofs.lemmas.row.KeptPlanes.{line_of_rct, tied_part, part_is}
 use Rattle.ffv1_decode.proofs.row.decode_planes.Given.{Over}
 use Rattle.ffv1_decode.proofs.row.decode_planes.Goals.{After-planes-planes, In-YCbCr}
 use Rattle.ffv1_decode.proofs.row.decode_planes.Goals.{After-kept_range-from}

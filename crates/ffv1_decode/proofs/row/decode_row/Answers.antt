@@ -12,12 +12,12 @@ use Rattle.ffv1_decode.specs.Internal.Tied.{RowSlices, TiedColumns, row_slices}
 use Rattle.ffv1_decode.specs.Internal.Progress.{FailsIn}
 use Rattle.ffv1_decode.specs.Internal.Rows.{open_events}
 use Rattle.ffv1_frame.specs.SliceList.{bits_of}
-use Rattle.ffv1_decode.proofs.RowGoesOn.{given_back}
-use Rattle.ffv1_decode.proofs.RowDecodes.{opened_tied, open_fails, opened_grows, lines_fail}
+use Rattle.ffv1_decode.proofs.lemmas.row.RowGoesOn.{given_back}
+use Rattle.ffv1_decode.proofs.lemmas.row.RowDecodes.{opened_tied, open_fails, opened_grows, lines_fail}
 use Rattle.ffv1_decode.specs.Internal.Buffers.{samples_of_lines}
 use Rattle.ffv1_decode.specs.Internal.Shared.{kept_in}
-use Rattle.ffv1_decode.proofs.KeptBuffers.{kept_long, kept_planes}
-use Rattle.ffv1_decode.proofs.RowDecodes.{row_decoded, opened_above}
+use Rattle.ffv1_decode.proofs.lemmas.row.KeptBuffers.{kept_long, kept_planes}
+use Rattle.ffv1_decode.proofs.lemmas.row.RowDecodes.{row_decoded, opened_above}
 use Rattle.ffv1_decode.proofs.row.decode_row.Given.{Over}
 use Rattle.ffv1_decode.proofs.row.decode_row.Goals.{After-open_row}
 use Rattle.ffv1_decode.proofs.row.decode_row.Goals as goal

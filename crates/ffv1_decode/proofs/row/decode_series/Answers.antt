@@ -11,12 +11,12 @@ use Rattle.ffv1_slice.specs.Grid.{division_of, down, shared_of}
 use Rattle.ffv1_frame.specs.Picture.{plane_width}
 use Rattle.ffv1_frame.specs.Decoding.{State}
 use Rattle.ffv1_decode.specs.Internal.Tied.{TiedKept}
-use Rattle.ffv1_decode.proofs.KeptSeries.{line_kept, line_tied, series_last}
+use Rattle.ffv1_decode.proofs.lemmas.row.KeptSeries.{line_kept, line_tied, series_last}
 use Rattle.ffv1_decode.specs.Internal.Progress.{LinesDecoded}
-use Rattle.ffv1_decode.proofs.KeptBuffers.{slices_kept}
-use Rattle.ffv1_decode.proofs.LineFinished.{rct_is}
-use Rattle.ffv1_decode.proofs.SeriesDecodes.{lines_alike, planes_any, none_decoded, one_decoded}
-use Rattle.ffv1_decode.proofs.SeriesDecodes.{one_fails, all_kept}
+use Rattle.ffv1_decode.proofs.lemmas.row.KeptBuffers.{slices_kept}
+use Rattle.ffv1_decode.proofs.lemmas.finish.LineFinished.{rct_is}
+use Rattle.ffv1_decode.proofs.lemmas.row.SeriesDecodes.{lines_alike, planes_any, none_decoded, one_decoded}
+use Rattle.ffv1_decode.proofs.lemmas.row.SeriesDecodes.{one_fails, all_kept}
 use Rattle.ffv1_decode.proofs.row.decode_series.Given.{Over}
 use Rattle.ffv1_decode.proofs.row.decode_series.Goals.{After-cell_down-cell, After-kept_at}
 use Rattle.ffv1_decode.proofs.row.decode_series.Goals as goal

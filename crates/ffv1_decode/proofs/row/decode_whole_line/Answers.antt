@@ -12,12 +12,12 @@ use Rattle.ffv1_decode.specs.Internal.Tied.{AreTold, PlanesRead, RowSlices, Tied
 use Rattle.ffv1_decode.specs.Internal.Finished.{StandRead}
 use Rattle.ffv1_frame.specs.Decoding.{State}
 use Rattle.ffv1_decode.specs.Internal.Progress.{FailsIn, LineDecoded}
-use Rattle.ffv1_decode.proofs.RowGoesOn.{lent, given_back}
-use Rattle.ffv1_decode.proofs.SegmentTied.{tied_told}
-use Rattle.ffv1_decode.proofs.LineEnds.{stand_read}
-use Rattle.ffv1_decode.proofs.LineDecodes.{read_fails, finish_fails, hand_fails, finished}
-use Rattle.ffv1_decode.proofs.LineDecodes.{finished_told, grows_finished, line_decoded, line_kept}
-use Rattle.ffv1_frame.proofs.NewPlanes.{line_new, line_old}
+use Rattle.ffv1_decode.proofs.lemmas.row.RowGoesOn.{lent, given_back}
+use Rattle.ffv1_decode.proofs.lemmas.segment.SegmentTied.{tied_told}
+use Rattle.ffv1_decode.proofs.lemmas.row.LineEnds.{stand_read}
+use Rattle.ffv1_decode.proofs.lemmas.row.LineDecodes.{read_fails, finish_fails, hand_fails, finished}
+use Rattle.ffv1_decode.proofs.lemmas.row.LineDecodes.{finished_told, grows_finished, line_decoded, line_kept}
+use Rattle.ffv1_frame.proofs.lemmas.laws.decoding.NewPlanes.{line_new, line_old}
 use Rattle.ffv1_decode.proofs.row.decode_whole_line.Given.{Over}
 use Rattle.ffv1_decode.proofs.row.decode_whole_line.Goals.{After-read_planes, After-finish}
 use Rattle.ffv1_decode.proofs.row.decode_whole_line.Goals as goal

@@ -4,7 +4,7 @@ use Rattle.ffv1_record.specs.Configuration.{Configuration}
 use Rattle.ffv1_slice.specs.Grid.{across, division_of}
 use Rattle.ffv1_frame.specs.Decoding.{left_of, width_in}
 use Rattle.ffv1_decode.specs.Internal.Places.{AreParts}
-use Rattle.ffv1_decode.proofs.PartPlaces.{inside}
+use Rattle.ffv1_decode.proofs.lemmas.parts.PartPlaces.{inside}
 use Rattle.ffv1_decode.proofs.segment.extent.Given.{Over}
 use Rattle.ffv1_decode.proofs.segment.extent.Goals.{After-cell_across-cell}
 use Rattle.ffv1_decode.proofs.segment.extent.Goals as goal

@@ -2,7 +2,7 @@
 use Rattle.std.proofs.Common.{◌≡◌, ◌+◌, ◌<◌, arith}
 use Rattle.ffv1_slice.specs.Grid.{across, division_of}
 use Rattle.ffv1_frame.specs.Decoding.{left_of}
-use Rattle.ffv1_decode.proofs.PartPlaces.{inside}
+use Rattle.ffv1_decode.proofs.lemmas.parts.PartPlaces.{inside}
 use Rattle.ffv1_decode.proofs.segment.fault_at.Goals.{After-cell_across-cell}
 use Rattle.ffv1_decode.proofs.segment.fault_at.Given.{Over}
 use Rattle.ffv1_decode.proofs.segment.fault_at.Goals as goal

@@ -14,9 +14,9 @@ use Rattle.ffv1_decode.specs.Internal.Places.{AreParts}
 use Rattle.ffv1_decode.specs.Internal.Shared.{StandsKept}
 use Rattle.ffv1_decode.specs.Internal.Tied.{SegmentMade, Stopped, TiedLine, column_at, no_column}
 use Rattle.ffv1_decode.specs.Internal.Tied.{TiedKept, overlap_in, part_of, rolling_lines}
-use Rattle.ffv1_decode.proofs.SegmentLooked.{step_looked, stop_looked, unended_looked}
-use Rattle.ffv1_decode.proofs.SegmentLooked.{differs_looked}
-use Rattle.ffv1_decode.proofs.SharedColumns.{agrees_upto, differs_above, differs_left}
+use Rattle.ffv1_decode.proofs.lemmas.segment.SegmentLooked.{step_looked, stop_looked, unended_looked}
+use Rattle.ffv1_decode.proofs.lemmas.segment.SegmentLooked.{differs_looked}
+use Rattle.ffv1_decode.proofs.lemmas.shared.SharedColumns.{agrees_upto, differs_above, differs_left}
 use Rattle.ffv1_decode.proofs.segment.read_at.Given.{Over}
 use Rattle.ffv1_decode.proofs.segment.read_at.Goals.{After-index-columns-segment}
 use Rattle.ffv1_decode.proofs.segment.read_at.Goals as goal

@@ -9,13 +9,13 @@ use Rattle.ffv1_decode.specs.declared.column.Column.{Column}
 use Rattle.ffv1_decode.specs.Internal.LeftBits.{AreLeft}
 use Rattle.ffv1_decode.specs.Internal.Stands.{IsParked}
 use Rattle.ffv1_decode.specs.Internal.Tied.{IsOpen, bytes_in}
-use Rattle.ffv1_frame.proofs.ByNumber.{set_is}
-use Rattle.ffv1_frame.proofs.Coders.{by_range, by_rice, not_both_coders, rice_bits_are}
-use Rattle.ffv1_frame.proofs.WrittenParts.{put_held, part_held, part_long, window_long}
-use Rattle.ffv1_decode.proofs.BitsTied.{ContextLaws, line_outcome}
-use Rattle.ffv1_decode.proofs.ClassRoom.{class_few, contexts_few, room, base_here}
-use Rattle.ffv1_decode.proofs.LeftStates.{all_of, of_all, part_all, put_all}
-use Rattle.ffv1_decode.proofs.SegmentReads.{class_stands, all_read, all_refused}
+use Rattle.ffv1_frame.proofs.lemmas.picture.ByNumber.{set_is}
+use Rattle.ffv1_frame.proofs.lemmas.Coders.{by_range, by_rice, not_both_coders, rice_bits_are}
+use Rattle.ffv1_frame.proofs.lemmas.WrittenParts.{put_held, part_held, part_long, window_long}
+use Rattle.ffv1_decode.proofs.lemmas.left_bits.BitsTied.{ContextLaws, line_outcome}
+use Rattle.ffv1_decode.proofs.lemmas.segment.ClassRoom.{class_few, contexts_few, room, base_here}
+use Rattle.ffv1_decode.proofs.lemmas.states.LeftStates.{all_of, of_all, part_all, put_all}
+use Rattle.ffv1_decode.proofs.lemmas.segment.SegmentReads.{class_stands, all_read, all_refused}
 use Rattle.ffv1_decode.proofs.segment.read_column.Given.{Over}
 use Rattle.ffv1_decode.proofs.segment.read_column.Goals.{After-contexts, After-read_segment}
 use Rattle.ffv1_decode.proofs.segment.read_column.Goals.{After-read_bits}
@@ -137,8 +137,8 @@ returns-then-is_rice-clause-bits g c = λ is coded n q bytes_are indexes parked 
     let p : ℕ = c.args.segment.now.plane in
     let y = c.args.segment.now.y in
     let samples = g.W.Word.samples in
-    let two = samples c.args.above.now.two.now in
-    let one = samples c.args.above.now.one.now in
+    let two = c.args.above.now.two in
+    let one = c.args.above.now.one in
     let row = samples c.read_bits.new.cur in
     let column = c.args.column.now in
     let states = c.args.states.now in

@@ -16,15 +16,15 @@ use Rattle.ffv1_decode.specs.OwnFaults.{IsOwn}
 use Rattle.ffv1_decode.specs.Internal.LeftBits.{AreKept}
 use Rattle.ffv1_decode.specs.Internal.RowParts.{IsRow}
 use Rattle.ffv1_decode.specs.Internal.Tied.{IsOpen, column_at, no_column, slots_in, row_slices}
-use Rattle.ffv1_frame.proofs.Sizes.{slots_small, part_small, part_apart}
-use Rattle.ffv1_decode.proofs.ClassRoom.{classes_most}
-use Rattle.ffv1_frame.proofs.WrittenParts.{put, put_long, put_other, part_long}
-use Rattle.ffv1_decode.proofs.LeftStates.{part_kept, put_kept}
-use Rattle.ffv1_decode.proofs.WordLines.{piece_long, window_samples, put_samples}
-use Rattle.ffv1_decode.proofs.ColumnsOpen.{open_next}
-use Rattle.ffv1_decode.proofs.RowGoesOn.{row_goes_on}
-use Rattle.ffv1_decode.proofs.SegmentTied.{range_made, bits_made, stopped, bits_stopped}
-use Rattle.ffv1_decode.proofs.SegmentTied.{stands_here}
+use Rattle.ffv1_frame.proofs.lemmas.Sizes.{slots_small, part_small, part_apart}
+use Rattle.ffv1_decode.proofs.lemmas.segment.ClassRoom.{classes_most}
+use Rattle.ffv1_frame.proofs.lemmas.WrittenParts.{put, put_long, put_other, part_long}
+use Rattle.ffv1_decode.proofs.lemmas.states.LeftStates.{part_kept, put_kept}
+use Rattle.ffv1_decode.proofs.lemmas.WordLines.{piece_long, window_samples, put_samples}
+use Rattle.ffv1_decode.proofs.lemmas.segment.ColumnsOpen.{open_next}
+use Rattle.ffv1_decode.proofs.lemmas.row.RowGoesOn.{row_goes_on}
+use Rattle.ffv1_decode.proofs.lemmas.segment.SegmentTied.{range_made, bits_made, stopped, bits_stopped}
+use Rattle.ffv1_decode.proofs.lemmas.segment.SegmentTied.{stands_here}
 use Rattle.ffv1_decode.proofs.segment.read_on.Given.{Over}
 use Rattle.ffv1_decode.proofs.segment.read_on.Goals.{After-index-columns-k, After-read_column}
 use Rattle.ffv1_decode.proofs.segment.read_on.Goals.{After-extent-left}

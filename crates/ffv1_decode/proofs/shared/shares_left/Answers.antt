@@ -1,5 +1,5 @@
 -- Whether the slice to the left codes the first sample of a segment, too.
-use Rattle.ffv1_decode.proofs.SharedColumns.{none_shared}
+use Rattle.ffv1_decode.proofs.lemmas.shared.SharedColumns.{none_shared}
 use Rattle.ffv1_decode.proofs.shared.shares_left.Goals as goal
 
 pub returns-then-not-frame-clause-no : goal.returns-then-not-frame-clause-no

@@ -7,9 +7,9 @@ use Rattle.std.proofs.lemmas.Bool.{cases_eq}
 use Rattle.std.proofs.lemmas.Grind.{common_steps}
 use Rattle.ffv1_decode.specs.Filled.{filled, filled_planes, plane_size}
 use Rattle.ffv1_frame.specs.Picture.{plane, planes_of}
-use Rattle.ffv1_decode.proofs.Filling.{all_whole, filled_long, plane_kept, plane_new, set_self}
-use Rattle.ffv1_decode.proofs.Filling.{still_begun}
-use Rattle.ffv1_frame.proofs.LinesKept.{plane_of, planes_long}
+use Rattle.ffv1_decode.proofs.lemmas.sinks.Filling.{all_whole, filled_long, plane_kept, plane_new, set_self}
+use Rattle.ffv1_decode.proofs.lemmas.sinks.Filling.{still_begun}
+use Rattle.ffv1_frame.proofs.lemmas.picture.LinesKept.{plane_of, planes_long}
 use Rattle.ffv1_decode.proofs.sinks.fill.Goals as goal
 
 pub loop-plane-preserved : goal.loop-plane-preserved

@@ -4,7 +4,7 @@ use Rattle.std.proofs.Common.{◌∙◌, ap, sym, subst}
 use Rattle.ffv1_frame.specs.Picture.{AreOf, plane}
 use Rattle.ffv1_frame.specs.Decoding.{row_in}
 use Rattle.ffv1_frame.specs.Kept.{Kept}
-use Rattle.ffv1_frame.proofs.LinesKept.{row_bytes, line_here, line_others, sizes_kept}
+use Rattle.ffv1_frame.proofs.lemmas.picture.LinesKept.{row_bytes, line_here, line_others, sizes_kept}
 use Rattle.ffv1_decode.proofs.sinks.kept_line_stands_in_its_place.Goals as goal
 
 pub returns-clause-here : goal.returns-clause-here

@@ -6,8 +6,8 @@ use Rattle.std.specs.declared.vec.Vec.{Vec}
 use Rattle.std.proofs.lemmas.Bool.{cases_lt}
 use Rattle.ffv1_decode.specs.Filled.{plane_size}
 use Rattle.ffv1_frame.specs.Picture.{plane, planes_of}
-use Rattle.ffv1_decode.proofs.Filling.{all_empty, last_item, last_plane, length_more, other_item}
-use Rattle.ffv1_decode.proofs.Filling.{other_plane}
+use Rattle.ffv1_decode.proofs.lemmas.sinks.Filling.{all_empty, last_item, last_plane, length_more, other_item}
+use Rattle.ffv1_decode.proofs.lemmas.sinks.Filling.{other_plane}
 use Rattle.ffv1_decode.proofs.sinks.rooms.Goals as goal
 
 pub loop-plane-preserved : goal.loop-plane-preserved

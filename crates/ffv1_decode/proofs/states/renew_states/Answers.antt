@@ -4,8 +4,8 @@ use Rattle.std.proofs.lemmas.Grind.{common_steps}
 use Rattle.ffv1_record.specs.Held.{classes_of}
 use Rattle.ffv1_record.specs.Sets.{most_contexts}
 use Rattle.ffv1_frame.specs.SliceList.{bits_of}
-use Rattle.ffv1_frame.proofs.Coders.{by_range, by_rice, not_both_coders}
-use Rattle.ffv1_decode.proofs.LeftStates.{all_of, bits_least}
+use Rattle.ffv1_frame.proofs.lemmas.Coders.{by_range, by_rice, not_both_coders}
+use Rattle.ffv1_decode.proofs.lemmas.states.LeftStates.{all_of, bits_least}
 use Rattle.ffv1_decode.proofs.states.renew_states.Goals as goal
 
 pub returns-then-is_rice-clause-range : goal.returns-then-is_rice-clause-range

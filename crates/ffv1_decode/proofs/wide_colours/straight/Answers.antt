@@ -2,9 +2,9 @@
 use Rattle.std.proofs.Common.{◌≡◌, ◌++◌, ◌*◌, ◌<◌, ℕ, ◌∙◌, sym, subst, length, arith}
 use Rattle.ffv1_samples.specs.Samples.{samples_of}
 use Rattle.ffv1_decode.specs.Internal.Finished.{AreMade}
-use Rattle.ffv1_decode.proofs.FinishedLines.{line_0, line_1, line_2, plain, three_parts}
-use Rattle.ffv1_decode.proofs.FinishedLines.{colours_made, colours_end}
-use Rattle.ffv1_frame.proofs.Words.{words_long, three_samples}
+use Rattle.ffv1_decode.proofs.lemmas.finish.FinishedLines.{line_0, line_1, line_2, plain, three_parts}
+use Rattle.ffv1_decode.proofs.lemmas.finish.FinishedLines.{colours_made, colours_end}
+use Rattle.ffv1_frame.proofs.lemmas.picture.Words.{words_long, three_samples}
 use Rattle.ffv1_decode.proofs.wide_colours.straight.Goals.{After-split_at-2}
 use Rattle.ffv1_decode.proofs.wide_colours.straight.Goals as goal
 

@@ -3,13 +3,13 @@ use Rattle.std.proofs.Common.{◌≡◌, ℕ, ◌*◌, ◌^◌, ◌<◌, ◌≤�
 use Rattle.std.proofs.Common.{slice_index, arith}
 use Rattle.std.proofs.lemmas.Result.{err_from_is_err_and}
 use Rattle.std.proofs.lemmas.List.{get_or-take, length-take-le}
-use Rattle.ffv1_decode.proofs.Outcomes.{ok_both, err_all}
+use Rattle.ffv1_decode.proofs.lemmas.colours.Outcomes.{ok_both, err_all}
 use Rattle.ffv1_samples.specs.Samples.{samples_of}
 use Rattle.ffv1_samples.proofs.Depths.{samples_back}
 use Rattle.ffv1_decode.specs.Internal.Finished.{AreMade}
-use Rattle.ffv1_frame.proofs.Words.{words_append, words_long}
-use Rattle.ffv1_decode.proofs.FinishedLines.{full, two_parts, both_made, alpha_end, colour_end}
-use Rattle.ffv1_decode.proofs.FinishedLines.{sooner_end}
+use Rattle.ffv1_frame.proofs.lemmas.picture.Words.{words_append, words_long}
+use Rattle.ffv1_decode.proofs.lemmas.finish.FinishedLines.{full, two_parts, both_made, alpha_end, colour_end}
+use Rattle.ffv1_decode.proofs.lemmas.finish.FinishedLines.{sooner_end}
 use Rattle.ffv1_decode.proofs.wide_colours.transparent.Goals.{After-split_at}
 use Rattle.ffv1_decode.proofs.wide_colours.transparent.Goals as goal
 

@@ -4,7 +4,7 @@ use Rattle.ffv1_samples.specs.Samples.{sample_bytes, samples_of}
 use Rattle.ffv1_samples.proofs.Depths.{length_samples}
 use Rattle.ffv1_line.specs.Cell.{Shows}
 use Rattle.ffv1_frame.specs.Picture.{cell_in}
-use Rattle.ffv1_encode.proofs.RowsShown.{plain_shows}
+use Rattle.ffv1_encode.proofs.lemmas.cell_rows.RowsShown.{plain_shows}
 use Rattle.ffv1_encode.proofs.cell_rows.load.Goals as goal
 
 pub fill-requires : goal.fill-requires

@@ -4,9 +4,9 @@ use Rattle.ffv1_samples.specs.Samples.{sample_bytes, samples_of}
 use Rattle.ffv1_rct.specs.Lines.{AreCoded, AreCodedIn}
 use Rattle.ffv1_frame.specs.Picture.{cell_in}
 use Rattle.ffv1_encode.specs.Internal.CellRows.{IsLine}
-use Rattle.ffv1_encode.proofs.RowsShown.{Transformed, is_colour, same_width, luma_shows, blue_shows}
-use Rattle.ffv1_encode.proofs.RowsShown.{red_shows}
-use Rattle.ffv1_frame.proofs.Words.{green_byte, blue_byte}
+use Rattle.ffv1_encode.proofs.lemmas.cell_rows.RowsShown.{Transformed, is_colour, same_width, luma_shows, blue_shows}
+use Rattle.ffv1_encode.proofs.lemmas.cell_rows.RowsShown.{red_shows}
+use Rattle.ffv1_frame.proofs.lemmas.picture.Words.{green_byte, blue_byte}
 use Rattle.ffv1_encode.proofs.cell_rows.load_bytes.Goals as goal
 
 one_byte : (depth n long : ℕ) → depth ≡ 8 → long ≡ sample_bytes depth * n → long ≡ n

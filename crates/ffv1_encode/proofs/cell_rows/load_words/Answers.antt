@@ -9,9 +9,9 @@ use Rattle.ffv1_record.specs.Configuration.{Configuration}
 use Rattle.ffv1_slice.specs.Grid.{coded_of}
 use Rattle.ffv1_frame.specs.Picture.{Planes, cell_in, cell_height, green_of, blue_of}
 use Rattle.ffv1_encode.specs.Internal.CellRows.{IsLine}
-use Rattle.ffv1_encode.proofs.RowsShown.{Transformed, is_colour, same_width, luma_shows, blue_shows}
-use Rattle.ffv1_encode.proofs.RowsShown.{red_shows}
-use Rattle.ffv1_frame.proofs.WideLines.{rct_bits}
+use Rattle.ffv1_encode.proofs.lemmas.cell_rows.RowsShown.{Transformed, is_colour, same_width, luma_shows, blue_shows}
+use Rattle.ffv1_encode.proofs.lemmas.cell_rows.RowsShown.{red_shows}
+use Rattle.ffv1_frame.proofs.lemmas.picture.WideLines.{rct_bits}
 use Rattle.ffv1_encode.proofs.cell_rows.load_words.Given.{Over}
 use Rattle.ffv1_encode.proofs.cell_rows.load_words.Goals.{After-depth-depth}
 use Rattle.ffv1_encode.proofs.cell_rows.load_words.Goals as goal

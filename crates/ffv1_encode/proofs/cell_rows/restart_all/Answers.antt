@@ -1,6 +1,6 @@
 -- The rows above the first of each plane's cell in RCT, and room for it.
 use Rattle.ffv1_frame.specs.Picture.{cell_in}
-use Rattle.ffv1_encode.proofs.Bodies.{rolled_top}
+use Rattle.ffv1_encode.proofs.lemmas.slice_body.Bodies.{rolled_top}
 use Rattle.ffv1_encode.proofs.cell_rows.restart_all.Goals as goal
 
 pub returns-clause-rolled : goal.returns-clause-rolled

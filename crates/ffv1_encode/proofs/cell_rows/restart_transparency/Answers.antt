@@ -2,7 +2,7 @@
 use Rattle.std.proofs.Common.{◌≡◌, ◌∙◌, ap, Bool, true, false}
 use Rattle.ffv1_record.specs.Configuration.{Configuration}
 use Rattle.ffv1_frame.specs.Picture.{cell_in}
-use Rattle.ffv1_encode.proofs.Bodies.{rolled_top}
+use Rattle.ffv1_encode.proofs.lemmas.slice_body.Bodies.{rolled_top}
 use Rattle.ffv1_encode.proofs.cell_rows.restart_transparency.Goals as goal
 
 neither : (b : Bool) → b ≡ false → b ≡ true → ⊥

@@ -1,6 +1,6 @@
 -- Samples of 8 bits as they are coded.
 use Rattle.std.proofs.Common.{◌≡◌, suc, ◌+◌, ◌<◌, length, slice_set, subst, take, arith}
-use Rattle.ffv1_frame.proofs.Words.{more_same, all_same}
+use Rattle.ffv1_frame.proofs.lemmas.picture.Words.{more_same, all_same}
 use Rattle.ffv1_encode.proofs.cell_rows.widen.Goals as goal
 
 pub write-requires-clause-few : goal.write-requires-clause-few

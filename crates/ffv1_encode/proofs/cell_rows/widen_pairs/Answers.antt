@@ -2,7 +2,7 @@
 use Rattle.std.proofs.Common.{◌≡◌, suc, ◌+◌, ◌*◌, ◌<◌, length, get_or, slice_set, subst, take}
 use Rattle.std.proofs.Common.{arith}
 use Rattle.ffv1_samples.specs.Samples.{numbers_of_pairs}
-use Rattle.ffv1_frame.proofs.Words.{more_pairs, all_pairs}
+use Rattle.ffv1_frame.proofs.lemmas.picture.Words.{more_pairs, all_pairs}
 use Rattle.ffv1_encode.proofs.cell_rows.widen_pairs.Goals as goal
 
 pub write-requires-clause-few : goal.write-requires-clause-few

@@ -9,9 +9,9 @@ use Rattle.ffv1_frame.specs.declared.frame_counts.FrameCounts.{FrameCounts}
 use Rattle.ffv1_frame.specs.declared.fault.CodecFault.TheVariants as fault
 use Rattle.ffv1_frame.specs.Frame.{slice_bytes}
 use Rattle.ffv1_frame.specs.Length.{slice_residuals, slice_renormalisations}
-use Rattle.ffv1_encode.proofs.KeptScratch.{kept_at_first, kept_then}
-use Rattle.ffv1_encode.proofs.Frames.{joined_next, sum_next, residuals_next, few_next, long_slice}
-use Rattle.ffv1_encode.proofs.Frames.{no_long_slice, counts_are}
+use Rattle.ffv1_encode.proofs.lemmas.frame.KeptScratch.{kept_at_first, kept_then}
+use Rattle.ffv1_encode.proofs.lemmas.frame.Frames.{joined_next, sum_next, residuals_next, few_next, long_slice}
+use Rattle.ffv1_encode.proofs.lemmas.frame.Frames.{no_long_slice, counts_are}
 use Rattle.ffv1_encode.proofs.frame.put_slices.Given.{Over}
 use Rattle.ffv1_encode.proofs.frame.put_slices.Goals.{After-slices-number-end}
 use Rattle.ffv1_encode.proofs.frame.put_slices.Goals as goal

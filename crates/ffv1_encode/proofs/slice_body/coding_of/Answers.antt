@@ -1,7 +1,7 @@
 -- How the lines of a plane are coded: by the set and the bits of the plane.
 use Rattle.std.proofs.Common.{ap}
 use Rattle.ffv1_record.specs.Configuration.{Configuration}
-use Rattle.ffv1_encode.proofs.Classes.{Looked, looked_set, looked_slot, looked_fits}
+use Rattle.ffv1_encode.proofs.lemmas.slice_body.Classes.{Looked, looked_set, looked_slot, looked_fits}
 use Rattle.ffv1_encode.proofs.slice_body.coding_of.Goals as goal
 
 pub returns-clause-set : goal.returns-clause-set

@@ -3,8 +3,8 @@ use Rattle.std.proofs.Common.{subst, sym}
 use Rattle.ffv1_frame.specs.Picture.{cell_in}
 use Rattle.ffv1_frame.specs.SliceList.{chosen_head, chosen_body}
 use Rattle.ffv1_encode.specs.Internal.HasPut.{PutsAfter}
-use Rattle.ffv1_encode.proofs.RowsShown.{is_colour}
-use Rattle.ffv1_encode.proofs.Bodies.{puts_then, colours_of_line}
+use Rattle.ffv1_encode.proofs.lemmas.cell_rows.RowsShown.{is_colour}
+use Rattle.ffv1_encode.proofs.lemmas.slice_body.Bodies.{puts_then, colours_of_line}
 use Rattle.ffv1_encode.proofs.slice_body.put_colours.Goals as goal
 
 pub returns-clause-ok : goal.returns-clause-ok

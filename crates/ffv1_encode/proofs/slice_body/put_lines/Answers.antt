@@ -4,7 +4,7 @@ use Rattle.std.specs.List.{flat_map, range_with_len}
 use Rattle.ffv1_frame.specs.Picture.{cell_in, cell_height, plane_count}
 use Rattle.ffv1_frame.specs.SliceList.{chosen_head, chosen_body, planes_of_line}
 use Rattle.ffv1_encode.specs.Internal.HasPut.{PutsAfter}
-use Rattle.ffv1_encode.proofs.Bodies.{puts_none, parts_next, lines_in_order}
+use Rattle.ffv1_encode.proofs.lemmas.slice_body.Bodies.{puts_none, parts_next, lines_in_order}
 use Rattle.ffv1_encode.proofs.slice_body.put_lines.Goals as goal
 
 pub loop-y-init : goal.loop-y-init

@@ -5,7 +5,7 @@ use Rattle.ffv1_slice.specs.Grid.{Division}
 use Rattle.ffv1_frame.specs.Picture.{cell_in, cell_height, plane_count}
 use Rattle.ffv1_frame.specs.SliceList.{chosen_head, chosen_body, lines_of_plane}
 use Rattle.ffv1_encode.specs.Internal.HasPut.{PutsAfter}
-use Rattle.ffv1_encode.proofs.Bodies.{puts_none, parts_next, planes_in_order}
+use Rattle.ffv1_encode.proofs.lemmas.slice_body.Bodies.{puts_none, parts_next, planes_in_order}
 use Rattle.ffv1_encode.proofs.slice_body.put_planes.Goals as goal
 
 pub loop-plane-init : goal.loop-plane-init

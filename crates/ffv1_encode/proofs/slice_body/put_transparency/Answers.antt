@@ -5,7 +5,7 @@ use Rattle.ffv1_frame.specs.Picture.{cell_in}
 use Rattle.ffv1_frame.specs.SliceList.{Line, chosen_head, chosen_body}
 use Rattle.ffv1_encode.specs.Internal.HasPut.{PutsAfter}
 use Rattle.ffv1_encode.specs.Internal.CellRows.{fourth_line}
-use Rattle.ffv1_encode.proofs.Bodies.{body_one}
+use Rattle.ffv1_encode.proofs.lemmas.slice_body.Bodies.{body_one}
 use Rattle.ffv1_encode.proofs.slice_body.put_transparency.Goals as goal
 
 pub returns-clause-ok : goal.returns-clause-ok

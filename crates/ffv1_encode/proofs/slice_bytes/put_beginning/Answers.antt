@@ -4,7 +4,7 @@ use Rattle.ffv1_slice.specs.declared.head.SliceHead.{SliceHead}
 use Rattle.ffv1_slice.specs.Head.{head_values, head_steps}
 use Rattle.ffv1_slice.specs.Coding.{PutsAt}
 use Rattle.ffv1_frame.specs.SliceList.{chosen_head}
-use Rattle.ffv1_encode.proofs.Beginnings.{Fresh, begun}
+use Rattle.ffv1_encode.proofs.lemmas.slice_bytes.Beginnings.{Fresh, begun}
 use Rattle.ffv1_encode.proofs.slice_bytes.put_beginning.Goals as goal
 
 pub returns-clause-ok : goal.returns-clause-ok

@@ -9,7 +9,7 @@ use Rattle.ffv1_frame.specs.SliceList.{chosen_head, chosen_body, lines_in}
 use Rattle.ffv1_encode.specs.Internal.HasPut.{HasPut, states_in}
 use Rattle.ffv1_line.specs.Length.{row_decisions}
 use Rattle.ffv1_frame.specs.Length.{slice_residuals}
-use Rattle.ffv1_encode.proofs.Counted.{counted_between, begin_few}
+use Rattle.ffv1_encode.proofs.lemmas.slice_bytes.Counted.{counted_between, begin_few}
 use Rattle.ffv1_encode.proofs.slice_bytes.put_slice.Given.{Over}
 use Rattle.ffv1_encode.proofs.slice_bytes.put_slice.Goals.{After-decisions}
 use Rattle.ffv1_encode.proofs.slice_bytes.put_slice.Goals as goal

@@ -12,7 +12,7 @@ use Rattle.ffv1_slice.specs.Head.{IsThird}
 use Rattle.ffv1_frame.specs.Picture.{cell_in}
 use Rattle.ffv1_frame.specs.SliceList.{IsBody, Line, bits_of, set_in, chosen_index, chosen_body}
 use Rattle.ffv1_frame.specs.SliceList.{lines_in, chosen_head}
-use Rattle.ffv1_frame.proofs.Aspects.{has_itself}
+use Rattle.ffv1_frame.proofs.lemmas.Aspects.{has_itself}
 use Rattle.ffv1_frame.proofs.laws.chosen_slices_suit_their_picture.Goals as goal
 
 index_below : (c : Configuration) (k : ℕ) → 1 ≤ length c.sets → chosen_index c k < length c.sets

@@ -3,8 +3,8 @@ use Rattle.std.proofs.Common.{ℕ, zero, suc, ◌+◌, ◌<◌, ◌^◌, Bool, t
 use Rattle.ffv1_record.specs.Configuration.{Configuration, is_rct}
 use Rattle.ffv1_frame.specs.Picture.{Planes, IsPicture, green_of, blue_of, sample_at}
 use Rattle.ffv1_frame.specs.Picture.{transformed_at}
-use Rattle.ffv1_frame.proofs.CodedSamples.{Small, luma_small, blue_small, red_small, one_more_bit}
-use Rattle.ffv1_frame.proofs.Words.{picture_small}
+use Rattle.ffv1_frame.proofs.lemmas.picture.CodedSamples.{Small, luma_small, blue_small, red_small, one_more_bit}
+use Rattle.ffv1_frame.proofs.lemmas.picture.Words.{picture_small}
 use Rattle.ffv1_frame.proofs.laws.coded_samples_fit_their_bits.Goals as goal
 
 sample_small : (c : Configuration) (planes : Planes) (p x y : ℕ) → IsPicture c planes → sample_at c

@@ -14,10 +14,10 @@ use Rattle.ffv1_slice.specs.Cutting.{AreCodedBytes, coded_of, offset_in}
 use Rattle.ffv1_frame.specs.Picture.{Planes, cell_in}
 use Rattle.ffv1_frame.specs.SliceList.{Said, chosen_slice, chosen_head, chosen_body}
 use Rattle.ffv1_frame.specs.CodedSlice.{CodesSlice}
-use Rattle.ffv1_frame.proofs.Coders.{by_range}
+use Rattle.ffv1_frame.proofs.lemmas.Coders.{by_range}
 use Rattle.ffv1_frame.specs.SliceList.{lines_in}
 use Rattle.ffv1_frame.specs.Frame.{HasLongSlice, slice_bytes, slices_bytes, frame_of}
-use Rattle.ffv1_frame.proofs.Aspects.{said_chosen}
+use Rattle.ffv1_frame.proofs.lemmas.Aspects.{said_chosen}
 use Rattle.ffv1_frame.proofs.laws.encoded_frame_codes_its_picture.Goals as goal
 
 coded_list : (f : ℕ → List ℕ) (from count : ℕ) → ((n : ℕ) → AreBytes (f n)) →

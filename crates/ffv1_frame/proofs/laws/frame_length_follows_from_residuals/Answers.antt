@@ -8,7 +8,7 @@ use Rattle.std.specs.Prelude.{sum, map}
 use Rattle.ffv1_slice.specs.Footer.{foot_length}
 use Rattle.ffv1_frame.specs.Frame.{slice_bytes}
 use Rattle.ffv1_frame.specs.Length.{slice_residuals, slice_most, slice_renormalisations}
-use Rattle.ffv1_frame.proofs.Lengths.{joined_long, joined_most}
+use Rattle.ffv1_frame.proofs.lemmas.Lengths.{joined_long, joined_most}
 use Rattle.ffv1_frame.proofs.laws.frame_length_follows_from_residuals.Goals as goal
 
 pub returns-clause-long : goal.returns-clause-long

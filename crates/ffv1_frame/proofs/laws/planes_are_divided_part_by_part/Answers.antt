@@ -4,7 +4,7 @@ use Rattle.std.proofs.Common.{◌≡◌, ◌^◌, ◌%◌, sym, subst, arith}
 use Rattle.ffv1_slice.specs.Grid.{Side, IsDivided, across, down, division_of}
 use Rattle.ffv1_record.specs.Accepted.{AreMultiples, edge}
 use Rattle.ffv1_frame.specs.Sides.{Tiles}
-use Rattle.ffv1_frame.proofs.EventsOf.{is_rct_is}
+use Rattle.ffv1_frame.proofs.lemmas.laws.decoding.EventsOf.{is_rct_is}
 use Rattle.ffv1_frame.proofs.laws.planes_are_divided_part_by_part.Goals as goal
 
 -- without a factor each edge is a multiple

@@ -8,9 +8,9 @@ use Rattle.ffv1_frame.specs.Frame.{IsSaid}
 use Rattle.ffv1_slice.specs.Head.{key_steps, head_steps}
 use Rattle.ffv1_frame.specs.Picture.{cell_in}
 use Rattle.ffv1_frame.specs.SliceList.{Said, chosen_head, chosen_body, chosen_slice, lines_in}
-use Rattle.ffv1_frame.proofs.Lines.{Sides}
-use Rattle.ffv1_frame.proofs.Lengths.{Rows, body_long, residuals_few, key_few, sealed_most}
-use Rattle.ffv1_frame.proofs.Lengths.{sealed_least, sentinel_long}
+use Rattle.ffv1_frame.proofs.lemmas.picture.Lines.{Sides}
+use Rattle.ffv1_frame.proofs.lemmas.Lengths.{Rows, body_long, residuals_few, key_few, sealed_most}
+use Rattle.ffv1_frame.proofs.lemmas.Lengths.{sealed_least, sentinel_long}
 use Rattle.ffv1_range.specs.Interval.{interval_of}
 use Rattle.ffv1_range.specs.History.{decisions_after}
 use Rattle.ffv1_frame.proofs.laws.slice_length_follows_from_residuals.Goals as goal

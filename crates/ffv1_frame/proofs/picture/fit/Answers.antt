@@ -7,8 +7,8 @@ use borrow.Author.Count.{below_more}
 use Rattle.ffv1_samples.specs.Samples.{AreBelow, sample_bytes, samples_of}
 use Rattle.ffv1_slice.specs.Grid.{across, down, whole_of}
 use Rattle.ffv1_frame.specs.Picture.{plane, planes_of}
-use Rattle.ffv1_frame.proofs.Lines.{plane_of, all_planes, all_in_depth}
-use Rattle.ffv1_frame.proofs.LinesKept.{planes_long}
+use Rattle.ffv1_frame.proofs.lemmas.picture.Lines.{plane_of, all_planes, all_in_depth}
+use Rattle.ffv1_frame.proofs.lemmas.picture.LinesKept.{planes_long}
 use Rattle.ffv1_frame.proofs.picture.fit.Given.{Over}
 use Rattle.ffv1_frame.proofs.picture.fit.Goals.{After-as_slice-samples}
 use Rattle.ffv1_frame.proofs.picture.fit.Goals as goal

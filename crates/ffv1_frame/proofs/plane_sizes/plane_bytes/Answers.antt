@@ -3,7 +3,7 @@ use Rattle.std.proofs.Common.{ℕ, ◌*◌, ◌<◌, ◌≤◌, ◌∙◌, ap, s
 use Rattle.std.proofs.Math.Nat.{mul-le-mul_left}
 use Rattle.ffv1_samples.specs.Samples.{sample_bytes}
 use Rattle.ffv1_slice.specs.Grid.{across, whole_of}
-use Rattle.ffv1_frame.proofs.Lengths.{whole_wide, whole_high}
+use Rattle.ffv1_frame.proofs.lemmas.Lengths.{whole_wide, whole_high}
 use Rattle.ffv1_frame.proofs.plane_sizes.plane_bytes.Goals as goal
 
 room : (b w h : ℕ) → b ≤ 2 → w ≤ 8192 → h ≤ 8192 → b * (w * h) < 18446744073709551616

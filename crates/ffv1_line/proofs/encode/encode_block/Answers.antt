@@ -1,7 +1,7 @@
 -- The symbols of a part of a row, by an encoder that has not failed: one by one where nearly all
 -- residuals are zero, else by a list.
 use Rattle.ffv1_range.proofs.Growth.{on_err}
-use Rattle.ffv1_line.proofs.Beside.{counts_no_places}
+use Rattle.ffv1_line.proofs.lemmas.cell.Beside.{counts_no_places}
 use Rattle.ffv1_line.proofs.encode.encode_block.Goals as goal
 
 pub returns-in_err-put_all-clause-kept : goal.returns-in_err-put_all-clause-kept

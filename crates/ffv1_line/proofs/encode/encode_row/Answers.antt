@@ -2,8 +2,8 @@
 -- depth and each kind of set.
 use Rattle.std.proofs.Common.{◌≡◌, ◌∙◌, length, arith, rules}
 use Rattle.ffv1_range.proofs.Growth.{on_err}
-use Rattle.ffv1_line.proofs.Rows.{written_none}
-use Rattle.ffv1_line.proofs.Beside.{written_block, refused_block, counts_block}
+use Rattle.ffv1_line.proofs.lemmas.cell.Rows.{written_none}
+use Rattle.ffv1_line.proofs.lemmas.cell.Beside.{written_block, refused_block, counts_block}
 use Rattle.ffv1_line.proofs.encode.encode_row.Goals as goal
 
 pub parts-init : goal.parts-init

@@ -3,7 +3,7 @@ use Rattle.std.proofs.Common.{◌≡◌, ◌∙◌, ◌≤◌, take, length, pos
 use Rattle.std.proofs.lemmas.List.{get_or-take, length-take-le}
 use Rattle.ffv1_range.specs.Rows.{rows_steps}
 use Rattle.ffv1_line.specs.Internal.Parts.{part_steps}
-use Rattle.ffv1_line.proofs.Beside.{rows_are}
+use Rattle.ffv1_line.proofs.lemmas.cell.Beside.{rows_are}
 use Rattle.ffv1_line.proofs.encode.put_numbers.Given.{Over}
 use Rattle.ffv1_line.proofs.encode.put_numbers.Goals.{After-number_places}
 use Rattle.ffv1_line.proofs.encode.put_numbers.Goals as goal

@@ -4,8 +4,8 @@ use Rattle.ffv1_range.proofs.Steps.{puts_none, puts_append}
 use Rattle.ffv1_range.proofs.Growth.{on_err}
 use Rattle.ffv1_range.specs.Counts.{Counts, Counted}
 use Rattle.ffv1_line.specs.Internal.Parts.{part_steps}
-use Rattle.ffv1_line.proofs.Beside.{places-none, places-more, place_is, refused_place}
-use Rattle.ffv1_line.proofs.BlockLanes.{nine_by, nine_limit}
+use Rattle.ffv1_line.proofs.lemmas.cell.Beside.{places-none, places-more, place_is, refused_place}
+use Rattle.ffv1_line.proofs.lemmas.encode.BlockLanes.{nine_by, nine_limit}
 use Rattle.ffv1_line.proofs.encode.put_places.Goals as goal
 
 pub loop-k-init : goal.loop-k-init

@@ -1,6 +1,6 @@
 -- Cells that agree on the rows up to one row have the same decisions of it, and the same residuals
 -- suit it.
-use Rattle.ffv1_line.proofs.Agreeing.{steps_alike, suits_alike}
+use Rattle.ffv1_line.proofs.lemmas.laws.Agreeing.{steps_alike, suits_alike}
 use Rattle.ffv1_line.proofs.laws.agreeing_cells_code_rows_alike.Goals as goal
 
 pub returns-clause-steps : goal.returns-clause-steps

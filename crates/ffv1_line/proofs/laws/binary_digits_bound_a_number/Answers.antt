@@ -1,5 +1,5 @@
 -- A number has d binary digits where it is at least 2^(d-1) and below 2^d, and 0 has none.
-use Rattle.ffv1_line.proofs.MostDecisions.{digits_least, digits_below}
+use Rattle.ffv1_line.proofs.lemmas.laws.MostDecisions.{digits_least, digits_below}
 use Rattle.std.proofs.Common.{refl}
 use Rattle.ffv1_line.proofs.laws.binary_digits_bound_a_number.Goals as goal
 

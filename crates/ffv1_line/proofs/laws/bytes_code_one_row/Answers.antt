@@ -1,7 +1,7 @@
 -- After one past the bytes code one row at most, below two given rows: residuals of so many samples
 -- that suit them are one list and make one row; a row that is refused is no beginning of one that
 -- is coded, and is refused at one place.
-use Rattle.ffv1_line.proofs.SameRowAfter.{one_row_after, whole_or_refused_after, one_refusal_after}
+use Rattle.ffv1_line.proofs.lemmas.laws.SameRowAfter.{one_row_after, whole_or_refused_after, one_refusal_after}
 use Rattle.ffv1_line.proofs.laws.bytes_code_one_row.Goals as goal
 
 pub returns-clause-one : goal.returns-clause-one

@@ -1,5 +1,5 @@
 -- `bytes_code_one_row_by_states`: the same after any decisions, by any states.
-use Rattle.ffv1_line.proofs.SameRow.{one_row, whole_or_refused, one_refusal}
+use Rattle.ffv1_line.proofs.lemmas.laws.SameRow.{one_row, whole_or_refused, one_refusal}
 use Rattle.ffv1_line.proofs.laws.bytes_code_one_row_by_states.Goals as goal
 
 pub returns-clause-one : goal.returns-clause-one

@@ -1,8 +1,8 @@
 -- What an encoder writes of a row, and of the rows of a cell, are residuals that suit their
 -- samples, one for each sample.
-use Rattle.ffv1_line.proofs.Rows.{length-chosen}
-use Rattle.ffv1_line.proofs.Suits.{chosen_row_suits, chosen_rows_suit}
-use Rattle.ffv1_line.proofs.Cells.{length-rows}
+use Rattle.ffv1_line.proofs.lemmas.cell.Rows.{length-chosen}
+use Rattle.ffv1_line.proofs.lemmas.laws.Suits.{chosen_row_suits, chosen_rows_suit}
+use Rattle.ffv1_line.proofs.lemmas.cell.Cells.{length-rows}
 use Rattle.ffv1_line.proofs.laws.chosen_residuals_suit_their_samples.Goals as goal
 
 pub returns-clause-long : goal.returns-clause-long

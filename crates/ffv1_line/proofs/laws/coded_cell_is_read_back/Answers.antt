@@ -1,5 +1,5 @@
 -- So are the rows of a cell that its bytes code, one after the other.
-use Rattle.ffv1_line.proofs.CellBack.{behind_none, back_more, behind_not_refused}
+use Rattle.ffv1_line.proofs.lemmas.decode.CellBack.{behind_none, back_more, behind_not_refused}
 use Rattle.ffv1_line.proofs.laws.coded_cell_is_read_back.Goals as goal
 
 pub returns-clause-first : goal.returns-clause-first

@@ -1,7 +1,7 @@
 -- A row that its decoder's bytes code by its states is read as it is, and is not refused.
 use Rattle.std.proofs.Common.{◌≡◌, ◌+◌, suc, subst, arith}
 use Rattle.ffv1_line.specs.Cell.{Shows}
-use Rattle.ffv1_line.proofs.ThreeRows.{row_back, row_not_refused}
+use Rattle.ffv1_line.proofs.lemmas.laws.ThreeRows.{row_back, row_not_refused}
 use Rattle.ffv1_line.proofs.laws.coded_row_is_read_back.Goals as goal
 
 pub returns-clause-read : goal.returns-clause-read

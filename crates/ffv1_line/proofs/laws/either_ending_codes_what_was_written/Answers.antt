@@ -4,8 +4,8 @@ use Rattle.std.proofs.Common.{[]}
 use Rattle.ffv1_range.specs.Interval.{interval_of}
 use Rattle.ffv1_range.specs.History.{decisions_after}
 use Rattle.ffv1_line.specs.Row.{cell_steps}
-use Rattle.ffv1_line.proofs.CellBack.{sentinel_codes, full_codes, sentinel_of_history}
-use Rattle.ffv1_line.proofs.CellBack.{full_of_history, sentinel_bytes, full_bytes}
+use Rattle.ffv1_line.proofs.lemmas.decode.CellBack.{sentinel_codes, full_codes, sentinel_of_history}
+use Rattle.ffv1_line.proofs.lemmas.decode.CellBack.{full_of_history, sentinel_bytes, full_bytes}
 use Rattle.ffv1_line.proofs.laws.either_ending_codes_what_was_written.Goals as goal
 
 pub returns-clause-sentinel : goal.returns-clause-sentinel

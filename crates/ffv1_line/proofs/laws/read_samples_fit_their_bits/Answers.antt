@@ -1,5 +1,5 @@
 -- Samples that were read have `bits` bits.
-use Rattle.ffv1_line.proofs.SamplesBelow.{lined_below, refused_below}
+use Rattle.ffv1_line.proofs.lemmas.laws.SamplesBelow.{lined_below, refused_below}
 use Rattle.ffv1_line.proofs.laws.read_samples_fit_their_bits.Goals as goal
 
 pub returns-clause-read : goal.returns-clause-read

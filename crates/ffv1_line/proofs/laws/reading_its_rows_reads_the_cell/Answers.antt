@@ -1,5 +1,5 @@
 -- A decoder that read rows, one below the other, read the cell of their samples.
-use Rattle.ffv1_line.proofs.Cells.{rolls_first, rolls_next, read_none, read_next, read_all}
+use Rattle.ffv1_line.proofs.lemmas.cell.Cells.{rolls_first, rolls_next, read_none, read_next, read_all}
 use Rattle.ffv1_line.proofs.laws.reading_its_rows_reads_the_cell.Goals as goal
 
 pub returns-clause-top : goal.returns-clause-top

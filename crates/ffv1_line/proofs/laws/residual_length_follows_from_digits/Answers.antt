@@ -1,8 +1,8 @@
 -- A residual of n binary digits takes 2 n + 1 decisions, at most 63; a row and a cell take those of
 -- their residuals, at slots of the set's contexts; and each residual that an encoder takes of a
 -- cell has a symbol.
-use Rattle.ffv1_line.proofs.Lengths.{symbol_length, symbol_most, row_length, cell_length, cell_most}
-use Rattle.ffv1_line.proofs.Lengths.{cell_below, chosen_rows_small, chosen_rows_many}
+use Rattle.ffv1_line.proofs.lemmas.laws.Lengths.{symbol_length, symbol_most, row_length, cell_length, cell_most}
+use Rattle.ffv1_line.proofs.lemmas.laws.Lengths.{cell_below, chosen_rows_small, chosen_rows_many}
 use Rattle.ffv1_line.proofs.laws.residual_length_follows_from_digits.Goals as goal
 
 pub returns-clause-symbol : goal.returns-clause-symbol

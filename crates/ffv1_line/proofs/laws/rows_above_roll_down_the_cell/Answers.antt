@@ -1,7 +1,7 @@
 -- The rows two and one above are 0 at a cell's top, and from a row to the next they move by one.
 use Rattle.std.proofs.Common.{◌≡◌, ◌+◌, ◌*◌, suc, subst, arith, take, drop}
 use Rattle.ffv1_line.specs.Cell.{Shows, cell_of}
-use Rattle.ffv1_line.proofs.Cells.{above_top, above_more, shows_inside}
+use Rattle.ffv1_line.proofs.lemmas.cell.Cells.{above_top, above_more, shows_inside}
 use Rattle.ffv1_line.proofs.laws.rows_above_roll_down_the_cell.Goals as goal
 
 pub returns-clause-top : goal.returns-clause-top

@@ -1,8 +1,8 @@
 -- A residual that was read has a symbol; so a sample that was read takes at most 63 decisions, a
 -- symbol that is refused 32, and a sample of `bits` bits that was written `2 * bits + 1`.
 use Rattle.std.proofs.Common.{◌-◌, arith}
-use Rattle.ffv1_line.proofs.MostDecisions.{lined_small, refused_small, lined_most, refused_most}
-use Rattle.ffv1_line.proofs.MostDecisions.{written_most}
+use Rattle.ffv1_line.proofs.lemmas.laws.MostDecisions.{lined_small, refused_small, lined_most, refused_most}
+use Rattle.ffv1_line.proofs.lemmas.laws.MostDecisions.{written_most}
 use Rattle.ffv1_line.proofs.laws.sample_takes_at_most_63_decisions.Goals as goal
 
 pub returns-clause-small : goal.returns-clause-small

@@ -1,8 +1,8 @@
 -- Residuals that suit a row have a symbol each, and the row's samples have `bits` bits.
 use Rattle.std.proofs.Common.{◌≡◌, ℕ, suc, ◌+◌, ◌<◌, ◌^◌, arith, ap, subst}
 use Rattle.ffv1_line.specs.Cell.{Cell, seen}
-use Rattle.ffv1_line.proofs.ThreeRows.{suiting_small}
-use Rattle.ffv1_line.proofs.SamplesBelow.{suiting_below}
+use Rattle.ffv1_line.proofs.lemmas.laws.ThreeRows.{suiting_small}
+use Rattle.ffv1_line.proofs.lemmas.laws.SamplesBelow.{suiting_below}
 use Rattle.ffv1_line.proofs.laws.suiting_residuals_have_symbols.Goals as goal
 
 seen_there : (c : Cell) (x y : ℕ) → x < c.width → seen c (suc (suc (0 + x))) (suc (suc y)) ≡ c.at x

@@ -1,5 +1,5 @@
 -- An encoder that wrote some rows of a cell, and then the next, wrote these rows.
-use Rattle.ffv1_line.proofs.Joined.{puts_next}
+use Rattle.ffv1_line.proofs.lemmas.cell.Joined.{puts_next}
 use Rattle.ffv1_line.proofs.laws.writing_goes_on_row_by_row.Goals as goal
 
 pub returns : goal.returns

@@ -3,7 +3,7 @@ use Rattle.std.proofs.Common.{◌≡◌, ◌∙◌, true, refl, sym, ap, length,
 use Rattle.std.proofs.lemmas.List.{length-replicate}
 use Rattle.std.proofs.lemmas.Grind.{common_steps}
 use Rattle.ffv1_line.specs.Cell.{Cell, cell_of}
-use Rattle.ffv1_line.proofs.Cells.{length-rows}
+use Rattle.ffv1_line.proofs.lemmas.cell.Cells.{length-rows}
 use Rattle.ffv1_pack.specs.Plane.{plane_residuals}
 use Rattle.ffv1_pack.specs.declared.comparison.Comparison.{Comparison}
 use Rattle.ffv1_pack.proofs.Compared.{cell_same}

@@ -5,7 +5,7 @@ use Rattle.ffv1_range.specs.History.{decisions_after}
 use Rattle.ffv1_range.proofs.HistoryLemmas.{kept_is}
 use Rattle.ffv1_plane.specs.Quantisation.{contexts_of}
 use Rattle.ffv1_line.specs.Cell.{cell_of}
-use Rattle.ffv1_line.proofs.Lengths.{cell_below}
+use Rattle.ffv1_line.proofs.lemmas.laws.Lengths.{cell_below}
 use Rattle.ffv1_pack.specs.Plane.{plane_residuals, plane_steps}
 use Rattle.ffv1_pack.proofs.PlaneCount.{plane_counted, plane_length}
 use Rattle.ffv1_pack.proofs.plane.code_rows.Goals as goal

@@ -7,7 +7,7 @@ use Rattle.std.proofs.lemmas.Grind.{common_steps}
 use Rattle.ffv1_decode.specs.Filled.{AreRooms, filled_planes}
 use Rattle.ffv1_frame.specs.Kept.{Kept}
 use Rattle.ffv1_frame.specs.Picture.{AreOf, Planes, planes_of}
-use Rattle.ffv1_decode.proofs.Filling.{are_of, filled_again}
+use Rattle.ffv1_decode.proofs.lemmas.sinks.Filling.{are_of, filled_again}
 use Rattle.ffv1_decode.proofs.sinks.KeepLines.planes.Goals as goal
 
 pub fill-requires-clause-division : goal.fill-requires-clause-division

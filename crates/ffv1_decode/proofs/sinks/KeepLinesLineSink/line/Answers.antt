@@ -6,9 +6,9 @@ use Rattle.std.specs.declared.vec.Vec.{Vec}
 use Rattle.ffv1_decode.specs.Filled.{filled, filled_planes, plane_size}
 use Rattle.ffv1_frame.specs.Picture.{Planes, plane, planes_of}
 use Rattle.ffv1_frame.specs.Kept.{Kept, IsLine, with_samples, with_line}
-use Rattle.ffv1_decode.proofs.Filling.{filled_plane, filled_set, line_few, line_filled, line_within}
-use Rattle.ffv1_decode.proofs.Filling.{still_begun}
-use Rattle.ffv1_frame.proofs.LinesKept.{plane_of}
+use Rattle.ffv1_decode.proofs.lemmas.sinks.Filling.{filled_plane, filled_set, line_few, line_filled, line_within}
+use Rattle.ffv1_decode.proofs.lemmas.sinks.Filling.{still_begun}
+use Rattle.ffv1_frame.proofs.lemmas.picture.LinesKept.{plane_of}
 use Rattle.ffv1_decode.proofs.sinks.KeepLinesLineSink.line.Given.{Over}
 use Rattle.ffv1_decode.proofs.sinks.KeepLinesLineSink.line.Goals.{After-keep}
 use Rattle.ffv1_decode.proofs.sinks.KeepLinesLineSink.line.Goals as goal

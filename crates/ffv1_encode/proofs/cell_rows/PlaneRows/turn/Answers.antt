@@ -1,6 +1,6 @@
 -- Goes on to the next row of each plane.
 use Rattle.ffv1_frame.specs.Picture.{cell_in}
-use Rattle.ffv1_encode.proofs.Bodies.{rolled_next}
+use Rattle.ffv1_encode.proofs.lemmas.slice_body.Bodies.{rolled_next}
 use Rattle.ffv1_encode.proofs.cell_rows.PlaneRows.turn.Goals as goal
 
 pub returns-clause-rolled : goal.returns-clause-rolled

@@ -1,7 +1,7 @@
 -- Its cell in a plane, of at least one sample.
 use Rattle.std.proofs.Common.{ℕ, ◌<◌, ◌%◌, sym, subst}
 use Rattle.ffv1_slice.specs.Grid.{Division, across}
-use Rattle.ffv1_frame.proofs.Lines.{column_inside}
+use Rattle.ffv1_frame.proofs.lemmas.picture.Lines.{column_inside}
 use Rattle.ffv1_encode.proofs.slice.Slice.cell.Goals as goal
 
 pub returns-clause-some : goal.returns-clause-some

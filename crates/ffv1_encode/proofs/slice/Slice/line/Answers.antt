@@ -4,8 +4,8 @@ use Rattle.std.proofs.lemmas.Grind.{common_steps}
 use Rattle.ffv1_samples.specs.Samples.{sample_bytes}
 use Rattle.ffv1_slice.specs.Grid.{Division, division_of}
 use Rattle.ffv1_frame.specs.Picture.{IsPicture, plane}
-use Rattle.ffv1_frame.proofs.Lines.{Sides}
-use Rattle.ffv1_encode.proofs.CellLines.{Lay, lay_inside, lay_line, lent, line_small}
+use Rattle.ffv1_frame.proofs.lemmas.picture.Lines.{Sides}
+use Rattle.ffv1_encode.proofs.lemmas.slice.CellLines.{Lay, lay_inside, lay_line, lent, line_small}
 use Rattle.ffv1_encode.proofs.slice.Slice.line.Given.{Over}
 use Rattle.ffv1_encode.proofs.slice.Slice.line.Goals.{After-width}
 use Rattle.ffv1_encode.proofs.slice.Slice.line.Goals as goal

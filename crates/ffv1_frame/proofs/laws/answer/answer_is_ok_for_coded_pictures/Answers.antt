@@ -6,8 +6,8 @@ use Rattle.ffv1_slice.specs.Footer.{foot_length}
 use Rattle.ffv1_slice.specs.Cutting.{coded_of}
 use Rattle.ffv1_slice.specs.declared.cutting.CutFault.{CutFault}
 use Rattle.ffv1_frame.specs.Answer.{AnswersCut}
-use Rattle.ffv1_frame.proofs.FromCoded.{coded_bytes}
-use Rattle.ffv1_frame.proofs.Answered.{found, answered}
+use Rattle.ffv1_frame.proofs.lemmas.laws.decoding.FromCoded.{coded_bytes}
+use Rattle.ffv1_frame.proofs.lemmas.laws.answer.Answered.{found, answered}
 use Rattle.ffv1_frame.proofs.laws.answer.answer_is_ok_for_coded_pictures.Goals as goal
 
 pub returns-clause-found : goal.returns-clause-found

@@ -18,12 +18,12 @@ use Rattle.ffv1_frame.specs.Answer.{Answers, decided_by, decisions_in}
 use Rattle.ffv1_frame.specs.SliceList.{Said}
 use Rattle.ffv1_frame.specs.declared.fault.FrameFault.{FrameFault}
 use Rattle.ffv1_frame.specs.Decoding.{State, StepsBy, FaultsWith, at_first}
-use Rattle.ffv1_frame.proofs.Machines.{Reaches, reaches_end, reaches_stop, reaches_before}
-use Rattle.ffv1_frame.proofs.FromCoded.{lines_alike}
-use Rattle.ffv1_frame.proofs.RefusedHeads.{refused_short}
-use Rattle.ffv1_frame.proofs.FewDecisions.{StepLaws}
-use Rattle.ffv1_frame.proofs.FewByBytes.{few_by_slices, slices_sum}
-use Rattle.ffv1_frame.proofs.Answered.{few_told}
+use Rattle.ffv1_frame.proofs.lemmas.laws.decoding.Machines.{Reaches, reaches_end, reaches_stop, reaches_before}
+use Rattle.ffv1_frame.proofs.lemmas.laws.decoding.FromCoded.{lines_alike}
+use Rattle.ffv1_frame.proofs.lemmas.laws.answer.RefusedHeads.{refused_short}
+use Rattle.ffv1_frame.proofs.lemmas.laws.answer.FewDecisions.{StepLaws}
+use Rattle.ffv1_frame.proofs.lemmas.laws.answer.FewByBytes.{few_by_slices, slices_sum}
+use Rattle.ffv1_frame.proofs.lemmas.laws.answer.Answered.{few_told}
 use Rattle.ffv1_frame.proofs.laws.answer.coded_bytes_bound_the_decisions.Given as given
 use Rattle.ffv1_frame.proofs.laws.answer.coded_bytes_bound_the_decisions.Goals as goal
 

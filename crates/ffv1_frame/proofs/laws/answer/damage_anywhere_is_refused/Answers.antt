@@ -13,7 +13,7 @@ use Rattle.ffv1_frame.specs.declared.fault.FrameFault.{FrameFault}
 use Rattle.ffv1_frame.specs.Answer.{AnswersCut, cut_fault, no_tally}
 use Rattle.ffv1_frame.specs.SliceList.{Said}
 use Rattle.ffv1_frame.specs.Damage.{HasBurst}
-use Rattle.ffv1_frame.proofs.Damaged.{Burst}
+use Rattle.ffv1_frame.proofs.lemmas.laws.answer.Damaged.{Burst}
 use Rattle.ffv1_frame.proofs.laws.answer.damage_anywhere_is_refused.Goals as goal
 
 abbrev SoundWhole : Type 0

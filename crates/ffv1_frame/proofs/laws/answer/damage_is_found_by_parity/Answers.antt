@@ -5,7 +5,7 @@ use Rattle.std.proofs.Common.{ℕ, List, Result, Err, subst}
 use Rattle.ffv1_slice.specs.declared.cutting.CutFault.{CutFault}
 use Rattle.ffv1_slice.specs.declared.fault.SliceFault.TheVariants as fault
 use Rattle.ffv1_frame.specs.Answer.{AnswersCut}
-use Rattle.ffv1_frame.proofs.Damaged.{is_damaged}
+use Rattle.ffv1_frame.proofs.lemmas.laws.answer.Damaged.{is_damaged}
 use Rattle.ffv1_frame.proofs.laws.answer.damage_is_found_by_parity.Goals as goal
 
 pub returns : goal.returns

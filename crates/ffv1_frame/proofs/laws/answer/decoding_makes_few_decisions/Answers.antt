@@ -11,12 +11,12 @@ use Rattle.ffv1_frame.specs.Bounds.{most_decisions}
 use Rattle.ffv1_frame.specs.Answer.{decisions_in}
 use Rattle.ffv1_frame.specs.Decoding as decoding
 use Rattle.ffv1_frame.specs.Decoding.{State, StepsBy, FaultsWith, Decodes, Offers, at_first}
-use Rattle.ffv1_frame.proofs.Machines.{Reaches, reaches_end, reaches_stop, reaches_before}
-use Rattle.ffv1_frame.proofs.FromCoded.{lines_alike}
-use Rattle.ffv1_frame.proofs.RefusedHeads.{refused_short}
-use Rattle.ffv1_frame.proofs.FewDecisions.{StepLaws}
-use Rattle.ffv1_frame.proofs.FewBySamples.{few_by_samples}
-use Rattle.ffv1_frame.proofs.Answered.{few_told}
+use Rattle.ffv1_frame.proofs.lemmas.laws.decoding.Machines.{Reaches, reaches_end, reaches_stop, reaches_before}
+use Rattle.ffv1_frame.proofs.lemmas.laws.decoding.FromCoded.{lines_alike}
+use Rattle.ffv1_frame.proofs.lemmas.laws.answer.RefusedHeads.{refused_short}
+use Rattle.ffv1_frame.proofs.lemmas.laws.answer.FewDecisions.{StepLaws}
+use Rattle.ffv1_frame.proofs.lemmas.laws.answer.FewBySamples.{few_by_samples}
+use Rattle.ffv1_frame.proofs.lemmas.laws.answer.Answered.{few_told}
 use Rattle.ffv1_frame.proofs.laws.answer.decoding_makes_few_decisions.Given as given
 use Rattle.ffv1_frame.proofs.laws.answer.decoding_makes_few_decisions.Goals as goal
 

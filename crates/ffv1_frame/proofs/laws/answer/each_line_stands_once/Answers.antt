@@ -1,9 +1,9 @@
 -- The lines of a picture are each row of each plane once, of each plane from the top; they
 -- determine its planes; and at each place of the planes stands that line, once, and at no other
 -- place any.
-use Rattle.ffv1_frame.proofs.OnePicture.{rows_once, one_of_lines}
-use Rattle.ffv1_frame.proofs.FromCoded.{lines_alike, flat_rows}
-use Rattle.ffv1_frame.proofs.PlacesOnce.{each_place}
+use Rattle.ffv1_frame.proofs.lemmas.picture.OnePicture.{rows_once, one_of_lines}
+use Rattle.ffv1_frame.proofs.lemmas.laws.decoding.FromCoded.{lines_alike, flat_rows}
+use Rattle.ffv1_frame.proofs.lemmas.laws.answer.PlacesOnce.{each_place}
 use Rattle.ffv1_frame.proofs.laws.answer.each_line_stands_once.Goals as goal
 
 pub returns-clause-rows : goal.returns-clause-rows

@@ -9,7 +9,7 @@ use Rattle.ffv1_frame.specs.Bounds.{most_decisions}
 use Rattle.ffv1_frame.specs.Cost.{Costs}
 use Rattle.ffv1_frame.specs.Decoding.{State}
 use Rattle.ffv1_range.proofs.FewDecisions.{after_held}
-use Rattle.ffv1_frame.proofs.FrameCost.{costs, has_cost, most_small}
+use Rattle.ffv1_frame.proofs.lemmas.laws.answer.FrameCost.{costs, has_cost, most_small}
 use Rattle.ffv1_frame.proofs.laws.answer.frame_cost_is_near_its_weight.Given as given
 use Rattle.ffv1_frame.proofs.laws.answer.frame_cost_is_near_its_weight.Goals as goal
 

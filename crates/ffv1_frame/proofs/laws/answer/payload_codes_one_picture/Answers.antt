@@ -4,7 +4,7 @@ use Rattle.ffv1_slice.specs.Footer.{foot_length}
 use Rattle.ffv1_slice.specs.Cutting.{coded_of}
 use Rattle.ffv1_frame.specs.SliceList.{Said}
 use Rattle.ffv1_frame.specs.Decoding.{State}
-use Rattle.ffv1_frame.proofs.FromCoded.{coded_bytes}
+use Rattle.ffv1_frame.proofs.lemmas.laws.decoding.FromCoded.{coded_bytes}
 use Rattle.ffv1_frame.proofs.laws.answer.payload_codes_one_picture.Goals as goal
 
 same_said : (a b : Said) → Some a ≡ Some b → a ≡ b

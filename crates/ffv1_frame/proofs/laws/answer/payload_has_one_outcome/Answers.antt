@@ -5,9 +5,9 @@ use Rattle.std.proofs.Common.{ℕ, List, slice_index}
 use Rattle.ffv1_range.specs.Codes.{AreBytes}
 use Rattle.ffv1_record.specs.Accepted.{Accepted, IsAccepted}
 use Rattle.ffv1_slice.specs.Footer.{foot_length}
-use Rattle.ffv1_frame.proofs.FromCoded.{coded_bytes}
-use Rattle.ffv1_frame.proofs.OneOutcome.{OneEnd, apart, coded, counts, faults, one_count, one_fault}
-use Rattle.ffv1_frame.proofs.OneOutcome.{stopped}
+use Rattle.ffv1_frame.proofs.lemmas.laws.decoding.FromCoded.{coded_bytes}
+use Rattle.ffv1_frame.proofs.lemmas.laws.answer.OneOutcome.{OneEnd, apart, coded, counts, faults, one_count, one_fault}
+use Rattle.ffv1_frame.proofs.lemmas.laws.answer.OneOutcome.{stopped}
 use Rattle.ffv1_frame.proofs.laws.answer.payload_has_one_outcome.Given as given
 use Rattle.ffv1_frame.proofs.laws.answer.payload_has_one_outcome.Goals as goal
 

@@ -1,6 +1,6 @@
 -- Whatever the answer, the sink was handed finishes of lines that the bytes of its slices code, and
 -- no other line. This holds before a fault too, and if the sink refused one.
-use Rattle.ffv1_frame.proofs.HandedAnswers.{coded, hands_by_cut}
+use Rattle.ffv1_frame.proofs.lemmas.laws.answer.HandedAnswers.{coded, hands_by_cut}
 use Rattle.ffv1_frame.proofs.laws.answer.sink_is_handed_only_coded_lines.Goals as goal
 
 pub returns : goal.returns

@@ -1,6 +1,6 @@
 -- A configuration that passes the checks of `Strict` has slices with no sample in common, so that
 -- no answer is that two of them say different values of one.
-use Rattle.ffv1_frame.proofs.NoOverlap.{no_overlap}
+use Rattle.ffv1_frame.proofs.lemmas.laws.answer.NoOverlap.{no_overlap}
 use Rattle.ffv1_frame.proofs.laws.answer.strict_slices_do_not_differ.Goals as goal
 
 pub returns : goal.returns

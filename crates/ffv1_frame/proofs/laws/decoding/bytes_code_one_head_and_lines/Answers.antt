@@ -5,7 +5,7 @@ use Rattle.std.proofs.Math.Nat.{mul-le-mul_left}
 use Rattle.ffv1_range.specs.Codes.{Codes, AreBytes}
 use Rattle.ffv1_range.specs.History.{decisions_after}
 use Rattle.ffv1_record.specs.Accepted.{Accepted, IsAccepted}
-use Rattle.ffv1_frame.proofs.OnlyRead.{OnlyLaws, read_same}
+use Rattle.ffv1_frame.proofs.lemmas.laws.decoding.OnlyRead.{OnlyLaws, read_same}
 use Rattle.ffv1_line.specs.Coding.{coding_by}
 use Rattle.ffv1_frame.proofs.laws.decoding.bytes_code_one_head_and_lines.Goals as goal
 

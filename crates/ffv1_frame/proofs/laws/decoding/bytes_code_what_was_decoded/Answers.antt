@@ -4,11 +4,11 @@
 -- each slice.
 use Rattle.ffv1_frame.specs.Order.{events_of}
 use Rattle.ffv1_frame.specs.Decoding.{StepsBy, FaultsWith, at_first}
-use Rattle.ffv1_frame.proofs.Machines.{stops_at}
+use Rattle.ffv1_frame.proofs.lemmas.laws.decoding.Machines.{stops_at}
 use Rattle.ffv1_record.specs.Accepted.{Accepted, IsAccepted}
-use Rattle.ffv1_frame.proofs.PictureMade.{PictureLaws}
-use Rattle.ffv1_frame.proofs.FromCoded.{picture_laws}
-use Rattle.ffv1_frame.proofs.KnownSlices.{known_before, known_whole, known_count}
+use Rattle.ffv1_frame.proofs.lemmas.laws.decoding.PictureMade.{PictureLaws}
+use Rattle.ffv1_frame.proofs.lemmas.laws.decoding.FromCoded.{picture_laws}
+use Rattle.ffv1_frame.proofs.lemmas.laws.decoding.KnownSlices.{known_before, known_whole, known_count}
 use Rattle.ffv1_frame.proofs.laws.decoding.bytes_code_what_was_decoded.Goals as goal
 
 laws : (c : goal.After-planes_are_divided_part_by_part) (a : Accepted) → IsAccepted a.configuration

@@ -7,10 +7,10 @@ use Rattle.ffv1_record.specs.Accepted.{Accepted, IsAccepted}
 use Rattle.ffv1_slice.specs.Footer.{foot_length}
 use Rattle.ffv1_slice.specs.Cutting.{coded_of}
 use Rattle.ffv1_frame.specs.CodedSlice.{CodesSlice}
-use Rattle.ffv1_frame.proofs.PictureLines.{ColourLaws}
-use Rattle.ffv1_frame.proofs.PictureMade.{PictureLaws}
-use Rattle.ffv1_frame.proofs.SlicesRead.{FrontLaws}
-use Rattle.ffv1_frame.proofs.FromCoded.{picture_laws, coded_bytes, same_coded, goes_of}
+use Rattle.ffv1_frame.proofs.lemmas.laws.decoding.PictureLines.{ColourLaws}
+use Rattle.ffv1_frame.proofs.lemmas.laws.decoding.PictureMade.{PictureLaws}
+use Rattle.ffv1_frame.proofs.lemmas.laws.decoding.SlicesRead.{FrontLaws}
+use Rattle.ffv1_frame.proofs.lemmas.laws.decoding.FromCoded.{picture_laws, coded_bytes, same_coded, goes_of}
 use Rattle.ffv1_frame.proofs.laws.decoding.coded_picture_is_decoded.Goals as goal
 
 laws : (c : goal.After-planes_are_divided_part_by_part) (a : Accepted) → IsAccepted a.configuration

@@ -1,7 +1,7 @@
 -- What is decoded to its end is a picture that the payload codes: its lines were handed over, and
 -- its slices said the same.
-use Rattle.ffv1_frame.proofs.FromCoded.{picture_laws}
-use Rattle.ffv1_frame.proofs.SlicesMade.{is_made}
+use Rattle.ffv1_frame.proofs.lemmas.laws.decoding.FromCoded.{picture_laws}
+use Rattle.ffv1_frame.proofs.lemmas.laws.decoding.SlicesMade.{is_made}
 use Rattle.ffv1_frame.proofs.laws.decoding.decoded_payload_codes_a_picture.Goals as goal
 
 pub returns : goal.returns

@@ -4,17 +4,17 @@ use Rattle.std.proofs.Common.{◌≡◌, ℕ, ◌+◌, ◌*◌, ◌<◌, ◌≤�
 use Rattle.std.proofs.Math.Nat.{mul-le-mul_left}
 use Rattle.ffv1_range.specs.Codes.{AreBytes, IsState}
 use Rattle.ffv1_range.specs.History.{decisions_after}
-use Rattle.ffv1_frame.proofs.BitLines.{BitLaws}
-use Rattle.ffv1_frame.proofs.Coders.{rice_bits_are}
+use Rattle.ffv1_frame.proofs.lemmas.laws.rice.BitLines.{BitLaws}
+use Rattle.ffv1_frame.proofs.lemmas.Coders.{rice_bits_are}
 use Rattle.ffv1_record.specs.Accepted.{Accepted, IsAccepted}
 use Rattle.ffv1_slice.specs.Grid.{across, division_of, reduced, whole_of, Lies}
 use Rattle.ffv1_frame.specs.Order.{events_of}
 use Rattle.ffv1_frame.specs.Decoding.{StepsBy, FaultsWith, at_first, slice_number}
-use Rattle.ffv1_frame.proofs.Machines.{Each, OneEach, each_left, runs_same, runs_or_stops}
-use Rattle.ffv1_frame.proofs.Machines.{stops_same}
-use Rattle.ffv1_frame.proofs.OneLine.{RowLaws}
-use Rattle.ffv1_frame.proofs.OneEvent.{BytesLaws, IsEvent, one_each}
-use Rattle.ffv1_frame.proofs.EventsOf.{events_are, is_rct_is}
+use Rattle.ffv1_frame.proofs.lemmas.laws.decoding.Machines.{Each, OneEach, each_left, runs_same, runs_or_stops}
+use Rattle.ffv1_frame.proofs.lemmas.laws.decoding.Machines.{stops_same}
+use Rattle.ffv1_frame.proofs.lemmas.laws.decoding.OneLine.{RowLaws}
+use Rattle.ffv1_frame.proofs.lemmas.laws.decoding.OneEvent.{BytesLaws, IsEvent, one_each}
+use Rattle.ffv1_frame.proofs.lemmas.laws.decoding.EventsOf.{events_are, is_rct_is}
 use Rattle.ffv1_line.specs.Coding.{coding_by}
 use Rattle.ffv1_frame.proofs.laws.decoding.decoding_has_one_end.Goals as goal
 

@@ -3,10 +3,10 @@
 -- of its slices code. It is made of that line of each slice of its row, and the bytes of the slice
 -- code it.
 use Rattle.ffv1_record.specs.Accepted.{Accepted, IsAccepted}
-use Rattle.ffv1_frame.proofs.PictureMade.{PictureLaws}
-use Rattle.ffv1_frame.proofs.FromCoded.{picture_laws}
-use Rattle.ffv1_frame.proofs.HandedLines.{handed_finish, handed_at_end, handed_before_fault}
-use Rattle.ffv1_frame.proofs.HandedLines.{handed_offer}
+use Rattle.ffv1_frame.proofs.lemmas.laws.decoding.PictureMade.{PictureLaws}
+use Rattle.ffv1_frame.proofs.lemmas.laws.decoding.FromCoded.{picture_laws}
+use Rattle.ffv1_frame.proofs.lemmas.laws.decoding.HandedLines.{handed_finish, handed_at_end, handed_before_fault}
+use Rattle.ffv1_frame.proofs.lemmas.laws.decoding.HandedLines.{handed_offer}
 use Rattle.ffv1_frame.proofs.laws.decoding.handed_lines_finish_coded_lines.Goals as goal
 
 laws : (c : goal.After-planes_are_divided_part_by_part) (a : Accepted) → IsAccepted a.configuration

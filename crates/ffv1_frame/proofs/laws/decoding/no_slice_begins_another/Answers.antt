@@ -4,8 +4,8 @@ use Rattle.std.proofs.Math.Nat.{mul-le-mul_left}
 use Rattle.ffv1_range.specs.Codes.{Codes, AreBytes}
 use Rattle.ffv1_range.specs.History.{decisions_after}
 use Rattle.ffv1_record.specs.Accepted.{Accepted, IsAccepted}
-use Rattle.ffv1_frame.proofs.OnlyRead.{OnlyLaws}
-use Rattle.ffv1_frame.proofs.OneEnding.{nothing_follows}
+use Rattle.ffv1_frame.proofs.lemmas.laws.decoding.OnlyRead.{OnlyLaws}
+use Rattle.ffv1_frame.proofs.lemmas.laws.decoding.OneEnding.{nothing_follows}
 use Rattle.ffv1_line.specs.Coding.{coding_by}
 use Rattle.ffv1_frame.proofs.laws.decoding.no_slice_begins_another.Goals as goal
 

@@ -2,7 +2,7 @@
 use Rattle.std.proofs.Common.{[], ◌++◌}
 use Rattle.ffv1_slice.specs.Head.{key_steps, head_steps}
 use Rattle.ffv1_frame.specs.CodedSlice.{decided_by_slice}
-use Rattle.ffv1_frame.proofs.Coders.{by_range}
+use Rattle.ffv1_frame.proofs.lemmas.Coders.{by_range}
 use Rattle.ffv1_frame.proofs.laws.decoding.slices_end_near_the_sentinel_ending.Goals as goal
 
 pub returns-clause-near : goal.returns-clause-near

@@ -1,7 +1,7 @@
 -- Each line of Golomb-Rice coded samples has at least one bit.
 use Rattle.std.proofs.Common.{◌%◌}
-use Rattle.ffv1_frame.proofs.SlicesMade.{column_inside}
-use Rattle.ffv1_frame.proofs.LineBits.{few_lines}
+use Rattle.ffv1_frame.proofs.lemmas.laws.decoding.SlicesMade.{column_inside}
+use Rattle.ffv1_frame.proofs.lemmas.laws.rice.LineBits.{few_lines}
 use Rattle.ffv1_frame.proofs.laws.rice.each_line_has_a_bit.Goals as goal
 
 pub returns : goal.returns

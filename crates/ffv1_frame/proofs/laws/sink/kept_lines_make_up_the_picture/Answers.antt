@@ -1,7 +1,7 @@
 -- A sink of the configuration's own lines that kept those of a picture has its planes; and whatever
 -- lines it kept, its grid, the sizes of its planes and its count are as they were.
-use Rattle.ffv1_frame.proofs.FromCoded.{lines_alike, flat_rows}
-use Rattle.ffv1_frame.proofs.KeptPicture.{lines_stay, planes_kept}
+use Rattle.ffv1_frame.proofs.lemmas.laws.decoding.FromCoded.{lines_alike, flat_rows}
+use Rattle.ffv1_frame.proofs.lemmas.laws.sink.KeptPicture.{lines_stay, planes_kept}
 use Rattle.ffv1_frame.specs.Lines.{lines_of}
 use Rattle.ffv1_frame.proofs.laws.sink.kept_lines_make_up_the_picture.Goals as goal
 

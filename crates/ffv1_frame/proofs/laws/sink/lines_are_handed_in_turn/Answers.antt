@@ -2,8 +2,8 @@
 -- alone: the planes and rows of the lines of any picture.
 use Rattle.ffv1_frame.specs.Order.Event.{Hand}
 use Rattle.std.proofs.Common.{◌∷◌}
-use Rattle.ffv1_frame.proofs.LinePlaces.{colour_places, picture_places, picture_there, places_at}
-use Rattle.ffv1_frame.proofs.LinePlaces.{places_begun, places_decoded, places_refused}
+use Rattle.ffv1_frame.proofs.lemmas.laws.sink.LinePlaces.{colour_places, picture_places, picture_there, places_at}
+use Rattle.ffv1_frame.proofs.lemmas.laws.sink.LinePlaces.{places_begun, places_decoded, places_refused}
 use Rattle.ffv1_frame.proofs.laws.sink.lines_are_handed_in_turn.Goals as goal
 
 pub returns-clause-lines : goal.returns-clause-lines

@@ -1,7 +1,7 @@
 -- A line that decoding comes to, and that is handed over next, is a line of the configuration: it
 -- is of one of its planes, inside its height, and as long as the plane is wide.
-use Rattle.ffv1_frame.proofs.FromCoded.{picture_laws}
-use Rattle.ffv1_frame.proofs.OfferedLines.{offered}
+use Rattle.ffv1_frame.proofs.lemmas.laws.decoding.FromCoded.{picture_laws}
+use Rattle.ffv1_frame.proofs.lemmas.laws.sink.OfferedLines.{offered}
 use Rattle.ffv1_frame.proofs.laws.sink.offered_lines_fit_the_configuration.Goals as goal
 
 pub returns : goal.returns

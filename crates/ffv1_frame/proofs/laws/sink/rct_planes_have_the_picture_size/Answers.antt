@@ -1,5 +1,5 @@
 -- For RCT each plane is as wide and as high as the picture.
-use Rattle.ffv1_frame.proofs.FromCoded.{high_in_rct, wide_in_rct}
+use Rattle.ffv1_frame.proofs.lemmas.laws.decoding.FromCoded.{high_in_rct, wide_in_rct}
 use Rattle.ffv1_frame.proofs.laws.sink.rct_planes_have_the_picture_size.Goals as goal
 
 pub returns-clause-wide : goal.returns-clause-wide

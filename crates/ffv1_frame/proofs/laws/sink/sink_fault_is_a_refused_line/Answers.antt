@@ -1,7 +1,7 @@
 -- Whatever the payload, a fault that is answered is the sink's exactly if the sink refused a line.
 -- After a beginning of the lines it refused the one that came next, a line of the configuration,
 -- and the fault names its plane and its row.
-use Rattle.ffv1_frame.proofs.SinkFaults.{other_faults, sink_faults}
+use Rattle.ffv1_frame.proofs.lemmas.laws.sink.SinkFaults.{other_faults, sink_faults}
 use Rattle.ffv1_frame.proofs.laws.sink.sink_fault_is_a_refused_line.Goals as goal
 
 pub returns-clause-sink : goal.returns-clause-sink

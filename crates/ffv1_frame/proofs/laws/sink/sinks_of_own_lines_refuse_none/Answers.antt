@@ -2,7 +2,7 @@
 -- lines are kept or dropped.
 use Rattle.std.proofs.Common.{ap}
 use Rattle.ffv1_frame.specs.Kept.{Dropped, Drops, DropsNot, Keeps, KeepsNot, Kept}
-use Rattle.ffv1_frame.proofs.OfferedLines.{never_sink}
+use Rattle.ffv1_frame.proofs.lemmas.laws.sink.OfferedLines.{never_sink}
 use Rattle.ffv1_frame.proofs.laws.sink.sinks_of_own_lines_refuse_none.Goals as goal
 
 pub returns-clause-kept : goal.returns-clause-kept

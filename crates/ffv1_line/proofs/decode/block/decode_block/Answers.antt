@@ -4,9 +4,9 @@ use Rattle.std.proofs.lemmas.List.{length-set}
 use Rattle.ffv1_range.specs.Reading.{summed}
 use Rattle.ffv1_range.specs.Among.{sums_among}
 use Rattle.ffv1_line.specs.Internal.Places.{ReadOn}
-use Rattle.ffv1_line.proofs.Rows.{lined_next, lined_refused, same_from_next}
-use Rattle.ffv1_line.proofs.Prepared.{behind_here, behind_next, comes}
-use Rattle.ffv1_line.proofs.Zeros.{read_nothing, read_further}
+use Rattle.ffv1_line.proofs.lemmas.cell.Rows.{lined_next, lined_refused, same_from_next}
+use Rattle.ffv1_line.proofs.lemmas.decode.Prepared.{behind_here, behind_next, comes}
+use Rattle.ffv1_line.proofs.lemmas.decode.Zeros.{read_nothing, read_further}
 use Rattle.ffv1_line.specs.Coder.{decoder_by}
 use Rattle.ffv1_line.proofs.decode.block.decode_block.Goals as goal
 

@@ -7,9 +7,9 @@ use Rattle.ffv1_line.specs.Coder.{decoder_by}
 use Rattle.ffv1_line.specs.Above.{rows_above}
 use Rattle.ffv1_line.specs.Decoded.{Lined, LinedToRefusal, RowsRead}
 use Rattle.ffv1_line.specs.Taken.{samples_in}
-use Rattle.ffv1_line.proofs.Cells.{above_top}
-use Rattle.ffv1_line.proofs.CellBack.{behind_not_refused}
-use Rattle.ffv1_line.proofs.Taken.{taken_none, taken_next, cell_taken_none, cell_back_next}
+use Rattle.ffv1_line.proofs.lemmas.cell.Cells.{above_top}
+use Rattle.ffv1_line.proofs.lemmas.decode.CellBack.{behind_not_refused}
+use Rattle.ffv1_line.proofs.lemmas.decode.Taken.{taken_none, taken_next, cell_taken_none, cell_back_next}
 use Rattle.ffv1_line.proofs.decode.cell.decode_cell.Goals as goal
 
 pub loop-init : goal.loop-init

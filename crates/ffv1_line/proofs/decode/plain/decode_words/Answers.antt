@@ -1,7 +1,7 @@
 -- A row of a cell, sample by sample, by a decoder of its own.
 use Rattle.std.proofs.Common.{ℕ, ◌≡◌, ◌+◌, ◌-◌, ◌∙◌, ap, subst, min, length, slice_index, arith}
-use Rattle.ffv1_line.proofs.Rows.{stands_first, stands_next, lined_none, lined_next, lined_refused}
-use Rattle.ffv1_line.proofs.Rows.{same_from_start, same_from_next}
+use Rattle.ffv1_line.proofs.lemmas.cell.Rows.{stands_first, stands_next, lined_none, lined_next, lined_refused}
+use Rattle.ffv1_line.proofs.lemmas.cell.Rows.{same_from_start, same_from_next}
 use Rattle.ffv1_range.specs.Follows.{Follows}
 use Rattle.ffv1_line.specs.Row.{refused_steps}
 use Rattle.ffv1_line.specs.Above.{rows_above}

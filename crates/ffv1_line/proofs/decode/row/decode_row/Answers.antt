@@ -1,7 +1,7 @@
 -- A row of a cell of 8 to 15 bits, by a body of its own for each kind of set, for 8 and for 9 bits,
 -- and one for all others, whose `BITS` is 0.
 use Rattle.std.proofs.Common.{◌≡◌, arith, rules, length}
-use Rattle.ffv1_line.proofs.Rows.{lined_none, same_from_start}
+use Rattle.ffv1_line.proofs.lemmas.cell.Rows.{lined_none, same_from_start}
 use Rattle.ffv1_line.proofs.decode.row.decode_row.Goals as goal
 
 pub parts-init : goal.parts-init

@@ -6,8 +6,8 @@ use Rattle.std.proofs.lemmas.Int.{to_z-of_z}
 use Rattle.std.specs.Int.{w32}
 use mir.Val.{SFits}
 use Rattle.ffv1_line.specs.Internal.Along.{HasRunContext}
-use Rattle.ffv1_line.proofs.EqualNeighbours.{comes_again}
-use Rattle.ffv1_line.proofs.Zeros.{held_with}
+use Rattle.ffv1_line.proofs.lemmas.decode.EqualNeighbours.{comes_again}
+use Rattle.ffv1_line.proofs.lemmas.decode.Zeros.{held_with}
 use Rattle.ffv1_line.proofs.decode.run.decode_run.Given.{Over}
 use Rattle.ffv1_line.proofs.decode.run.decode_run.Goals.{After-is_a_bounded_set}
 use Rattle.ffv1_line.proofs.decode.run.decode_run.Goals as goal

@@ -4,8 +4,8 @@ use Rattle.std.proofs.lemmas.Int.{to_z-of_z}
 use Rattle.std.specs.Int.{w32}
 use Rattle.std.proofs.lemmas.Grind.{elements}
 use mir.Val.{SFits}
-use Rattle.ffv1_line.proofs.Narrow.{unsigned_below}
-use Rattle.ffv1_line.proofs.Prepared.{sampled_by_zero, sampled_by_sign, refused_by}
+use Rattle.ffv1_line.proofs.lemmas.cell.Narrow.{unsigned_below}
+use Rattle.ffv1_line.proofs.lemmas.decode.Prepared.{sampled_by_zero, sampled_by_sign, refused_by}
 use Rattle.ffv1_line.specs.Internal.Places.{coding_of, around_place}
 use Rattle.ffv1_line.proofs.decode.sample.decode_sample.Goals as goal
 

@@ -5,10 +5,10 @@ use lib.Dec.{eqb}
 use Rattle.std.proofs.Common.{refl, ℕ, ◌≡◌, ◌+◌, ◌-◌, ◌*◌, ◌<◌, length, get_or, slice_set, arith}
 use Rattle.std.proofs.Common.{◌∙◌}
 use Rattle.std.proofs.lemmas.List.{set-set, get_or-set_same}
-use Rattle.ffv1_line.proofs.Rows.{same_from_next}
-use Rattle.ffv1_line.proofs.EqualNeighbours.{left_next, top_here, top_next, shares_on, equal_next}
-use Rattle.ffv1_line.proofs.EqualNeighbours.{equal_behind}
-use Rattle.ffv1_line.proofs.Zeros.{zeros_by_none}
+use Rattle.ffv1_line.proofs.lemmas.cell.Rows.{same_from_next}
+use Rattle.ffv1_line.proofs.lemmas.decode.EqualNeighbours.{left_next, top_here, top_next, shares_on, equal_next}
+use Rattle.ffv1_line.proofs.lemmas.decode.EqualNeighbours.{equal_behind}
+use Rattle.ffv1_line.proofs.lemmas.decode.Zeros.{zeros_by_none}
 use Rattle.ffv1_line.specs.Internal.Places.{GoesOn, above_of, kept_apart}
 use Rattle.ffv1_line.proofs.decode.zeros.take_zeros.Goals as goal
 

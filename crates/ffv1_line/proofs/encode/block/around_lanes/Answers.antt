@@ -2,7 +2,7 @@
 -- these places.
 use Rattle.std.proofs.Common.{refl, slice_index, arith}
 use Rattle.ffv1_plane.proofs.LaneValues.{loaded}
-use Rattle.ffv1_line.proofs.BlockLanes.{around_lanes}
+use Rattle.ffv1_line.proofs.lemmas.encode.BlockLanes.{around_lanes}
 use Rattle.ffv1_line.proofs.encode.block.around_lanes.Goals as goal
 
 pub returns-clause-around : goal.returns-clause-around

@@ -3,7 +3,7 @@ use Rattle.std.proofs.Common.{◌∙◌, ap, rules, unsigned_abs}
 use Rattle.std.proofs.lemmas.Int.{to_z-of_z}
 use Rattle.std.specs.Int.{w32}
 use mir.Val.{SFits}
-use Rattle.ffv1_line.proofs.BlockLanes.{kept_nine, kept_deep, half_word, raised_fits}
+use Rattle.ffv1_line.proofs.lemmas.encode.BlockLanes.{kept_nine, kept_deep, half_word, raised_fits}
 use Rattle.ffv1_line.proofs.encode.block.kept.Goals as goal
 
 pub returns-then-bits-lt10 : goal.returns-then-bits-lt10

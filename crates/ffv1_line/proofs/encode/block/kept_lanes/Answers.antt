@@ -5,7 +5,7 @@ use Rattle.ffv1_plane.specs.Prediction.{predicted}
 use Rattle.ffv1_plane.specs.Residual.{chosen_of}
 use Rattle.ffv1_plane.proofs.LaneValues.{by_values}
 use Rattle.ffv1_line.specs.Internal.Parts.{kept_of}
-use Rattle.ffv1_line.proofs.BlockLanes.{kept_nine, kept_deep, nine_or}
+use Rattle.ffv1_line.proofs.lemmas.encode.BlockLanes.{kept_nine, kept_deep, nine_or}
 use Rattle.ffv1_line.proofs.encode.block.kept_lanes.Goals as goal
 
 pub choose_lanes-requires-clause-bits : goal.choose_lanes-requires-clause-bits

@@ -3,7 +3,7 @@ use Rattle.std.proofs.Common.{◌∙◌, arith, rules}
 use Rattle.std.proofs.lemmas.Int.{to_z-of_z}
 use Rattle.std.specs.Int.{w32}
 use mir.Val.{SFits}
-use Rattle.ffv1_line.proofs.Beside.{numbered_next}
+use Rattle.ffv1_line.proofs.lemmas.cell.Beside.{numbered_next}
 use Rattle.ffv1_line.proofs.encode.block.number_places.Goals as goal
 
 pub loop-k-preserved : goal.loop-k-preserved

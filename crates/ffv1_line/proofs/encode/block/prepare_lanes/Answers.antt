@@ -10,8 +10,8 @@ use Rattle.ffv1_plane.specs.Residual.{chosen_of}
 use Rattle.ffv1_plane.proofs.LaneValues.{by_values}
 use Rattle.ffv1_line.specs.Beside.{beside, chosen_beside}
 use Rattle.ffv1_line.specs.Internal.Parts.{kept_of}
-use Rattle.ffv1_line.proofs.BlockLanes.{block_lanes}
-use Rattle.ffv1_line.proofs.Narrow.{unsigned_below}
+use Rattle.ffv1_line.proofs.lemmas.encode.BlockLanes.{block_lanes}
+use Rattle.ffv1_line.proofs.lemmas.cell.Narrow.{unsigned_below}
 use Rattle.ffv1_line.proofs.encode.block.prepare_lanes.Goals as goal
 
 pub returns : goal.returns

@@ -9,10 +9,10 @@ use Rattle.ffv1_plane.specs.declared.prediction.Around.{Around}
 use Rattle.ffv1_plane.specs.Prediction.{predicted_in}
 use Rattle.ffv1_plane.specs.Context.{size_of, flip_of}
 use Rattle.ffv1_plane.specs.Residual.{chosen_of}
-use Rattle.ffv1_line.proofs.Narrow.{unsigned_below}
-use Rattle.ffv1_line.proofs.BlockLanes.{kept_back, kept_small}
-use Rattle.ffv1_line.proofs.Rows.{scalars}
-use Rattle.ffv1_line.proofs.Beside.{beside_by, folded_by, before_next, two_before_next, block_next}
+use Rattle.ffv1_line.proofs.lemmas.cell.Narrow.{unsigned_below}
+use Rattle.ffv1_line.proofs.lemmas.encode.BlockLanes.{kept_back, kept_small}
+use Rattle.ffv1_line.proofs.lemmas.cell.Rows.{scalars}
+use Rattle.ffv1_line.proofs.lemmas.cell.Beside.{beside_by, folded_by, before_next, two_before_next, block_next}
 use Rattle.ffv1_line.proofs.encode.block.prepare_places.Goals as goal
 
 pub kept-requires-clause-folded : goal.kept-requires-clause-folded

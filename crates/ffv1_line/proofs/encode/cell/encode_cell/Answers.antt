@@ -8,8 +8,8 @@ use Rattle.ffv1_range.proofs.Growth.{on_err}
 use Rattle.ffv1_line.specs.Cell.{Cell, Shows}
 use Rattle.ffv1_line.specs.Coder.{encoder_by}
 use Rattle.ffv1_line.specs.Above.{rows_above}
-use Rattle.ffv1_line.proofs.Cells.{cell_none, cell_next, cell_refused, cell_counts, above_top}
-use Rattle.ffv1_line.proofs.Cells.{above_more}
+use Rattle.ffv1_line.proofs.lemmas.cell.Cells.{cell_none, cell_next, cell_refused, cell_counts, above_top}
+use Rattle.ffv1_line.proofs.lemmas.cell.Cells.{above_more}
 use Rattle.ffv1_line.proofs.encode.cell.encode_cell.Goals as goal
 
 pub loop-y-init : goal.loop-y-init

@@ -8,9 +8,9 @@ use Rattle.ffv1_line.specs.Beside.{places_steps}
 use Rattle.ffv1_line.specs.Coding.{RowCoding, coding_by}
 use Rattle.ffv1_line.specs.Coder.{Encoder, encoder_by}
 use Rattle.ffv1_line.specs.Above.{rows_above}
-use Rattle.ffv1_line.proofs.Rows.{written_none}
-use Rattle.ffv1_line.proofs.Beside.{rows_are, written_block, refused_block, counts_block}
-use Rattle.ffv1_line.proofs.Beside.{counts_no_places}
+use Rattle.ffv1_line.proofs.lemmas.cell.Rows.{written_none}
+use Rattle.ffv1_line.proofs.lemmas.cell.Beside.{rows_are, written_block, refused_block, counts_block}
+use Rattle.ffv1_line.proofs.lemmas.cell.Beside.{counts_no_places}
 use Rattle.ffv1_line.proofs.encode.plain.encode_plain.Given.{Over}
 use Rattle.ffv1_line.proofs.encode.plain.encode_plain.Goals.{Start, After-number_words-count}
 use Rattle.ffv1_line.proofs.encode.plain.encode_plain.Goals as goal

@@ -9,9 +9,9 @@ use Rattle.ffv1_plane.specs.declared.prediction.Around.{Around}
 use Rattle.ffv1_plane.specs.Prediction.{predicted_in}
 use Rattle.ffv1_plane.specs.Context.{size_of, flip_of}
 use Rattle.ffv1_plane.specs.Residual.{chosen_of}
-use Rattle.ffv1_line.proofs.Rows.{scalars}
-use Rattle.ffv1_line.proofs.Beside.{beside_by, before_next, two_before_next, numbered_next}
-use Rattle.ffv1_line.proofs.Beside.{contexts_next}
+use Rattle.ffv1_line.proofs.lemmas.cell.Rows.{scalars}
+use Rattle.ffv1_line.proofs.lemmas.cell.Beside.{beside_by, before_next, two_before_next, numbered_next}
+use Rattle.ffv1_line.proofs.lemmas.cell.Beside.{contexts_next}
 use Rattle.ffv1_line.proofs.encode.plain.number_words.Goals as goal
 
 pub loop-k-preserved : goal.loop-k-preserved

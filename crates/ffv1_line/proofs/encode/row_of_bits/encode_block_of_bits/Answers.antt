@@ -1,7 +1,7 @@
 -- The symbols of a part of a row, by an encoder that has not failed: by a list where all
 -- residuals lie from -256 to 255, else one by one.
 use Rattle.ffv1_range.proofs.Growth.{on_err}
-use Rattle.ffv1_line.proofs.Beside.{counts_no_places}
+use Rattle.ffv1_line.proofs.lemmas.cell.Beside.{counts_no_places}
 use Rattle.ffv1_line.proofs.encode.row_of_bits.encode_block_of_bits.Goals as goal
 
 pub returns-in_err-put_all-clause-kept : goal.returns-in_err-put_all-clause-kept

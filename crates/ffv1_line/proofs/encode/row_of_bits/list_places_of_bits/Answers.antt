@@ -2,7 +2,7 @@
 use Rattle.std.proofs.Common.{refl, arith, ◌*◌, ◌%◌, ◌∙◌, ◌++◌, ap, sym, get_or}
 use Rattle.ffv1_range.specs.Symbols.{shifted, signed_steps}
 use Rattle.ffv1_range.specs.Listed.{of_nine_bits}
-use Rattle.ffv1_line.proofs.Beside.{places-none, listed_next, below_next}
+use Rattle.ffv1_line.proofs.lemmas.cell.Beside.{places-none, listed_next, below_next}
 use Rattle.ffv1_line.proofs.encode.row_of_bits.list_places_of_bits.Goals as goal
 
 pub loop-k-init : goal.loop-k-init

@@ -1,6 +1,6 @@
 -- Whether the symbols of residuals of more than 9 bits are written by a list.
 use Rattle.std.proofs.Common.{arith}
-use Rattle.ffv1_line.proofs.NineBits.{nine_bits_near, half_short}
+use Rattle.ffv1_line.proofs.lemmas.encode.NineBits.{nine_bits_near, half_short}
 use Rattle.ffv1_line.proofs.encode.row_of_bits.may_be_listed.Goals as goal
 
 pub overflow_sub-zero-2 : goal.overflow_sub-zero-2

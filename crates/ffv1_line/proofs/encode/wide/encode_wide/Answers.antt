@@ -1,7 +1,7 @@
 -- Codes one row of one cell of a plane of 17 bits, as `encode_line` does of up to 16: the folded
 -- residual of each sample as a symbol (RFC 9043, 3.1 to 3.8).
 use Rattle.std.proofs.Common.{refl}
-use Rattle.ffv1_line.proofs.Beside.{counts_nothing}
+use Rattle.ffv1_line.proofs.lemmas.cell.Beside.{counts_nothing}
 use Rattle.ffv1_line.specs.Coder.{encoder_by}
 use Rattle.ffv1_line.proofs.encode.wide.encode_wide.Goals as goal
 

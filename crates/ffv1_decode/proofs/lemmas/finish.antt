@@ -1,0 +1,3 @@
+pub mod FinishedLines
+pub mod LineFinished
+pub mod WideColouring

@@ -1,0 +1,2 @@
+pub mod BitsBegin
+pub mod BitsTied

@@ -1,0 +1,10 @@
+pub mod KeptBuffers
+pub mod KeptLines
+pub mod KeptPlanes
+pub mod KeptSeries
+pub mod LineDecodes
+pub mod LineEnds
+pub mod PlanesDecodes
+pub mod RowDecodes
+pub mod RowGoesOn
+pub mod SeriesDecodes

@@ -1,0 +1,10 @@
+pub mod laws
+pub mod picture
+pub mod Aspects
+pub mod Coders
+pub mod FlatLists
+pub mod JoinedLines
+pub mod Lengths
+pub mod Sizes
+pub mod Totals
+pub mod WrittenParts

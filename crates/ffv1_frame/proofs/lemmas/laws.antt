@@ -1,0 +1,4 @@
+pub mod answer
+pub mod decoding
+pub mod rice
+pub mod sink

@@ -1,0 +1,13 @@
+pub mod Answered
+pub mod Damaged
+pub mod DecodeFaults
+pub mod FewByBytes
+pub mod FewBySamples
+pub mod FewDecisions
+pub mod FewInFrame
+pub mod FrameCost
+pub mod HandedAnswers
+pub mod NoOverlap
+pub mod OneOutcome
+pub mod PlacesOnce
+pub mod RefusedHeads

@@ -1,0 +1,3 @@
+pub mod BitBodies
+pub mod BitLines
+pub mod LineBits

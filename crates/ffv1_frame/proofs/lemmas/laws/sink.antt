@@ -1,0 +1,4 @@
+pub mod KeptPicture
+pub mod LinePlaces
+pub mod OfferedLines
+pub mod SinkFaults

@@ -1,0 +1,11 @@
+pub mod ByNumber
+pub mod CodedSamples
+pub mod Keys
+pub mod LineSizes
+pub mod Lines
+pub mod LinesKept
+pub mod OnePicture
+pub mod PlaneWidths
+pub mod PlanesMade
+pub mod WideLines
+pub mod Words

@@ -1,0 +1,4 @@
+pub mod cell
+pub mod decode
+pub mod encode
+pub mod laws

@@ -1,0 +1,5 @@
+pub mod Beside
+pub mod Cells
+pub mod Joined
+pub mod Narrow
+pub mod Rows

@@ -1,0 +1,5 @@
+pub mod CellBack
+pub mod EqualNeighbours
+pub mod Prepared
+pub mod Taken
+pub mod Zeros

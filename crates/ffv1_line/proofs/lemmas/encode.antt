@@ -1,0 +1,2 @@
+pub mod BlockLanes
+pub mod NineBits
