@@ -99,18 +99,19 @@ OF_FILE = {50, 51, 52, 53, 54, 56, 80, 81, 82, 83, 84, 85, 88}  # a file's own f
 def check(source, out, place, every, choice=ALL):
     """The lines of a check; own: where places are asked for, a fault of the file itself has a line
     more, with the frame that would come next, and the bytes before the element or chunk at fault,
-    whether or not it can be written. Only all frames of a damaged file of Matroska are read on, and
-    what is damaged before them is told."""
+    whether or not it can be written. Only all frames of a damaged file are read on, and what is damaged
+    before them in Matroska is told, also where a fault ends it there."""
     judged, begun = [], lambda: 0
     try:
         data, is_matroska = input_of(source)
         begun = lambda: data.begun
         damaged = every and is_all(choice)
-        config, frames = opened_in(data, is_matroska, damaged, damaged)[1:3]
+        config, frames = opened_in(data, is_matroska, damaged)[1:3]
         first = check_frames(config, ranged(frames, choice, judged), out, place, every)
         if first:
             first.notes = source.notes
     except Fault as fault:
+        told_before(fault, out)
         if place and fault.number in OF_FILE:
             try:
                 out(f"fault frame {len(judged)} byte {begun()}\n")
@@ -121,6 +122,16 @@ def check(source, out, place, every, choice=ALL):
         raise first
 
 
+def told_line(told):
+    return f"byte {told.offset}: fault {told.fault}\n"
+
+
+def told_before(fault, out):
+    """What was told of a file that is refused before its first frame."""
+    for told in getattr(fault, "before", []):
+        out(told_line(told))
+
+
 def check_frames(config, frames, out, place, every):
     """A line for each frame; own: where places are asked for, one more where decoding is refused.
     Where every frame is asked for, it goes on then and behind what is told of a file of Matroska, and
@@ -128,7 +139,7 @@ def check_frames(config, frames, out, place, every):
     count, faults = 0, []
     for number, payload in frames:
         if isinstance(payload, damaged_files.Told):
-            out(f"byte {payload.offset}: fault {payload.fault}\n")
+            out(told_line(payload))
             faults.append(payload.fault)
             continue
         count += 1
@@ -340,13 +351,14 @@ def unpack_all(source, out, output):
     told = []
     data, is_matroska = input_of(source)
     try:
-        head, config, frames, _ = opened_in(data, is_matroska, True, True)
+        head, config, frames, _ = opened_in(data, is_matroska, True)
         count, first = salvage(head, config, frames, out, output or told.append)
         (output or told.append)(f"frames {count}\n")
         if first:
             first.notes = source.notes
             raise first
     except Fault as fault:
+        told_before(fault, output or told.append)
         fault.told = "".join(told)
         raise
     return "".join(told)

@@ -2,18 +2,21 @@
 """Matroska that is damaged before its first frame, in plain Python: the faults there are told, and
 reading goes on.
 
-All of it is this project's own choice. A file that is refused for a CRC-32 that is not the sum, or for
-an element that may not stand there, is read from its beginning again. Then such a CRC-32 of the header
-of EBML, or of an element of the Segment, is told, and the content is taken as it is; an element of
-known size that no Segment has is told, and passed. At most sixteen are told. Where it can't be opened so
-either, it is refused with the fault that it had.
+All of it is this project's own choice. Up to its first frame a file is read once. A CRC-32 of the
+header of EBML, or of an element of the Segment, that is not the sum is told, and the content is taken
+as it is; an element of known size that no Segment has is told, and passed. At most sixteen are told.
+What ends that is the answer, behind what was told. Where nothing is told all is as in a file that is
+sound, also where its first Tracks stand behind Clusters.
 """
+import contextlib
+
 import damaged_files
 import ebml
 import ffv1
+import matroska
 from ebml import known
 from ffv1 import Fault
-from matroska import CLUSTER, JUDGED, PASSED, TRACKS, Segment, head_in, segment_size
+from matroska import CLUSTER, INFO, JUDGED, PASSED, TRACKS, Segment, head_in, segment_size
 
 MOST = 16
 
@@ -43,45 +46,61 @@ class Opening:
             raise fault
         self.told.append(damaged_files.Told(fault, self.source.begun))
 
+    @contextlib.contextmanager
+    def telling(self, fault):
+        """What is told of an element once it is taken; where it is refused that is told, too, if as many
+        may be."""
+        try:
+            yield
+        except Fault:
+            if len(self.told) < MOST:
+                self.tell(fault)
+            raise
+        self.tell(fault)
+
     def header(self):
         """The header of EBML."""
         content, fault = sound_part(ebml.header_content(self.source))
-        ebml.judge_header(content)
-        self.tell(fault)
+        with self.telling(fault):
+            ebml.judge_header(content)
 
     def tracks(self, size):
         """What Tracks say."""
         content, fault = sound_part(self.source.exactly(ebml.limited(size), 52))
-        head = head_in(content)
-        self.tell(fault)
-        return head
+        with self.telling(fault):
+            return head_in(content)
 
-    def passed(self, header):
-        """Another element of the Segment."""
+    def passed(self, header, times):
+        """Another element of the Segment. Info says how long a tick is."""
         ident, size = known(header)
         if ident not in JUDGED:
-            self.source.skip(size, 52)
-            self.tell(None if ident in PASSED else Fault(81))
+            with self.telling(None if ident in PASSED else Fault(81)):
+                self.source.skip(size, 52)
             return
         try:
-            ebml.pass_judged(self.source, size)
+            if ident == INFO:
+                times.tick = matroska.scale_in(self.source, size)
+            else:
+                ebml.pass_judged(self.source, size)
         except Fault as fault:
             if fault.number != 85:
                 raise
             self.tell(fault)
 
     def segment(self):
-        """The head of a file, and its Segment where the frames begin."""
+        """The head of a file, and its Segment where the frames begin. Where something is told, nothing
+        is noted of when frames come."""
         self.header()
         segment, head = Segment(self.source, segment_size(self.source)), None
         while (header := segment.header()) and header[0] != CLUSTER:
             if header[0] == TRACKS and head is None:
                 head = self.tracks(header[1])
             else:
-                self.passed(header)
+                self.passed(header, segment.times)
         if head is None:
             raise Fault(82)
-        segment.known, segment.others, segment.times.duration = head.known, head.others, 0
+        segment.known, segment.others = head.known, head.others
+        segment.times.duration = 0 if self.told else head.duration
         if header:
             segment.enter(header[1])
         return head, segment
@@ -91,20 +110,26 @@ class Opening:
         yield from self.told
         yield from damaged_files.items(segment, head.number)
 
+    def opened(self):
+        """The head of a file, the size of its Segment, and what it gives. Where nothing is told, and
+        its first Tracks stand behind Clusters, it is read from its beginning again."""
+        try:
+            head, segment = self.segment()
+        except Fault as fault:
+            if fault.number != 82 or self.told or not self.source.again():
+                raise
+            return matroska.open_late(self.source, damaged_files.items)
+        return head, segment.size, self.items(head, segment)
 
-def open_again(source, refused):
-    """The head of a file that was refused so, its configuration, what it gives, and the line of its
-    Segment."""
-    begun, opening = source.begun, Opening(source)
-    if refused.number not in (81, 85) or not source.again():
-        raise refused
+
+def opened(source):
+    """The head of a file, its configuration, what it gives, and the line of its Segment. What was told
+    before a fault that ends it is said with that."""
+    opening = Opening(source)
     try:
-        head, segment = opening.segment()
+        head, size, items = opening.opened()
         config = ffv1.read_record(head.record, head.width, head.height, wide=True)
     except Fault as fault:
-        if fault.number == 56:
-            raise
-        source.begun = begun
-        raise refused
-    size = "open" if segment.size is None else segment.size
-    return head, config, opening.items(head, segment), [f"segment {size}"]
+        fault.before = opening.told
+        raise
+    return head, config, items, [f"segment {'open' if size is None else size}"]

@@ -454,6 +454,11 @@ def open_again(source, read=Segment.frames):
     except Fault as fault:
         if fault.number != 82 or not source.again():
             raise
+    return open_late(source, read)
+
+
+def open_late(source, read):
+    """The same of a file that lacks Tracks before its first Cluster, and has begun again."""
     head = sought(source)
     if not source.again():
         raise Fault(56)

@@ -2,7 +2,6 @@
 """Files of AVI and Matroska, opened by their first byte."""
 import avi_format
 import damaged_avi
-import damaged_files
 import damaged_openings
 import ebml
 import ffv1
@@ -57,22 +56,13 @@ def opened(source):
     return opened_in(*input_of(source))
 
 
-def opened_in(data, is_matroska, damaged=False, again=False):
-    """The same of bytes; where they may be damaged, what is told stands among the frames. One of
-    Matroska that is refused before its frames may be read again."""
-    try:
-        return opened_once(data, is_matroska, damaged)
-    except ffv1.Fault as fault:
-        if not again or not is_matroska:
-            raise
-        return damaged_openings.open_again(data, fault)
-
-
-def opened_once(data, is_matroska, damaged):
-    """The same, read plainly up to the frames."""
+def opened_in(data, is_matroska, damaged=False):
+    """The same of bytes; where they may be damaged, what is told stands among the frames, and in
+    Matroska also before them."""
+    if is_matroska and damaged:
+        return damaged_openings.opened(data)
     if is_matroska:
-        read = damaged_files.items if damaged else matroska.Segment.frames
-        head, size, frames = matroska.open_again(data, read)
+        head, size, frames = matroska.open_again(data)
         segment = [f"segment {'open' if size is None else size}"]
     else:
         head, frames = avi_format.open_avi(data, True, damaged_avi.items if damaged else None)

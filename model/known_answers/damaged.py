@@ -4,8 +4,8 @@ are told, each with the bytes before its element. Counted by hand from the forma
 the first Cluster begins at 131, the second at 157, its Timestamp at 169 and its block at 172.
 """
 from known_answers.case import Case, Step
-from known_answers.matroska import C, H, T, block, cluster, element, segment, size, spell, summed
-from known_answers.matroska import whole
+from known_answers.matroska import C, H, T, block, cluster, element, open_segment, segment, size
+from known_answers.matroska import spell, summed, whole
 from known_answers.riffs import lines
 
 FRAME = None
@@ -122,18 +122,26 @@ OPENED = [
      [(52, SUM), FRAME, (170, SUM), FRAME]),
     ("sixteen", H + segment(*[NONE] * 16, T, C), [*[(52 + 4 * k, BAD) for k in range(16)], FRAME]),
 ]
-REFUSED = [
-    ("seventeen", H + segment(*[NONE] * 17, T, C), BAD),
-    ("Tracks behind the Cluster", H + segment(INFO, C, T), SUM),
-    ("no Tracks", H + segment(INFO, C), SUM),
-    ("another DocType", HEADER.replace(b"matroska", b"matroskb") + segment(T, C), SUM),
-    ("an element of unknown size", H + segment(INFO, "1254C367FF", T, C), SUM),
+BEGUN = [(52, SUM)]
+REFUSED = [                     # what plain reading meets first; what is told, and what ends that, where
+    ("seventeen", H + segment(*[NONE] * 17, T, C), BAD, [(52 + 4 * k, BAD) for k in range(16)],
+     (116, BAD)),
+    ("Tracks behind the Cluster", H + segment(INFO, C, T), SUM, BEGUN, (70, "82 NoTracks")),
+    ("no Tracks", H + segment(INFO, C), SUM, BEGUN, (70, "82 NoTracks")),
+    ("another DocType", HEADER.replace(b"matroska", b"matroskb") + segment(T, C), SUM, [(0, SUM)],
+     (0, "80 NotMatroska")),
+    ("an element of unknown size", H + segment(INFO, "1254C367FF", T, C), SUM, BEGUN, (70, BAD)),
+    ("a cut element that no Segment has", H + open_segment(INFO, "4DBB8500"), SUM,
+     [*BEGUN, (70, BAD)], (70, CUT)),
+    ("a record with a fault", H + segment(INFO, T[:-1] + bytes([T[-1] ^ 1]), C), SUM, BEGUN,
+     (None, "16 Parity")),
 ]
 
 
 def before_the_first_frame():
-    """Each file of which the faults there are told, by `check --all`, and each that is refused all the
-    same: then the fault is the one that it has plainly."""
+    """Each file of which the faults there are told, by `check --all`, and each that is refused there all
+    the same: then what is told has its lines, and what ends it is the fault; one of the record has no
+    line of a byte."""
     for name, file, items in OPENED:
         text, frames = told(items)
         faults = [item for item in items if item is not FRAME]
@@ -146,12 +154,13 @@ def before_the_first_frame():
             Step(["check", "--all", "--quiet", "in"],
                  f"in: {len(faults)} faults in {frames} frames, the first {fault} at byte {byte}\n",
                  fault)], {"in": file})
-    for name, file, fault in REFUSED:
-        byte = 0 if file.startswith(HEADER[:13]) else 52
+    for name, file, plain, before, (byte, fault) in REFUSED:
+        text = told(before)[0]
+        place = "" if byte is None else f"fault frame 0 byte {byte}\n"
         yield Case(f"refused before the first frame: {name}", {"in": file}, [
-            Step(["check", "in"], "", fault), Step(["check", "--all", "in"], "", fault),
-            Step(["check", "--all", "--place", "in"], f"fault frame 0 byte {byte}\n", fault)],
-            {"in": file})
+            Step(["check", "in"], "", plain), Step(["check", "--all", "in"], text, fault),
+            Step(["check", "--all", "--place", "in"], text + place, fault),
+            Step(["unpack", "--all", "in", "out"], text, fault)], {"in": file})
 
 
 CASES = [damaged, before_the_first_frame]

@@ -55,7 +55,7 @@ module _ (place : Place) (counts : CountsInput place) (text : List ℕ) (few : l
   turn_takes : Takes place (length text) (chunk_turn place text)
   turn_takes = subst (Takes place (length text)) (sym (chunk_heard place text)) (heard_takes place text counts (nat_lt 0 place.movi) (place.input == 0) (is_open place.open_in) (nat_lt 0 place.riff) refl refl refl refl)
 
-  step_takes : (rest : List ℕ) (next : Place) → step_read place text ≡ Ok (Some (None, next), rest) → (length rest + count_to place next ≡ length text) × CountsInput next
+  pub step_takes : (rest : List ℕ) (next : Place) → step_read place text ≡ Ok (Some (None, next), rest) → (length rest + count_to place next ≡ length text) × CountsInput next
   unfolding chunk_turn
   step_takes rest next is =
       let turned : chunk_turn place text ≡ Ok (Some (On (count_to place next) pending.Nothing next), rest) = rw is refl in
@@ -68,7 +68,7 @@ module _ (place : Place) (counts : CountsInput place) (text : List ℕ) (few : l
       let turned : chunk_turn place text ≡ Ok (Some (Frame 8 size next), rest) = rw is refl in
       subst (Takes place (length text)) turned turn_takes
 
-  end_takes : (rest : List ℕ) → step_read place text ≡ Ok (None, rest) → place.movi ≡ 0
+  pub end_takes : (rest : List ℕ) → step_read place text ≡ Ok (None, rest) → place.movi ≡ 0
   unfolding chunk_turn
   end_takes rest is =
       let turned : chunk_turn place text ≡ Ok (None, rest) = rw is refl in

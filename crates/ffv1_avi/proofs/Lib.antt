@@ -55,6 +55,7 @@ mod OpenReadings
 mod OpenPieces
 mod OpenFileLaws
 mod SpotReadings
+mod StepBytes
 mod WrittenEnds
 pub mod Agreeing
 pub mod FrameSteps
@@ -68,6 +69,7 @@ pub mod PaddedFrames
 pub mod ShorterTexts
 pub mod SoughtBytes
 pub mod SoughtFrames
+mod SoundEnds
 pub mod TurnAnswers
 pub mod TurnsMade
 mod EndedTurns

@@ -105,7 +105,7 @@ sought_less names left text y rest h =
     omega (arith, stop.fits, movi.0, movi.1)
 
 -- the next RIFF is counted
-begun_less : (place next : Place) (text rest : List ℕ) → riff_begun place text ≡ Ok (Some next, rest) → (amount next < place.input) × (0 < next.input) × (next.names ≡ place.names)
+pub begun_less : (place next : Place) (text rest : List ℕ) → riff_begun place text ≡ Ok (Some next, rest) → (amount next < place.input) × (0 < next.input) × (next.names ≡ place.names)
 begun_less place next text rest h = on_found (begun_sound place text (Some next, rest) h)
   where
     P : Place → Type 0

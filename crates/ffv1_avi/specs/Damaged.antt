@@ -3,6 +3,7 @@ use Rattle.std.specs.Prelude.{◌≡◌, ◌++◌, ◌∷◌, [], ◌||◌, ℕ,
 use Rattle.std.specs.Prelude.{false, true}
 use Rattle.ffv1_reads.specs.Items.{GivesFrame, Tells}
 use Rattle.ffv1_reads.specs.declared.fault.FileFault.{FileFault}
+use Rattle.ffv1_avi.specs.Behind.{EndsOpen}
 use Rattle.ffv1_avi.specs.Items.{item_read}
 use Rattle.ffv1_avi.specs.Places.{is_open}
 use Rattle.ffv1_avi.specs.Turns.{begins_index, begins_sized}
@@ -41,3 +42,8 @@ TellsAfter c text [] f offset =
 TellsAfter c text (bytes ∷ frames) f offset =
     (d : Course) × (more : List ℕ) × (item_read c text ≡ Ok (Some (GivesFrame bytes, d), more))
     × TellsAfter d more frames f offset
+
+-- what a course says where a file has ended is what a reader says that came from the same place to
+-- the end of the same bytes
+abbrev pub SaysEnd : Place → ℕ → List ℕ → List ℕ → Course → Type 0
+SaysEnd place at text rest c = EndsOpen place (Some text) (Some rest) at c.after c.open_ended

@@ -8,17 +8,18 @@ ghost use Rattle.ffv1_reads.specs.Offsets.{FaultAt};
 ghost use Rattle.ffv1_reads.specs.Reads.{Met, Short, Stop, Want};
 ghost use Rattle.ffv1_reads.specs.declared.fault.FileFault.{FileFault};
 ghost use Rattle.ffv1_reads.specs.declared.fault.FileFault.TheVariants as fault;
-ghost use Rattle.ffv1_avi.specs.Damaged.{CountsInput, HasNoHeader, TellsAfter, plain_at};
+ghost use Rattle.ffv1_avi.specs.Damaged.{CountsInput, HasNoHeader, SaysEnd, TellsAfter, plain_at};
 ghost use Rattle.ffv1_avi.specs.Edges.{FramesThen};
 ghost use Rattle.ffv1_avi.specs.Files.{frame_read, open_read};
 ghost use Rattle.ffv1_avi.specs.Offsets.{chunk_taken};
 ghost use Rattle.ffv1_reads.specs.Items.{Given, GivesFrame, Tells};
-ghost use Rattle.ffv1_avi.specs.Items.{course_at, item_read, over};
-ghost use Rattle.ffv1_avi.specs.Places.{most_input};
+ghost use Rattle.ffv1_avi.specs.Items.{course_at, ended_by, item_read, over};
+ghost use Rattle.ffv1_avi.specs.Places.{extent_of, is_open, most_input};
 ghost use Rattle.ffv1_avi.specs.Readers.{Standing};
 ghost use Rattle.ffv1_avi.specs.Turns.{begins_sized, seek_turn, step_read};
 ghost use Rattle.ffv1_avi.specs.declared.course.Course.{Course};
 ghost use Rattle.ffv1_avi.specs.declared.place.Extent.{Extent};
+ghost use Rattle.ffv1_avi.specs.declared.place.Extent.TheVariants.{FirstMovi, EveryRiff};
 ghost use Rattle.ffv1_reads.specs.Head.{Head};
 ghost use Rattle.ffv1_avi.specs.declared.course.Turn.TheVariants.{Frame};
 ghost use Rattle.ffv1_avi.specs.declared.place.Place.{Place};
@@ -83,4 +84,18 @@ pub fn the_first_fault_is_told_at_its_byte()
         TellsAfter (plain_at place begun at) text frames f (at + count) }
     ensures opened { (extent : Extent) (file rest : List ℕ) (head : Head) (place : Place) →
         open_read extent file ≡ Ok ((head, place), rest) → CountsInput place }
+{}
+
+/// Where plain reading ends, the course says at its end what a reader says there. If every RIFF is
+/// read: where other bytes stand after the last RIFF, if any do, and whether an RIFF or a movi
+/// there has no size. If the first movi alone is read, no bytes are looked at after it.
+pub fn a_sound_file_ends_as_its_reader_says()
+    ensures every { (place : Place) (begun at : ℕ) (text rest : List ℕ) → CountsInput place →
+        at + length text < 2 ^ 64 - 1 → extent_of place ≡ EveryRiff →
+        frame_read place text ≡ Ok (None, rest) → SaysEnd place at text rest
+        (ended_by (plain_at place begun at) text) }
+    ensures first { (place : Place) (begun at : ℕ) (text rest : List ℕ) →
+        extent_of place ≡ FirstMovi → frame_read place text ≡ Ok (None, rest) →
+        ((ended_by (plain_at place begun at) text).after ≡ None)
+        × ((ended_by (plain_at place begun at) text).open_ended ≡ is_open place.open_in) }
 {}

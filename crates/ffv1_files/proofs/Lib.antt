@@ -16,4 +16,7 @@ mod NotedOnce
 mod NotedSegments
 pub mod AgainOpenings
 mod SalvagedOpenings
+pub mod ToldLists
+mod ToldOpenings
 mod WrittenNotes
+mod WrittenSegments

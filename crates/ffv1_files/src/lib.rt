@@ -24,7 +24,9 @@ pub mod laws;
 mod notes;
 mod opening;
 mod reader;
+pub mod salvage_laws;
 mod salvaging;
+pub mod written_laws;
 
 pub use container::{Container, Scope};
 pub use course::Course;

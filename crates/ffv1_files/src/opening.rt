@@ -23,7 +23,7 @@ use ffv1_wire::{AgainIn, ByteIn, read_byte};
 use std::alloc::Allocator;
 
 /// The first byte of a Matroska file, of the ID of its header of EBML.
-const EBML: u8 = 0x1A;
+pub(crate) const EBML: u8 = 0x1A;
 
 /// Looks at the first byte of a file, and opens it as what it is. It is read once: `NoTracks` if
 /// the first Cluster of a Matroska file comes before any Tracks. After a fault `offset` is the
@@ -76,7 +76,7 @@ fn open_once<R: ByteIn, A: Allocator + Copy>(
 }
 
 /// Whether a file was refused since no Tracks come before its first Cluster, or before its end.
-fn lacks_tracks(fault: FileFault) -> bool
+pub(crate) fn lacks_tracks(fault: FileFault) -> bool
     ensures { result ≡ lacks_tracks fault }
 {
     match fault {

@@ -1,46 +1,164 @@
-//! Opens Matroska files that may be damaged before their first frame.
+//! Opens files that may be damaged before their first frame.
 
-ghost use Rattle.std.specs.Prelude.{◌≡◌, ◌≤◌, ℕ, Option, None, false, map, IfErr, IfOk};
+ghost use Rattle.std.specs.Prelude.{◌≡◌, ◌≤◌, ℕ, [], Option, None, false, true, map, IfErr, IfOk};
 ghost use Rattle.std.specs.Vec.{vec_capacity};
 ghost use Rattle.ffv1_wire.specs.Passage.{passage};
+ghost use Rattle.ffv1_reads.specs.Known.{Known};
 ghost use Rattle.ffv1_reads.specs.Room.{RoomRead};
-ghost use Rattle.ffv1_matroska.specs.Salvaged.{most_told, salvage_read};
-ghost use Rattle.ffv1_files.specs.Answers.{StopsReading};
+ghost use Rattle.ffv1_matroska.specs.Salvaged.{may_be_told, most_told};
+ghost use Rattle.ffv1_files.specs.Again.{LacksTracks, OpensAs, RoomWithin, lacks_tracks};
+ghost use Rattle.ffv1_files.specs.Answers.{FileAnswers};
 ghost use Rattle.ffv1_files.specs.Behind.{EndsThere};
-ghost use Rattle.ffv1_files.specs.Places.{container_of};
-ghost use Rattle.ffv1_files.specs.Salvaged.{Salvages, given_told, salvage_endings};
+ghost use Rattle.ffv1_files.specs.Endings.{opening_endings};
+ghost use Rattle.ffv1_files.specs.Files.{once_read};
+ghost use Rattle.ffv1_files.specs.Noted.{NotesReached, StreamsReached, TimesBegin};
+ghost use Rattle.ffv1_files.specs.Offsets.{Reached, StopsAt};
+ghost use Rattle.ffv1_files.specs.Places.{container_of, least_bytes, least_in, most_bytes, most_in};
+ghost use Rattle.ffv1_files.specs.Readers.{is_opening_fault, opened_at};
+ghost use Rattle.ffv1_files.specs.Salvaged.{EndsTelling, RefusedPlainly, Salvages, SomeTold};
+ghost use Rattle.ffv1_files.specs.Salvaged.{StopsTelling, given_told};
 ghost use Rattle.ffv1_files.specs.declared.container.Container.TheVariants as container;
+ghost use Rattle.ffv1_files.specs.declared.container.Scope.TheVariants.{Whole};
 
+use crate::opening::{EBML, lacks_tracks};
 use crate::reader::{FileReader, Inner};
-use ffv1_matroska::{MatroskaReader, ToldFaults};
+use ffv1_avi::{AviReader, Extent};
+use ffv1_matroska::{MatroskaReader, ToldFaults, salvage_laws as matroska_laws};
 use ffv1_reads::FileFault;
-use ffv1_wire::ByteIn;
+use ffv1_wire::{AgainIn, ByteIn, read_byte};
 use std::alloc::Allocator;
 
+/// Looks at the first byte of a file, and opens it as what it is, as `open_told` does, but reads it
+/// once: `NoTracks` if the first Cluster of a Matroska file comes before any Tracks.
+fn tell_once<R: ByteIn, A: Allocator + Copy>(
+    alloc: A,
+    input: &mut R,
+    offset: &mut u64,
+    told: &mut ToldFaults<A>,
+) -> Result<FileReader<A>, FileFault>
+    requires room { most_told ≤ vec_capacity told.old.faults }
+    ensures answer { told.new.faults.items ≡ [] → FileAnswers (opening_endings Whole) opened_at
+        (once_read Whole) (passage R.remaining R.failures input.old input.new) result }
+    ensures located { told.new.faults.items ≡ [] →
+        IfOk result (Reached Whole (R.remaining input.old) (R.remaining input.new)) }
+    ensures stopped { told.new.faults.items ≡ [] → IfErr result (λ f. StopsAt Whole
+        (passage R.remaining R.failures input.old input.new) f offset.new) }
+    ensures late { told.new.faults.items ≡ [] → IfErr result (λ f. lacks_tracks f ≡ true →
+        Known (R.remaining input.old) (R.remaining input.new) LacksTracks) }
+    ensures streams { told.new.faults.items ≡ [] → IfOk result
+        (StreamsReached Whole (R.remaining input.old) (R.remaining input.new)) }
+    ensures times { told.new.faults.items ≡ [] →
+        IfOk result (TimesBegin (R.remaining input.old) (R.remaining input.new)) }
+    ensures opens { SomeTold told.new.faults.items → IfOk result (λ r. Salvages
+        (passage R.remaining R.failures input.old input.new) r.head r.place r.offset
+        (map (given_told told.new.data) told.new.faults.items)) }
+    ensures plainly { SomeTold told.new.faults.items →
+        IfOk result (λ r. RefusedPlainly (R.remaining input.old)) }
+    ensures segment { SomeTold told.new.faults.items → IfOk result (λ r. (size : Option ℕ)
+        × (container_of r.place ≡ container.Matroska size)) }
+    ensures refused { SomeTold told.new.faults.items → IfErr result (λ f. StopsTelling
+        (passage R.remaining R.failures input.old input.new) told.new.data
+        told.new.faults.items f offset.new) }
+    ensures tried { IfErr result (λ f. may_be_told f ≡ true →
+        Known (R.remaining input.old) (R.remaining input.new) (EndsTelling f)) }
+    ensures sound { IfOk result (λ r. r.fault ≡ None) }
+    ensures most { IfOk result (λ r. most_bytes r.place ≡ most_in Whole) }
+    ensures least { IfOk result (λ r. least_in Whole ≤ least_bytes r.place) }
+    ensures own { IfErr result (λ f. is_opening_fault Whole f ≡ true) }
+    ensures room { IfOk result (λ r. RoomRead (R.remaining input.old) (R.remaining input.new) 0
+        r.room) }
+    ensures ends { IfOk result EndsThere }
+    ensures uncued { IfOk result (λ r. r.cued ≡ false) }
+    ensures untold { IfOk result (λ r. r.after ≡ None) }
+    ensures uncounted { IfOk result (λ r. r.repeated ≡ 0) }
+    ensures shut { IfOk result (λ r. r.open_ended ≡ false) }
+{
+    matroska_laws::what_is_told_says_what_plain_reading_meets();
+    *offset = 0;
+    told.faults.clear();
+    let Ok(first) = read_byte(input) else {
+        return Err(FileFault::Read);
+    };
+    if first == Some(EBML) {
+        return match MatroskaReader::open_salvaged(alloc, first, input, offset, told) {
+            Ok(reader) => Ok(FileReader {
+                inner: Inner::Matroska(reader),
+            }),
+            Err(fault) => Err(fault),
+        };
+    }
+    match AviReader::open_located(alloc, Extent::EveryRiff, first, input, offset) {
+        Ok(reader) => Ok(FileReader {
+            inner: Inner::Avi(reader),
+        }),
+        Err(fault) => Err(fault),
+    }
+}
+
 impl<A: Allocator + Copy> FileReader<A> {
-    /// Reads a Matroska file that may be damaged, from its beginning up to where its frames begin,
-    /// as `MatroskaReader::open_salvaged` does, with its faults: those of two kinds are told, and
-    /// it goes on after them.
-    pub fn open_salvaged<R: ByteIn>(
+    /// Reads a file that may be damaged, all of which is read, from its beginning up to where its
+    /// frames begin. Of an AVI, and of a Matroska file without faults there, nothing is told, and
+    /// all is as of `open_located` at `Whole`, also where it begins again since it lacks Tracks.
+    ///
+    /// Faults of two kinds in a Matroska file are told, at most sixteen, and it goes on after them,
+    /// as `MatroskaReader::open_salvaged` does. It is read once. If it is refused, `told` has all
+    /// faults that come before that, and `offset` is the number of bytes of the file before the
+    /// element at fault: `NoTracks` if something is told, and the first Cluster comes before any
+    /// Tracks. `told` has room for sixteen; what it had before is dropped.
+    pub fn open_told<R: AgainIn>(
         alloc: A,
         input: &mut R,
+        offset: &mut u64,
         told: &mut ToldFaults<A>,
     ) -> Result<FileReader<A>, FileFault>
         requires room { most_told ≤ vec_capacity told.old.faults }
-        ensures ok { IfOk result (λ r. Salvages
+        ensures answer { told.new.faults.items ≡ [] → OpensAs (R.begins input.old) Whole
+            (passage R.remaining R.failures input.old input.new) result }
+        ensures located { told.new.faults.items ≡ [] →
+            IfOk result (Reached Whole (R.remaining input.old) (R.remaining input.new)) }
+        ensures stopped { told.new.faults.items ≡ [] → IfErr result (λ f. StopsAt Whole
+            (passage R.remaining R.failures input.old input.new) f offset.new) }
+        ensures noted { told.new.faults.items ≡ [] →
+            IfOk result (NotesReached Whole (R.remaining input.old) (R.remaining input.new)) }
+        ensures opens { SomeTold told.new.faults.items → IfOk result (λ r. Salvages
             (passage R.remaining R.failures input.old input.new) r.head r.place r.offset
             (map (given_told told.new.data) told.new.faults.items)) }
-        ensures err { IfErr result (StopsReading salvage_endings salvage_read
-            (passage R.remaining R.failures input.old input.new)) }
-        ensures sound { IfOk result (λ r. r.fault ≡ None) }
-        ensures segment { IfOk result (λ r. (size : Option ℕ)
+        ensures plainly { SomeTold told.new.faults.items →
+            IfOk result (λ r. RefusedPlainly (R.remaining input.old)) }
+        ensures segment { SomeTold told.new.faults.items → IfOk result (λ r. (size : Option ℕ)
             × (container_of r.place ≡ container.Matroska size)) }
-        ensures room { IfOk result (λ r. RoomRead (R.remaining input.old) (R.remaining input.new) 0
+        ensures refused { SomeTold told.new.faults.items → IfErr result (λ f. StopsTelling
+            (passage R.remaining R.failures input.old input.new) told.new.data
+            told.new.faults.items f offset.new) }
+        ensures tried { IfErr result (λ f. may_be_told f ≡ true →
+            Known (R.remaining input.old) (R.remaining input.new) (EndsTelling f)) }
+        ensures sound { IfOk result (λ r. r.fault ≡ None) }
+        ensures most { IfOk result (λ r. most_bytes r.place ≡ most_in Whole) }
+        ensures least { IfOk result (λ r. least_in Whole ≤ least_bytes r.place) }
+        ensures own { IfErr result (λ f. is_opening_fault Whole f ≡ true) }
+        ensures room { IfOk result (λ r. RoomWithin (R.remaining input.old) (R.remaining input.new)
             r.room) }
         ensures ends { IfOk result EndsThere }
         ensures uncued { IfOk result (λ r. r.cued ≡ false) }
+        ensures untold { IfOk result (λ r. r.after ≡ None) }
+        ensures uncounted { IfOk result (λ r. r.repeated ≡ 0) }
+        ensures shut { IfOk result (λ r. r.open_ended ≡ false) }
     {
-        match MatroskaReader::open_salvaged(alloc, input, told) {
+        let start = input.start();
+        let fault = match tell_once(alloc, input, offset, told) {
+            Ok(reader) => return Ok(reader),
+            Err(fault) => fault,
+        };
+        if !told.faults.is_empty() {
+            return Err(fault);
+        }
+        if !lacks_tracks(fault) {
+            return Err(fault);
+        }
+        let Some(start) = start else {
+            return Err(fault);
+        };
+        match MatroskaReader::open_again(alloc, &start, input, offset) {
             Ok(reader) => Ok(FileReader {
                 inner: Inner::Matroska(reader),
             }),

@@ -88,7 +88,7 @@ unknown_refused track size place number rest is few fits differ unknown =
     ap (λ z. read_on z (block_rest track place)) (data_complete size place.sum number rest is few fits)
     ∙ rw (test, unknown) refl
 
-own_complete : (track : TrackNumbers) (place : Place) (number time : List ℕ) (flags : ℕ) (frame rest : List ℕ) → IsOwn track number time flags frame →
+pub own_complete : (track : TrackNumbers) (place : Place) (number time : List ℕ) (flags : ℕ) (frame rest : List ℕ) → IsOwn track number time flags frame →
     block_read track (length (number ++ ((time ++ flags ∷ []) ++ frame))) place ((number ++ ((time ++ flags ∷ []) ++ frame)) ++ rest)
     ≡ Ok (Some (frame_at (Some (time_of (time ++ flags ∷ []))) (length frame) (after_bytes place (number ++ (time ++ flags ∷ [])))), frame ++ rest)
 unfolding block_read fields_read

@@ -17,23 +17,23 @@ use Rattle.ffv1_matroska.specs.Tracks.{Track, first_track, known_in, others_in, 
 use Rattle.ffv1_matroska.specs.declared.place.Place.{Place}
 use Rattle.ffv1_matroska.specs.declared.told.ToldFault.{ToldFault}
 
-no_err : {X Y P : Type 0} (x : X) (why : Y) → ◌≡◌ {A = Result X Y} (Ok x) (Err why) → P
+pub no_err : {X Y P : Type 0} (x : X) (why : Y) → ◌≡◌ {A = Result X Y} (Ok x) (Err why) → P
 no_err x why e = absurd (cc)
 
-no_ok : {X Y P : Type 0} (x : X) (why : Y) → ◌≡◌ {A = Result X Y} (Err why) (Ok x) → P
+pub no_ok : {X Y P : Type 0} (x : X) (why : Y) → ◌≡◌ {A = Result X Y} (Err why) (Ok x) → P
 no_ok x why e = absurd (cc)
 
-same_ok : {X : Type 0} (x y : X) (a b : List ℕ) → ◌≡◌ {A = Result (X × List ℕ) Stop} (Ok (x, a)) (Ok (y, b)) → (x ≡ y) × (a ≡ b)
+pub same_ok : {X : Type 0} (x y : X) (a b : List ℕ) → ◌≡◌ {A = Result (X × List ℕ) Stop} (Ok (x, a)) (Ok (y, b)) → (x ≡ y) × (a ≡ b)
 same_ok {X = X} x y a b e = let same = ok_is (x, a) (y, b) e in (ap (λ (z : X × List ℕ). z.0) same, ap (λ (z : X × List ℕ). z.1) same)
 
-same_met : {X : Type 0} (f g : FileFault) (a b : List ℕ) → ◌≡◌ {A = Result X Stop} (Err (Met f a)) (Err (Met g b)) → f ≡ g
+pub same_met : {X : Type 0} (f g : FileFault) (a b : List ℕ) → ◌≡◌ {A = Result X Stop} (Err (Met f a)) (Err (Met g b)) → f ≡ g
 same_met {X = X} f g a b e = let met : ◌≡◌ {A = Stop} (Met f a) (Met g b) = cc in cc
 
-short_met : {X P : Type 0} (w : _) (f : FileFault) (a : List ℕ) → ◌≡◌ {A = Result X Stop} (Err (Short w)) (Err (Met f a)) → P
+pub short_met : {X P : Type 0} (w : _) (f : FileFault) (a : List ℕ) → ◌≡◌ {A = Result X Stop} (Err (Short w)) (Err (Met f a)) → P
 short_met {X = X} w f a e = absurd (let met : ◌≡◌ {A = Stop} (Short w) (Met f a) = cc in cc)
 
 -- what readings in a row meet: the first one does, or the next one after a value
-read_on_met : {X Y : Type 0} (z : Result (X × List ℕ) Stop) (k : X → Reading Y) (f : FileFault) (rest : List ℕ) → read_on z k ≡ Err (Met f rest) → (z ≡ Err (Met f rest)) ⊎ ((p : X × List ℕ) × (z ≡ Ok p) × (k p.0 p.1 ≡ Err (Met f rest)))
+pub read_on_met : {X Y : Type 0} (z : Result (X × List ℕ) Stop) (k : X → Reading Y) (f : FileFault) (rest : List ℕ) → read_on z k ≡ Err (Met f rest) → (z ≡ Err (Met f rest)) ⊎ ((p : X × List ℕ) × (z ≡ Ok p) × (k p.0 p.1 ≡ Err (Met f rest)))
 read_on_met (Ok p) k f rest h = inr (p, refl, h)
 read_on_met {X = X} {Y = Y} (Err why) k f rest h = inl (let same : ◌≡◌ {A = Stop} why (Met f rest) = cc in ap (λ z. Err z) same)
 
@@ -48,7 +48,7 @@ unfolding sound_part sum_fault
 sum_right content is = rw is (refl, refl)
 
 -- what it says begins with its sum: if it says something, nothing is told
-abbrev BeginsWithSum : {X : Type 0} → (List ℕ → Result X FileFault) → Type 0
+abbrev pub BeginsWithSum : {X : Type 0} → (List ℕ → Result X FileFault) → Type 0
 BeginsWithSum {X = X} says = (content : List ℕ) → (k : Unit {0} → Result X FileFault) × (says content ≡ (content_told content >>? k))
 
 said : {X : Type 0} (says : List ℕ → Result X FileFault) → BeginsWithSum says → (content : List ℕ) (x : X) → says content ≡ Ok x → (sound_part content ≡ content) × (sum_fault content ≡ None)
@@ -69,11 +69,11 @@ unsaid {X = X} says begins content f x fails ok = on_sum (content_told content) 
     on_sum (Err fault.Checksum) is = let same = same_err fault.Checksum is in rw (is, ← same) (refl, refl)
     on_sum (Err g) is = no_err x f (sym (rw is at ok) ∙ fails)
 
-header_begins : BeginsWithSum header_in
+pub header_begins : BeginsWithSum header_in
 unfolding header_in
 header_begins content = (_, refl)
 
-track_begins : BeginsWithSum track_in
+pub track_begins : BeginsWithSum track_in
 unfolding track_in first_track
 track_begins content = (λ _. track_up_to (length content) content >>? λ track. Ok (track_among (known_in content) (others_in content) track), on_sum (content_told content))
   where
@@ -93,7 +93,7 @@ found_with p = given (Some p.0, p.1)
 abbrev none_with : Option FileFault → Reading (Option Track × Option FileFault)
 none_with f = given (None, f)
 
-ebml_same : (text rest : List ℕ) → ebml_read text ≡ Ok (tt, rest) → ebml_salvaged text ≡ Ok (None, rest)
+pub ebml_same : (text rest : List ℕ) → ebml_read text ≡ Ok (tt, rest) → ebml_salvaged text ≡ Ok (None, rest)
 unfolding ebml_read ebml_salvaged
 ebml_same text rest is =
     let one = read_on_ok (ident_read ebml text) (λ _. top_size >>= λ size. (content_kept size >>= λ content. told (header_in content))) (tt, rest) is in
@@ -135,7 +135,7 @@ element_same ident (Some size) text rest is = on_section (is_section ident) (is_
 moved : (r : Result ((Option Track × Option FileFault) × List ℕ) Stop) (a b : Option Track) (x y : List ℕ) → (a ≡ b) × (x ≡ y) → r ≡ Ok ((a, None), x) → r ≡ Ok ((b, None), y)
 moved r a b x y same h = rw (← same.0, ← same.1) h
 
-visit_same : (found now : Option Track) (ident : ℕ) (size : Option ℕ) (text rest : List ℕ) → tracks_or_passed found ident size text ≡ Ok (now, rest) → tracks_or_salvaged found ident size text ≡ Ok ((now, None), rest)
+pub visit_same : (found now : Option Track) (ident : ℕ) (size : Option ℕ) (text rest : List ℕ) → tracks_or_passed found ident size text ≡ Ok (now, rest) → tracks_or_salvaged found ident size text ≡ Ok ((now, None), rest)
 visit_same (Some track) now ident size text rest is =
     let one = read_on_ok (element_passed ident size text) (λ _. given (Some track)) (now, rest) is in
     let same = same_ok (Some track) now one.0.1 rest one.2 in

@@ -1,15 +1,18 @@
 -- Elements before the frames, by the calls of which the reading of each is made.
 use Rattle.std.proofs.Common.{◌≡◌, ◌≤◌, ◌+◌, ◌-◌, ◌==◌, ◌^◌, if◌then◌else◌, min, ℕ, suc, zero, List, Option, Some, None, Result, Ok, Err, IfOk, true, false, nat_lt, length, slice_index, [], ◌∷◌, subst, inl, inr, refl, ◌∙◌, arith}
 use Rattle.std.proofs.lemmas.Bool.{eq-eqb, ne_eqb}
+use Rattle.std.proofs.Common.{◌++◌, ap, append_assoc, length-append}
+use Rattle.std.specs.Io.KnownBytes.{Consumes}
+use Rattle.ffv1_wire.proofs.Bytes.{consumes_then}
 use Rattle.ffv1_wire.specs.Passage.{Passage}
 use Rattle.ffv1_reads.specs.declared.fault.FileFault.{FileFault}
 use Rattle.ffv1_reads.specs.declared.fault.FileFault.TheVariants as fault
 use Rattle.ffv1_reads.specs.Ends.{ReadOrNone, RefusedOrFaults, RefusedOrNone}
 use Rattle.ffv1_reads.specs.Offsets.{ReadsCounted, ReadsOn, ReadsWhole, offset_after}
-use Rattle.ffv1_reads.specs.Reads.{Kept, Looked, Read, Refused, given, passed, refused, taken, wanted, ◌>>=◌}
+use Rattle.ffv1_reads.specs.Reads.{Kept, Looked, Read, Reading, Refused, given, passed, read_on, refused, taken, wanted, ◌>>=◌}
 use Rattle.ffv1_reads.proofs.EndFaults.{Closes, closes_fault, closes_refused, faults_refused}
 use Rattle.ffv1_reads.proofs.OffsetLaws.{counted_given, counted_same, counted_then, counts_more, offset_then, reads_counted, reads_none, reads_then}
-use Rattle.ffv1_reads.proofs.Reading.{faults_here, goes_fault, goes_none, goes_read, goes_same}
+use Rattle.ffv1_reads.proofs.Reading.{consumes_none, faults_here, goes_fault, goes_none, goes_read, goes_same}
 use Rattle.ffv1_reads.proofs.Taking.{Any, Takes, takes_given, takes_if, takes_passed, takes_read, takes_refused, takes_same, takes_then, takes_wanted}
 use Rattle.ffv1_ebml.specs.Elements.{content_passed}
 use Rattle.ffv1_ebml.specs.Vints.{number_of}
@@ -70,7 +73,7 @@ module _ (bytes : List ℕ) (a b c : Option (List ℕ)) (first mid last : ℕ) (
       (counted_then (segment_after (slice_index bytes 0)) (λ size. given (Some size)) h.1 (counted_given (Some size) c))) h.2
 
 -- content that is kept
-kept_takes : (size : Option ℕ) → Takes (λ (bytes : List ℕ). length bytes ≡ bytes_of size) (bytes_of size) (λ _. 0) (content_kept size)
+pub kept_takes : (size : Option ℕ) → Takes (λ (bytes : List ℕ). length bytes ≡ bytes_of size) (bytes_of size) (λ _. 0) (content_kept size)
 unfolding content_kept
 kept_takes None = takes_refused fault.BadElement
 kept_takes (Some n) = takes_if (nat_lt limit n) (refused fault.ChunkTooLong) (wanted Kept n) (λ _. takes_refused fault.ChunkTooLong) (λ _. takes_same _ _ (wanted Kept n) (omega arith) (takes_wanted Kept n 0))
@@ -86,7 +89,7 @@ passed_takes ident (Some n) =
     takes_if (is_section ident) (content_passed n) _ (λ _. content_takes n)
     (λ _. takes_if (is_filler ident) (passed n) (refused fault.BadElement) (λ _. takes_same _ _ (passed n) (omega arith) (takes_passed n 0)) (λ _. takes_refused fault.BadElement))
 
-told_takes : {X : Type 0} (r : Result X FileFault) → Takes Any 0 (λ _. 0) (told r)
+pub told_takes : {X : Type 0} (r : Result X FileFault) → Takes Any 0 (λ _. 0) (told r)
 told_takes (Ok x) = takes_given x tt refl
 told_takes (Err f) = takes_refused f
 
@@ -125,6 +128,28 @@ unfolding spot_taken begun_at
 spot_begins track here e {b = b} is header =
     counted_then (header_read here) (beginning_taken (Some track) here) (header_counted here e header)
     (counted_same (given (BeforeFrames track (in_cluster (segment_at here false e.left) e.size))) _ (λ text. rw is refl) (counted_given _ b))
+
+-- readings that have come to the rest, after so many bytes
+pub record Counted {X : Type 0} (whole : Reading X) (old : Option (List ℕ)) (rest : Reading X) (now : Option (List ℕ)) (count : ℕ) : Type 0 where
+  pub bytes : List ℕ
+  pub consumed : Consumes old now bytes
+  pub counted : length bytes ≡ count
+  pub leads : (more : List ℕ) → whole (bytes ++ more) ≡ rest more
+
+pub counted_none : {X : Type 0} (whole : Reading X) (old : Option (List ℕ)) → Counted whole old whole old 0
+counted_none whole old = record { bytes = []; consumed = consumes_none old; counted = refl; leads = λ more. refl }
+
+pub counted_read : {X Y : Type 0} {whole : Reading X} {old now new : Option (List ℕ)} {y : Y} {m n : ℕ} (r : Reading Y) (k : Y → Reading X) → Counted whole old (r >>= k) now m → ReadsCounted r now new y n → Counted whole old (k y) new (m + (n + 0))
+counted_read {whole = whole} {old = old} {now = now} {new = new} r k h read =
+    record {
+      bytes = h.bytes ++ read.bytes;
+      consumed = consumes_then old now new h.bytes read.bytes h.consumed read.consumed;
+      counted = omega (arith, length-append h.bytes read.bytes, h.counted, read.counted);
+      leads = λ more. ap whole (append_assoc h.bytes read.bytes more) ∙ h.leads (read.bytes ++ more) ∙ ap (λ z. read_on z k) (read.is more);
+    }
+
+pub counted_all : {X : Type 0} {whole : Reading X} {old now : Option (List ℕ)} {n : ℕ} (x : X) → Counted whole old (given x) now n → ReadsCounted whole old now x n
+counted_all x h = record { bytes = h.bytes; consumed = h.consumed; is = h.leads; counted = h.counted }
 
 -- that was refused
 abbrev pub Ended : Spot → Type 0

@@ -68,13 +68,13 @@ segment_four = refl
 
 -- ---- elements without frames
 
-abbrev seek_top : Option Finish → TopLevel
+abbrev pub seek_top : Option Finish → TopLevel
 seek_top finish = record { ident = ident_bytes seek_head; size = short (length (checked (seeks finish))); content = checked (seeks finish) }
 
-abbrev info_top : Head → Option Finish → TopLevel
+abbrev pub info_top : Head → Option Finish → TopLevel
 info_top head finish = record { ident = ident_bytes info; size = short (length (checked (info_content head finish))); content = checked (info_content head finish) }
 
-abbrev tracks_top : Head → TrackEntry → TopLevel
+abbrev pub tracks_top : Head → TrackEntry → TopLevel
 tracks_top head details = record { ident = ident_bytes tracks; size = long (length (checked (entry_element head details))); content = checked (entry_element head details) }
 
 abbrev cues_top : ℕ → List ℕ → TopLevel
@@ -86,12 +86,12 @@ top_is ident size content is says known bytes =
     let p = ident_spelled ident is in
     record { named = p.is; few = p.few; sized = says; known = rw p.number known; told = λ _. checked_told content bytes }
 
-seeks_few : (finish : Option Finish) → length (seeks finish) ≡ 63
+pub seeks_few : (finish : Option Finish) → length (seeks finish) ≡ 63
 unfolding seeks seek_element void_element ident_length
 seeks_few None = refl
 seeks_few (Some f) = refl
 
-info_few : (head : Head) (finish : Option Finish) → length (info_content head finish) ≡ 63
+pub info_few : (head : Head) (finish : Option Finish) → length (info_content head finish) ≡ 63
 unfolding info_content void_element ident_length
 info_few head None = refl
 info_few head (Some f) = refl
@@ -108,19 +108,19 @@ cues_known : (is_section cues || is_filler cues) ≡ true
 unfolding is_section is_filler
 cues_known = refl
 
-seek_is : IsIdent seek_head
+pub seek_is : IsIdent seek_head
 seek_is = inr (inr (inr (omega arith, omega arith)))
 
-info_is : IsIdent info
+pub info_is : IsIdent info
 info_is = inr (inr (inr (omega arith, omega arith)))
 
-tracks_is : IsIdent tracks
+pub tracks_is : IsIdent tracks
 tracks_is = inr (inr (inr (omega arith, omega arith)))
 
 cues_is : IsIdent cues
 cues_is = inr (inr (inr (omega arith, omega arith)))
 
-before_are : (head : Head) (finish : Option Finish) → AreTopLevel (seek_top finish ∷ info_top head finish ∷ [])
+pub before_are : (head : Head) (finish : Option Finish) → AreTopLevel (seek_top finish ∷ info_top head finish ∷ [])
 before_are head finish =
     let a : length (checked (seeks finish)) < 127 = omega (arith, checked_long (seeks finish), seeks_few finish) in
     let b : length (checked (info_content head finish)) < 127 = omega (arith, checked_long (info_content head finish), info_few head finish) in (
@@ -128,7 +128,7 @@ before_are head finish =
       (top_is info (short (length (checked (info_content head finish)))) (info_content head finish) info_is (short_spelled (length (checked (info_content head finish))) b) info_known (info_are head finish), tt),
     )
 
-no_tracks : (head : Head) (finish : Option Finish) → AreBefore (seek_top finish ∷ info_top head finish ∷ [])
+pub no_tracks : (head : Head) (finish : Option Finish) → AreBefore (seek_top finish ∷ info_top head finish ∷ [])
 no_tracks head finish =
     let a = (ident_spelled seek_head seek_is).number in
     let b = (ident_spelled info info_is).number in
@@ -140,7 +140,7 @@ entry_short head details few =
     let inner = entry_fields head details ++ long_element codec_private (private_content details.codec_id head) in
     omega (arith, checked_long (long_element entry inner), long_long entry inner, few)
 
-tracks_say : (head : Head) (details : TrackEntry) (frames : List (List ℕ)) → IsWritable head details frames → IsTracks (tracks_top head details) (record { numbers = written_numbers (frame_duration head); head = head })
+pub tracks_say : (head : Head) (details : TrackEntry) (frames : List (List ℕ)) → IsWritable head details frames → IsTracks (tracks_top head details) (record { numbers = written_numbers (frame_duration head); head = head })
 tracks_say head details frames is =
     let p = ident_spelled tracks tracks_is in
     let few : length (checked (entry_element head details)) < 2 ^ 56 - 1 = let most = is.short in omega (arith, most) in
@@ -162,12 +162,12 @@ opened : (head : Head) (finish : Option Finish) (x : List ℕ) → opening head 
 unfolding opening ebml_header
 opened head finish x = regrouped (ident_bytes ebml ++ short (length header_bytes)) header_bytes (ident_bytes segment ++ segment_size finish) (top_text (seek_top finish)) (top_text (info_top head finish)) x
 
-tops_long : (head : Head) (finish : Option Finish) → length (tops_text (seek_top finish ∷ info_top head finish ∷ [])) ≡ 148
+pub tops_long : (head : Head) (finish : Option Finish) → length (tops_text (seek_top finish ∷ info_top head finish ∷ [])) ≡ 148
 unfolding seeks seek_element info_content void_element crc_element ident_length
 tops_long head None = refl
 tops_long head (Some f) = refl
 
-file_begins : (head : Head) (finish : Option Finish) (size : Option ℕ) (x : List ℕ) → SaysSize (segment_size finish) size → FileBegins (opening head finish ++ x) size (tops_text (seek_top finish ∷ info_top head finish ∷ []) ++ x)
+pub file_begins : (head : Head) (finish : Option Finish) (size : Option ℕ) (x : List ℕ) → SaysSize (segment_size finish) size → FileBegins (opening head finish ++ x) size (tops_text (seek_top finish ∷ info_top head finish ∷ []) ++ x)
 file_begins head finish size x says =
     record {
       ebml_ident = ident_bytes ebml;
@@ -187,7 +187,7 @@ file_begins head finish size x says =
       sized = says;
     }
 
-tracks_text : (head : Head) (details : TrackEntry) → top_text (tracks_top head details) ≡ tracks_element head details
+pub tracks_text : (head : Head) (details : TrackEntry) → top_text (tracks_top head details) ≡ tracks_element head details
 unfolding tracks_element
 tracks_text head details = refl
 
@@ -242,7 +242,7 @@ read_with head details frames finish size parts text is text_is are have says en
 
 -- ---- how long it is
 
-clusters_least : (number : ℕ) (frames : List (List ℕ)) → 41 * length frames ≤ length (clusters_from number frames)
+pub clusters_least : (number : ℕ) (frames : List (List ℕ)) → 41 * length frames ≤ length (clusters_from number frames)
 unfolding clusters_from
 clusters_least number [] = omega arith
 clusters_least number (frame ∷ frames) =
@@ -269,10 +269,10 @@ cues_few ps few =
 
 -- ---- its three forms
 
-abbrev kept : Head → TrackEntry → List (List ℕ) → List ℕ
+abbrev pub kept : Head → TrackEntry → List (List ℕ) → List ℕ
 kept head details frames = every (stride_of (length frames)) (places_from (first_place head details) frames)
 
-kept_few : (head : Head) (details : TrackEntry) (frames : List (List ℕ)) → end_place head details frames ≤ 2 ^ 56 - 2 ^ 20 → length (kept head details frames) ≤ 8192
+pub kept_few : (head : Head) (details : TrackEntry) (frames : List (List ℕ)) → end_place head details frames ≤ 2 ^ 56 - 2 ^ 20 → length (kept head details frames) ≤ 8192
 kept_few head details frames near =
     let ps = places_from (first_place head details) frames in
     let long = places_count (first_place head details) frames in

@@ -14,6 +14,8 @@ pub mod Internal
 pub mod Offsets
 pub mod Again
 pub mod Salvaged
+pub mod SalvageTold
+pub mod SalvageStops
 pub mod Scales
 pub mod Carried
 pub mod Cues
@@ -28,6 +30,7 @@ pub mod MatroskaFiles
 pub mod SegmentFiles
 pub mod Begun
 pub mod WrittenFiles
+pub mod WrittenTimes
 pub mod Given
 pub mod Turns
 pub mod Items

@@ -46,6 +46,7 @@ pub mod track_entry;
 mod turn;
 mod write;
 pub mod written_laws;
+pub mod written_times;
 
 pub use course::Course;
 pub use rate::{duration_of, rate_of};

@@ -6,13 +6,13 @@ ghost use Rattle.std.specs.Prelude.{length};
 ghost use Rattle.std.specs.Vec.{vec_capacity};
 ghost use Rattle.ffv1_wire.specs.Passage.{passage};
 ghost use Rattle.ffv1_reads.specs.First.{bytes_with, passage_with};
-ghost use Rattle.ffv1_reads.specs.Offsets.{ReadsOn};
+ghost use Rattle.ffv1_reads.specs.Offsets.{ReadsCounted, ReadsOn};
 ghost use Rattle.ffv1_reads.specs.Reads.{Answers};
 ghost use Rattle.ffv1_reads.specs.Room.{HasRoom, RoomRead};
 ghost use Rattle.ffv1_ebml.specs.Vints.{number_of};
 ghost use Rattle.ffv1_matroska.specs.Opened.{ebml_read};
 ghost use Rattle.ffv1_matroska.specs.Opening.{content_kept, header_in, ident_read};
-ghost use Rattle.ffv1_matroska.specs.Offsets.{EntersFrom};
+ghost use Rattle.ffv1_matroska.specs.Offsets.{CountsOn, EntersFrom};
 ghost use Rattle.ffv1_matroska.specs.Opening.{root_read, segment_after, segment_begun};
 ghost use Rattle.ffv1_matroska.specs.Opening.{segment_entered, top_size, void_read};
 ghost use Rattle.ffv1_matroska.specs.Sizes.{size_with};
@@ -264,6 +264,9 @@ pub(crate) fn enter_segment<R: ByteIn>(
         (passage R.remaining R.failures input.old input.new) result }
     ensures from { EntersFrom (passage R.remaining R.failures input.old input.new) result
         offset.old offset.new }
+    ensures counted { IfOk result (λ s. (count : ℕ) × ReadsCounted segment_entered
+        (R.remaining input.old) (R.remaining input.new) s count
+        × CountsOn offset.old offset.new count) }
 {
     for _element in 0..u64::MAX {
         if let Some(size) = read_root(input, offset)? {

@@ -3,6 +3,7 @@
 ghost use Rattle.std.specs.Prelude.{◌≡◌, ◌≤◌, IfErr, IfOk, List, [], Some};
 ghost use Rattle.std.specs.Vec.{vec_capacity};
 ghost use Rattle.ffv1_reads.specs.declared.fault.FileFault.{FileFault};
+ghost use Rattle.ffv1_matroska.specs.SalvageTold.{told_too};
 ghost use Rattle.ffv1_matroska.specs.Salvaged.{most_told, told_more};
 ghost use Rattle.ffv1_matroska.specs.Internal.{items_after};
 ghost use Rattle.ffv1_matroska.specs.declared.told.ToldFault.{ToldFault};
@@ -65,6 +66,7 @@ pub(crate) fn tell<A: Allocator>(
         ≡ told_more faults.old.items fault position }
     ensures capacity { vec_capacity faults.new ≡ vec_capacity faults.old }
     ensures same { IfErr result (λ f. fault ≡ Some f) }
+    ensures too { faults.new.items ≡ told_too faults.old.items fault position }
 {
     let Some(fault) = fault else {
         return Ok(());
@@ -74,4 +76,20 @@ pub(crate) fn tell<A: Allocator>(
     }
     faults.push_reserved(ToldFault { fault, position });
     Ok(())
+}
+
+/// Tells the other fault of an element at this position that is refused, if it has one, and if as
+/// many may be told.
+pub(crate) fn tell_pending<A: Allocator>(
+    faults: &mut Vec<ToldFault, A>,
+    other: Option<FileFault>,
+    position: Option<u64>,
+)
+    requires room { most_told ≤ vec_capacity faults.old }
+    ensures { faults.new.items ≡ told_too faults.old.items other position }
+{
+    match tell(faults, other, position) {
+        Ok(()) => {}
+        Err(_) => {}
+    }
 }

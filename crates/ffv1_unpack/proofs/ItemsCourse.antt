@@ -7,7 +7,7 @@ use Rattle.ffv1_avi.specs.declared.place.Extent.TheVariants.{FirstMovi, EveryRif
 use Rattle.ffv1_avi.specs.declared.place.Place.{Place as AviPlace}
 use Rattle.ffv1_avi.specs.Places.{extent_of}
 use Rattle.ffv1_files.specs.Behind.{items_noted, notes_read, notes_told}
-use Rattle.ffv1_files.specs.Items.{Next, avi_course, course_by, course_ended, course_of, item_read}
+use Rattle.ffv1_files.specs.Items.{avi_course, course_by, course_ended, course_of, item_read}
 use Rattle.ffv1_files.specs.Noted.{notes_reached, streams_reached}
 use Rattle.ffv1_files.specs.Places.{InAvi, InMatroska, Place, container_of}
 use Rattle.ffv1_files.specs.Readers.{Standing}
@@ -17,7 +17,6 @@ use Rattle.ffv1_files.specs.declared.container.Scope.{Scope}
 use Rattle.ffv1_files.specs.declared.container.Scope.TheVariants as scope
 use Rattle.ffv1_files.specs.declared.course.Course.{Course}
 use Rattle.ffv1_files.specs.declared.course.Course.TheVariants as course
-use Rattle.ffv1_files.specs.declared.notes.Notes.{Notes}
 use Rattle.ffv1_unpack.specs.Behind.{Looks}
 use Rattle.ffv1_unpack.specs.ItemsEnd.{EndLooks, OthersRead, course_left, course_on, course_up_to, cued_left}
 use Rattle.ffv1_unpack.specs.Internal.Containers.{is_segment}

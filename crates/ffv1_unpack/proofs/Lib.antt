@@ -55,6 +55,7 @@ mod SalvageEnding
 mod SalvagedEnd
 mod SalvageTold
 mod ToldUnpacked
-mod UnpackedAgain
+mod UnpackedTold
+mod OpenedTold
 mod SalvageLaws
 mod PicturesPut

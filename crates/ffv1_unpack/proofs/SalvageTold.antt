@@ -10,7 +10,7 @@ use Rattle.ffv1_video.specs.declared.fault.Fault.{Fault}
 use Rattle.ffv1_video.specs.Output.{WritesUpTo}
 use Rattle.ffv1_video.proofs.Output.{take_past}
 use Rattle.ffv1_unpack.specs.declared.judging.JudgedCounts.{JudgedCounts}
-use Rattle.ffv1_unpack.specs.Internal.Reopens.{first_told}
+use Rattle.ffv1_unpack.specs.Internal.OpensTold.{first_told}
 use Rattle.ffv1_unpack.specs.Judged.{Decoded, Refused, Repeats, refused_line}
 use Rattle.ffv1_unpack.specs.JudgedItems.{JudgedItem, OfFrame, ToldAt, frames_of, told_line}
 use Rattle.ffv1_unpack.specs.Salvaged.{changed_fault, changed_text, differs, each, each_from, fault_for, good_frames, good_of, line_for, picture_for, said_of, salvage_faults, salvage_lines, shown}

@@ -27,7 +27,7 @@ use Rattle.ffv1_video.specs.Profiles.{scope_in}
 use Rattle.ffv1_video.proofs.KnownTexts.{known_map}
 use Rattle.ffv1_unpack.specs.Behind.{Looks, NotedIn}
 use Rattle.ffv1_unpack.specs.Containers.{IsReadOn}
-use Rattle.ffv1_unpack.specs.ItemsEnd.{BeginsAnother, EndTold, ItemsEnd, OpensAt, course_left, cued_left}
+use Rattle.ffv1_unpack.specs.ItemsEnd.{BeginsAnother, EndTold, ItemsEnd, course_left, cued_left}
 use Rattle.ffv1_unpack.specs.JudgedItems.{ItemsFrom, ItemsOver, ItemsThen, JudgedItem, given_as}
 use Rattle.ffv1_unpack.specs.Located.{Stands}
 use Rattle.ffv1_unpack.specs.declared.judging.JudgedCounts.{JudgedCounts}

@@ -26,11 +26,11 @@ use Rattle.ffv1_unpack.specs.Behind.{Looks}
 use Rattle.ffv1_unpack.specs.ItemsEnd.{cued_left}
 use Rattle.ffv1_unpack.specs.JudgedItems.{ItemsAll, ItemsFrom, ItemsGo, ItemsLack, ItemsNext, ItemsOver, ItemsStay, ItemsStopBy, ItemsWant, ItemsWritten, JudgedItem, faults_of, given_as, item_lines}
 use Rattle.ffv1_unpack.specs.Play.{but_last}
-use Rattle.ffv1_unpack.specs.ToldItems.{ToldFailsBy, ToldItemsEnd, ToldItemsThen, ToldOpens, told_items, told_lines}
+use Rattle.ffv1_unpack.specs.ToldItems.{LinesFailBy, ToldFailsBy, ToldItemsEnd, ToldItemsThen, ToldOpens, told_items, told_lines}
 use Rattle.ffv1_unpack.specs.declared.judging.JudgedCounts.{JudgedCounts}
 use Rattle.ffv1_unpack.specs.Internal.JudgedItems.{AreItemCounts}
 use Rattle.ffv1_unpack.specs.Internal.Opens.{stream_of}
-use Rattle.ffv1_unpack.specs.Internal.Reopens.{Reopens, first_told}
+use Rattle.ffv1_unpack.specs.Internal.OpensTold.{OpensTold, first_told}
 use Rattle.ffv1_unpack.specs.Internal.Told.{WritesFrame}
 use Rattle.ffv1_unpack.specs.Internal.ItemsEnd.{BehindAnswers, BehindFailsBy}
 use Rattle.ffv1_unpack.specs.Judged.{counts_line}
@@ -64,7 +64,7 @@ told_counts start ts c r xs frames faults first h = record {
 
 -- ---- what a file has after what is told
 
-module _ (profile : Profile) (i0 i1 i2 : Option (List ℕ)) (ib im ia : ℕ) (r : Standing) (a : Accepted) (start : ℕ) (ts : List ToldFault) (opens : Reopens profile (between i0 i1 ib im) start ts r a) where
+module _ (profile : Profile) (i0 i1 i2 : Option (List ℕ)) (ib im ia : ℕ) (r : Standing) (a : Accepted) (start : ℕ) (ts : List ToldFault) (opens : OpensTold profile (between i0 i1 ib im) start ts r a) where
   abbrev told : List Given
   told = map (given_told start) ts
 
@@ -124,27 +124,22 @@ module _ (profile : Profile) (i0 i1 i2 : Option (List ℕ)) (ib im ia : ℕ) (r 
     items_stop_told f h = inl (record { stream = stream_of r a; is = opens.stream; stops = stops_told (cause_of f) h })
 
 -- the lines of what is told are not written
-module _ (profile : Profile) (i0 i1 : Option (List ℕ)) (ib im : ℕ) (r : Standing) (a : Accepted) (start : ℕ) (ts : List ToldFault) (opens : Reopens profile (between i0 i1 ib im) start ts r a) (output : Passage) where
+pub lines_fail_by : (start : ℕ) (ts : List ToldFault) (output : Passage) (f : Fault) → WritesFrame (told_lines start ts) output (Err f) → LinesFailBy output start ts (cause_of f)
+lines_fail_by start ts output f h = elim h [
+  | inl write ↦ subst (λ z. LinesFailBy output start ts (cause_of z)) (sym write.0) (write.1, record { count = write.2.0; enough = omega arith; short = write.2.1; writes = write.2.2 })
+  | inr none ↦ subst (λ z. LinesFailBy output start ts (cause_of z)) (sym none.0) (record { same = none.1; kept = none.2 })
+]
+
+module _ (profile : Profile) (i0 i1 : Option (List ℕ)) (ib im : ℕ) (r : Standing) (a : Accepted) (start : ℕ) (ts : List ToldFault) (opens : OpensTold profile (between i0 i1 ib im) start ts r a) (output : Passage) where
   told_opens : ToldOpens profile (between i0 i1 ib im) (stream_of r a) start ts
   told_opens = record { is = opens.stream; from = r.place; offset = r.offset; known = opens.known; kept = opens.kept }
 
   pub lines_fail : (f : Fault) → WritesFrame (told_lines start ts) output (Err f) → ToldFailsBy profile (between i0 i1 ib im) output (cause_of f)
-  lines_fail f h = elim h [
-    | inl write ↦
-        subst (λ z. ToldFailsBy profile (between i0 i1 ib im) output (cause_of z)) (sym write.0) (
-          stream_of r a,
-          start,
-          ts,
-          told_opens,
-          write.1,
-          record { count = write.2.0; enough = omega arith; short = write.2.1; writes = write.2.2 },
-        )
-    | inr none ↦ subst (λ z. ToldFailsBy profile (between i0 i1 ib im) output (cause_of z)) (sym none.0) (stream_of r a, start, ts, told_opens, record { same = none.1; kept = none.2 })
-  ]
+  lines_fail f h = (stream_of r a, start, ts, told_opens, lines_fail_by start ts output f h)
 
 -- ---- what comes after its end
 
-module _ (profile : Profile) (place : Bool) (i0 i1 i2 i3 : Option (List ℕ)) (ib im ia ic : ℕ) (r : Standing) (a : Accepted) (start : ℕ) (ts : List ToldFault) (opens : Reopens profile (between i0 i1 ib im) start ts r a) (course : Course) (cued : Bool)
+module _ (profile : Profile) (place : Bool) (i0 i1 i2 i3 : Option (List ℕ)) (ib im ia ic : ℕ) (r : Standing) (a : Accepted) (start : ℕ) (ts : List ToldFault) (opens : OpensTold profile (between i0 i1 ib im) start ts r a) (course : Course) (cued : Bool)
     (cues : CuedBy (cued_left r.place (course_of r) false) i1 i2 cued) (goes : Goes r i1 i2 course) where
   pub end_told : (is : List Given) (Looked : ℕ → Looks) (o0 o1 o2 o3 : Option (List ℕ)) → Known o0 o1 (λ file rest. IsSalvaged file rest r.head r.place r.offset (map (given_told start) ts)) →
       CuedBy (cued_left r.place (course_of r) false) o1 o2 cued → Goes r o1 o2 course → Known o1 o2 (ItemsFrom r.place (course_of r) is (ItemsOver (length is))) → Known o2 o3 (λ text rest. Looked r.end (items_noted r course cued) text rest) → Known o0 o3 (ToldItemsEnd r.head (map (given_told start) ts ++ is) Looked)
@@ -166,7 +161,7 @@ module _ (profile : Profile) (place : Bool) (i0 i1 i2 i3 : Option (List ℕ)) (i
 
 -- ---- all of it
 
-module _ (profile : Profile) (place : Bool) (i0 i1 i2 i3 : Option (List ℕ)) (ib im ia ic : ℕ) (r : Standing) (a : Accepted) (start : ℕ) (ts : List ToldFault) (opens : Reopens profile (between i0 i1 ib im) start ts r a) (course : Course) (cued : Bool)
+module _ (profile : Profile) (place : Bool) (i0 i1 i2 i3 : Option (List ℕ)) (ib im ia ic : ℕ) (r : Standing) (a : Accepted) (start : ℕ) (ts : List ToldFault) (opens : OpensTold profile (between i0 i1 ib im) start ts r a) (course : Course) (cued : Bool)
     (cues : CuedBy (cued_left r.place (course_of r) false) i1 i2 cued) (goes : Goes r i1 i2 course) (o0 o1 o2 o3 : Option (List ℕ)) (ob om oa oc : ℕ) (first : (om ≡ ob) × Appends o0 o1 (told_lines start ts)) (xs : List JudgedItem)
     (all : ItemsAll (ItemsFrom r.place (course_of r)) a place (between i1 i2 im ia) (between o1 o2 om oa) xs) (counts : JudgedCounts) (were : AreItemCounts counts (told_items start ts ++ xs)) where
   abbrev items : List JudgedItem

@@ -1,33 +1,36 @@
--- A file that is refused plainly is checked again.
-use Rattle.std.proofs.Common.{◌≡◌, ◌⊎◌, ℕ, Bool, false, true, Option, Result, Ok, Err, IfErr, IfOk, List, [], inl, inr, ap, sym, subst, ◌∙◌}
+-- A file of which something is told before its first frame is checked, or is refused.
+use Rattle.std.proofs.Common.{◌≡◌, ◌⊎◌, refl, ℕ, Bool, false, true, Option, Result, Ok, Err, IfErr, IfOk, List, [], ◌∷◌, ◌++◌, inl, inr, ap, sym, subst, ◌∙◌, append-nil, arith}
+use Rattle.std.proofs.KnownBytes.{Appends-trans}
+use Rattle.std.specs.Io.KnownBytes.{Appends}
+use Rattle.ffv1_wire.specs.Failures.{one_more}
 use Rattle.ffv1_wire.specs.Passage.{Passage, between}
-use Rattle.ffv1_reads.specs.Known.{Known}
-use Rattle.ffv1_files.specs.declared.notes.Notes.{Notes}
+use Rattle.ffv1_matroska.specs.declared.told.ToldFault.{ToldFault}
+use Rattle.ffv1_files.specs.Items.{course_by, course_of}
+use Rattle.ffv1_files.specs.Places.{InAvi, InMatroska, Place, container_of}
+use Rattle.ffv1_files.specs.Readers.{Standing}
+use Rattle.ffv1_files.specs.Salvaged.{SomeTold}
 use Rattle.ffv1_video.specs.declared.profile.Profile.{Profile}
 use Rattle.ffv1_video.specs.declared.fault.Fault.{Fault}
 use Rattle.ffv1_video.specs.declared.fault.Fault.TheVariants as fault
+use Rattle.ffv1_video.specs.Output.{Silent}
 use Rattle.ffv1_video.specs.Profiles.{byte_told, scope_in}
-use Rattle.ffv1_unpack.specs.AllItems.{DoneBy}
 use Rattle.ffv1_unpack.specs.Check.{IsCheckFault}
-use Rattle.ffv1_unpack.specs.CheckAll.{AllDone, AllStops}
+use Rattle.ffv1_unpack.specs.CheckAll.{AllStops, judged_count}
+use Rattle.ffv1_unpack.specs.Judged.{IsJudged, judged_lines, payload_of}
 use Rattle.ffv1_unpack.specs.Located.{LocatedFault, WritesLine, located_text}
 use Rattle.ffv1_unpack.specs.Opens.{IsReadAgain, LacksOpening}
 use Rattle.ffv1_unpack.specs.Play.{LacksStream}
 use Rattle.ffv1_unpack.specs.Told.{is_telling_fault}
-use Rattle.ffv1_unpack.specs.ToldItems.{AgainFault, CantOpen, HasToldFault, IsTriedAgain, ToldItemsEnd, ToldItemsThen, is_told}
-use Rattle.ffv1_files.specs.Items.{course_by, course_of}
-use Rattle.ffv1_files.specs.Places.{InAvi, InMatroska, Place, container_of}
-use Rattle.ffv1_files.specs.Readers.{Standing}
+use Rattle.ffv1_unpack.specs.ToldItems.{IsReadAgainOrTold, IsTried, LacksTelling, ToldLacks, ToldWrites, is_told, told_lines}
 use Rattle.ffv1_unpack.specs.Internal.Containers.{is_segment, told_at}
 use Rattle.ffv1_unpack.specs.Internal.Plainly.{is_plain}
-use Rattle.ffv1_unpack.specs.Internal.Told.{IsToldFault, WritesFrame}
-use Rattle.ffv1_unpack.proofs.ItemsJudged.{line_own}
+use Rattle.ffv1_unpack.specs.Internal.Told.{IsToldFault}
+use Rattle.ffv1_unpack.proofs.FaultsLocated.{none_appended}
+use Rattle.ffv1_unpack.proofs.FileChecked.{lacks_opening}
+use Rattle.ffv1_unpack.proofs.FileItems.{items_unopened}
 use Rattle.ffv1_unpack.proofs.ItemsCourse.{plain_avi}
-use Rattle.ffv1_unpack.proofs.ReadAgain.{other_again, telling_again}
-
-pub either_err : {X E : Type 0} (P Q : E → Type 0) (r : Result X E) → IfErr r P → IfErr r (λ e. P e ⊎ Q e)
-either_err P Q (Ok x) h = h
-either_err P Q (Err e) h = inl h
+use Rattle.ffv1_unpack.proofs.OpenedAs.{either_on}
+use Rattle.ffv1_unpack.proofs.ReadAgain.{telling_again}
 
 pub ok_so : {X E : Type 0} (P Q : X → Type 0) (r : Result X E) → ((x : X) → P x → Q x) → IfOk r P → IfOk r Q
 ok_so P Q (Ok x) so h = so x h
@@ -43,44 +46,70 @@ told_content profile p fault.Checksum is h = h
 told_content profile p fault.BadElement is h = h
 told_content profile p f is h = absurd (cc)
 
-pub told_tracks : (f : Fault) → is_told f ≡ true → f ≡ fault.NoTracks → ⊥
-told_tracks f is same = absurd (let no : false ≡ true = subst (λ z. is_told z ≡ true) same is in cc)
+-- ---- it is refused before its first frame
 
-module _ (profile : Profile) (place : Bool) (i0 i1 i3 : Option (List ℕ)) (ib im id : ℕ) (output : Passage) (f : Fault) (is : is_told f ≡ true) (lacks : LacksOpening profile (between i0 i1 ib im) f) where
-  kept : im ≡ ib
-  kept = (told_content profile (between i0 i1 ib im) f is lacks).0
+pub either_told : (ts : List ToldFault) → (ts ≡ []) ⊎ SomeTold ts
+either_told [] = inl refl
+either_told (t ∷ ts) = inr (λ none. absurd (cc (none)))
 
-  has : HasToldFault profile (between i0 i3 ib id)
-  has = (i1, f, is, (told_content profile (between i0 i1 ib im) f is lacks).1)
+-- no line of a byte
+no_line : (byte : Bool) (offset : ℕ) → located_text byte 0 fault.OutOfMemory offset ≡ []
+no_line true offset = refl
+no_line false offset = refl
 
-  pub again_ok : (first : Option Fault) (notes : Notes) → DoneBy ToldItemsThen ToldItemsEnd profile place (between i0 i3 im id) output first notes → AllDone profile place (between i0 i3 ib id) output first notes
-  again_ok first notes done = inr (inr (has, subst (λ n. DoneBy ToldItemsThen ToldItemsEnd profile place (between i0 i3 n id) output first notes) kept done))
+pub nothing_written : (output : Passage) → WritesLine [] [] output → Silent output
+nothing_written output (inl (same, none)) = record { kept = none_appended output.old output.new none; same = same }
+nothing_written output (inr (failed, k, few, some)) = absurd (omega (arith, few))
 
-  pub again_err : (byte : Bool) (offset : ℕ) → LocatedFault (scope_in profile) (between i0 i1 ib im) f offset → byte ≡ byte_told profile place → (g : Fault) →
-      AgainFault profile place (between i0 i3 im id) output g ⊎ ((g ≡ f) × (id ≡ im) × Known i0 i3 (CantOpen profile) × WritesLine [] (located_text byte 0 f offset) output) → AllStops profile place (between i0 i3 ib id) output g
-  again_err byte offset located told g (inl fails) = inr (inr (inl (has, subst (λ n. AgainFault profile place (between i0 i3 n id) output g) kept fails)))
-  again_err byte offset located told g (inr (same, count, cant, line)) = subst (AllStops profile place (between i0 i3 ib id) output) (sym same) (inr (inr (inr (
-    i1,
-    is,
-    record {
-      offset = offset;
-      stops = subst (λ n. LocatedFault (scope_in profile) (between i0 i1 ib n) f offset) (sym count) located;
-      writes = subst (λ b. WritesLine [] (located_text b 0 f offset) output) told line;
-    },
-    subst (λ n. LacksOpening profile (between i0 i1 ib n) f) (sym count) lacks,
-    count ∙ kept,
-    cant,
-  ))))
+pub memory_silent : (byte : Bool) (offset : ℕ) (f : Fault) (output : Passage) → f ≡ fault.OutOfMemory → WritesLine [] (located_text byte 0 f offset) output → Silent output
+memory_silent byte offset f output is writes = nothing_written output (subst (λ z. WritesLine [] z output) (ap (λ z. located_text byte 0 z offset) is ∙ no_line byte offset) writes)
 
-  pub again_own : IsCheckFault profile f → (g : Fault) → (is_telling_fault g ≡ true) ⊎ (g ≡ fault.NoFrames) ⊎ (g ≡ f) → IsCheckFault profile g
-  again_own own g (inl telling) = inr (inl telling)
-  again_own own g (inr (inl none)) = inr (inr (inl none))
-  again_own own g (inr (inr same)) = subst (IsCheckFault profile) (sym same) own
+-- the line of the byte comes after the lines of what is told
+pub line_after : (o0 o1 o2 : Option (List ℕ)) (ob om oa : ℕ) (lines last : List ℕ) → om ≡ ob → Appends o0 o1 lines → WritesLine [] last (between o1 o2 om oa) → WritesLine lines last (between o0 o2 ob oa)
+line_after o0 o1 o2 ob om oa lines last same first (inl (kept, next)) = inl (kept ∙ same, Appends-trans o0 o1 o2 lines last first next)
+line_after o0 o1 o2 ob om oa lines last same first (inr (failed, k, few, next)) = inr (failed ∙ ap one_more same, k, few, Appends-trans o0 o1 o2 lines _ first next)
 
-  pub again_again : (begins : Bool) (p : Passage) (g : Fault) → (is_telling_fault g ≡ true) ⊎ (g ≡ fault.NoFrames) ⊎ (g ≡ f) → IsReadAgain profile begins p g
-  again_again begins p g (inl telling) = telling_again profile begins p g telling
-  again_again begins p g (inr (inl none)) = subst (IsReadAgain profile begins p) (sym none) tt
-  again_again begins p g (inr (inr same)) = subst (IsReadAgain profile begins p) (sym same) (other_again profile begins p f (told_tracks f is))
+module _ (profile : Profile) (place : Bool) (i0 i1 o0 o1 : Option (List ℕ)) (ib im ob om : ℕ) (start : ℕ) (ts : List ToldFault) (f : Fault) (offset : ℕ) (byte : Bool) (g : Fault) where
+  abbrev input : Passage
+  input = between i0 i1 ib im
+
+  abbrev output : Passage
+  output = between o0 o1 ob om
+
+  plainly_refused : LacksOpening profile input f ⊎ LacksTelling profile input f → LocatedFault (scope_in profile) input f offset → WritesLine [] (located_text (byte_told profile place) 0 f offset) output → AllStops profile place input output f
+  plainly_refused (inl lacks) located writes = elim (either_on profile i0) [
+    | inl avi ↦ inl (avi, lacks_opening IsJudged payload_of (judged_lines place) judged_count profile place i0 i1 o0 o1 ib im ob om f offset lacks located writes)
+    | inr matroska ↦ inr (inl (matroska, items_unopened profile place i0 i1 o0 o1 ib im ob om f offset lacks located writes))
+  ]
+  plainly_refused (inr (has, is, kept)) located writes =
+      let silent = memory_silent (byte_told profile place) offset f output is writes in
+      subst (AllStops profile place input output) (sym is) (inr (inr (inl (has, inr (inr (silent, kept))))))
+
+  pub check_refused : byte ≡ byte_told profile place → (ts ≡ [] → LacksOpening profile input f ⊎ LacksTelling profile input f) → (ts ≡ [] → LocatedFault (scope_in profile) input f offset) → (SomeTold ts → ToldLacks profile input start ts f offset) →
+      (ts ≡ [] → (g ≡ f) × WritesLine [] (located_text byte 0 f offset) output) → (SomeTold ts → ToldWrites byte output start ts f offset g) → AllStops profile place input output g
+  check_refused tells lacks located told plain writes = elim (either_told ts) [
+    | inl none ↦ subst (AllStops profile place input output) (sym (plain none).0)
+        (plainly_refused (lacks none) (located none) (subst (λ b. WritesLine [] (located_text b 0 f offset) output) tells (plain none).1))
+    | inr some ↦ inr (inr (inr (record {
+      refusal = f;
+      refused = record { start = start; faults = ts; some = some; offset = offset; lacks = told some };
+      writes = subst (λ b. ToldWrites b output start ts f offset g) tells (writes some);
+    })))
+  ]
+
+-- which fault that is
+module _ (profile : Profile) (f g : Fault) (own : (g ≡ f) ⊎ (is_telling_fault g ≡ true)) where
+  pub refused_own : IsCheckFault profile f → IsCheckFault profile g
+  refused_own is_own = elim own [
+    | inl same ↦ subst (IsCheckFault profile) (sym same) is_own
+    | inr telling ↦ inr (inl telling)
+  ]
+
+  pub refused_again : (begins : Bool) (p : Passage) → IsReadAgainOrTold profile begins p f → IsReadAgainOrTold profile begins p g
+  refused_again begins p again = elim own [
+    | inl same ↦ subst (IsReadAgainOrTold profile begins p) (sym same) again
+    | inr telling ↦ inl (telling_again profile begins p g telling)
+  ]
 
 -- ---- that it was tried
 
@@ -89,57 +118,43 @@ no_telling fault.Checksum telling told = absurd (cc (telling))
 no_telling fault.BadElement telling told = absurd (cc (telling))
 no_telling f telling told = absurd (cc (told))
 
-module _ (profile : Profile) (begins : Bool) (p : Passage) where
-  pub tried_telling : (f : Fault) → is_telling_fault f ≡ true → IsTriedAgain profile begins p f
-  tried_telling f telling = λ told able. no_telling f telling told
+module _ (p : Passage) where
+  pub tried_telling : (f : Fault) → is_telling_fault f ≡ true → IsTried p f
+  tried_telling f telling = λ told. no_telling f telling told
 
-  pub tried_line : (line : List ℕ) (written : Passage) (f : Fault) → WritesFrame line written (Err f) → IsTriedAgain profile begins p f
-  tried_line line written f h = tried_telling f (line_own line written f h)
+  pub refused_tried : (f g : Fault) → (g ≡ f) ⊎ (is_telling_fault g ≡ true) → IsTried p f → IsTried p g
+  refused_tried f g (inl same) tried = subst (IsTried p) (sym same) tried
+  refused_tried f g (inr telling) tried = tried_telling g telling
 
-  told_avi : (r : Standing) (left : Option (List ℕ)) (place : Place) (f : Fault) → is_segment (container_of place) ≡ false → told_at r left place f → IsTriedAgain profile begins p f
-  told_avi r left (InAvi q) f avi (is, whole) = λ told able. absurd (let no : false ≡ true = subst (λ z. is_told z ≡ true) is told in cc)
+  told_avi : (r : Standing) (left : Option (List ℕ)) (place : Place) (f : Fault) → is_segment (container_of place) ≡ false → told_at r left place f → IsTried p f
+  told_avi r left (InAvi q) f avi (is, whole) = λ told. absurd (let no : false ≡ true = subst (λ z. is_told z ≡ true) is told in cc)
   told_avi r left (InMatroska size track q) f avi h = absurd (let no : true ≡ false = avi in cc)
 
-  pub tried_avi : (r : Standing) (left : Option (List ℕ)) (f : Fault) → is_segment (container_of r.place) ≡ false → IsToldFault r left f → IsTriedAgain profile begins p f
+  tried_avi : (r : Standing) (left : Option (List ℕ)) (f : Fault) → is_segment (container_of r.place) ≡ false → IsToldFault r left f → IsTried p f
   tried_avi r left f avi (inl telling) = tried_telling f telling
   tried_avi r left f avi (inr h) = told_avi r left r.place f avi h
+
+  none_tried : (f : Fault) → f ≡ fault.NoFrames → IsTried p f
+  none_tried f none = subst (IsTried p) (sym none) (λ told. absurd (let no : false ≡ true = told in cc))
 
 -- where the first movi alone is read
 plain_place : (place : Place) (offset : ℕ) → is_plain (course_by place offset) ≡ true → is_segment (container_of place) ≡ false
 plain_place place offset plain = ap is_segment (plain_avi place offset plain)
 
-module _ (profile : Profile) (begins : Bool) (p : Passage) where
-  pub plain_tried : (r : Standing) (left : Option (List ℕ)) → is_plain (course_of r) ≡ true → (f : Fault) → (f ≡ fault.NoFrames) ⊎ IsToldFault r left f → IsTriedAgain profile begins p f
-  plain_tried r left plain f (inl none) = subst (IsTriedAgain profile begins p) (sym none) (λ told able. absurd (let no : false ≡ true = told in cc))
-  plain_tried r left plain f (inr told) = tried_avi profile begins p r left f (plain_place r.place r.offset plain) told
+module _ (p : Passage) where
+  pub plain_tried : (r : Standing) (left : Option (List ℕ)) → is_plain (course_of r) ≡ true → (f : Fault) → (f ≡ fault.NoFrames) ⊎ IsToldFault r left f → IsTried p f
+  plain_tried r left plain f (inl none) = none_tried p f none
+  plain_tried r left plain f (inr told) = tried_avi p r left f (plain_place r.place r.offset plain) told
 
   -- and where items are judged
-  pub on_tried : (f : Fault) → (is_telling_fault f ≡ true) ⊎ (f ≡ fault.NoFrames) → IsTriedAgain profile begins p f
-  on_tried f (inl telling) = tried_telling profile begins p f telling
-  on_tried f (inr none) = subst (IsTriedAgain profile begins p) (sym none) (λ told able. absurd (let no : false ≡ true = told in cc))
+  pub on_tried : (f : Fault) → (is_telling_fault f ≡ true) ⊎ (f ≡ fault.NoFrames) → IsTried p f
+  on_tried f (inl telling) = tried_telling p f telling
+  on_tried f (inr none) = none_tried p f none
 
-  pub on_again : (f : Fault) → (is_telling_fault f ≡ true) ⊎ (f ≡ fault.NoFrames) → IsReadAgain profile begins p f
-  on_again f (inl telling) = telling_again profile begins p f telling
-  on_again f (inr none) = subst (IsReadAgain profile begins p) (sym none) tt
+pub on_again : (profile : Profile) (begins : Bool) (p : Passage) (f : Fault) → (is_telling_fault f ≡ true) ⊎ (f ≡ fault.NoFrames) → IsReadAgain profile begins p f
+on_again profile begins p f (inl telling) = telling_again profile begins p f telling
+on_again profile begins p f (inr none) = subst (IsReadAgain profile begins p) (sym none) tt
 
 pub on_checks : (profile : Profile) (f : Fault) → (is_telling_fault f ≡ true) ⊎ (f ≡ fault.NoFrames) → IsCheckFault profile f
 on_checks profile f (inl telling) = inr (inl telling)
 on_checks profile f (inr none) = inr (inr (inl none))
-
--- as it is judged it has no such fault
-no_stop : {P : Type 0} (profile : Profile) (place : Bool) (input output : Passage) (f : Fault) → is_told f ≡ true → AgainFault profile place input output f → P
-no_stop profile place input output fault.Checksum told (inl (inl fail)) = absurd fail.stops
-no_stop profile place input output fault.Checksum told (inl (inr (inl end))) = absurd end
-no_stop profile place input output fault.Checksum told (inl (inr (inr count))) = absurd (let no : fault.Checksum ≡ fault.NoFrames = count.0 in cc)
-no_stop profile place input output fault.Checksum told (inr (inl lines)) = absurd lines
-no_stop profile place input output fault.Checksum told (inr (inr again)) = absurd again
-no_stop profile place input output fault.BadElement told (inl (inl fail)) = absurd fail.stops
-no_stop profile place input output fault.BadElement told (inl (inr (inl end))) = absurd end
-no_stop profile place input output fault.BadElement told (inl (inr (inr count))) = absurd (let no : fault.BadElement ≡ fault.NoFrames = count.0 in cc)
-no_stop profile place input output fault.BadElement told (inr (inl lines)) = absurd lines
-no_stop profile place input output fault.BadElement told (inr (inr again)) = absurd again
-no_stop profile place input output f told h = absurd (cc (told))
-
-pub tried_again : (profile : Profile) (place begins : Bool) (i0 i3 : Option (List ℕ)) (ib im id : ℕ) (output : Passage) (f g : Fault) (Line : Type 0) → AgainFault profile place (between i0 i3 im id) output g ⊎ ((g ≡ f) × (id ≡ im) × Known i0 i3 (CantOpen profile) × Line) → IsTriedAgain profile begins (between i0 i3 ib id) g
-tried_again profile place begins i0 i3 ib im id output f g Line (inl fails) = λ told able. no_stop profile place (between i0 i3 im id) output g told fails
-tried_again profile place begins i0 i3 ib im id output f g Line (inr (same, count, cant, line)) = λ told able. cant

@@ -36,7 +36,7 @@ use Rattle.ffv1_unpack.specs.Unpacked.{HasText, LacksTextBy, is_ppm_stream, rows
 use Rattle.ffv1_unpack.specs.declared.judging.JudgedCounts.{JudgedCounts}
 use Rattle.ffv1_unpack.specs.Internal.ItemsEnd.{BehindAnswers, BehindFailsBy}
 use Rattle.ffv1_unpack.specs.Internal.Opens.{stream_of}
-use Rattle.ffv1_unpack.specs.Internal.Reopens.{AgainLacks, Reopens}
+use Rattle.ffv1_unpack.specs.Internal.OpensTold.{OpensTold}
 use Rattle.ffv1_unpack.specs.Internal.Told.{WritesFrame}
 use Rattle.ffv1_unpack.proofs.FaultsLocated.{none_appended}
 use Rattle.ffv1_unpack.proofs.FileUnpacked.{text_own}
@@ -49,7 +49,7 @@ use Rattle.ffv1_unpack.proofs.ToldFirst.{are_told, given_first}
 
 -- ---- how far it goes
 
-module _ (profile : Profile) (i0 i1 i2 : Option (List ℕ)) (ib im ia : ℕ) (r : Standing) (a : Accepted) (start : ℕ) (ts : List ToldFault) (opens : Reopens profile (between i0 i1 ib im) start ts r a) (text : HasText (stream_of r a)) (l0 l1 l2 : Option (List ℕ)) (lb lm la : ℕ)
+module _ (profile : Profile) (i0 i1 i2 : Option (List ℕ)) (ib im ia : ℕ) (r : Standing) (a : Accepted) (start : ℕ) (ts : List ToldFault) (opens : OpensTold profile (between i0 i1 ib im) start ts r a) (text : HasText (stream_of r a)) (l0 l1 l2 : Option (List ℕ)) (lb lm la : ℕ)
     (first : (lm ≡ lb) × Appends l0 l1 (told_lines start ts)) (output : Passage) where
   abbrev s : Stream
   s = stream_of r a
@@ -183,12 +183,12 @@ module _ (profile : Profile) (i0 i1 i2 : Option (List ℕ)) (ib im ia : ℕ) (r 
   ]
 
 -- the lines of what is told are not written
-pub told_unwritten : (profile : Profile) (i0 i1 : Option (List ℕ)) (ib im : ℕ) (r : Standing) (a : Accepted) (start : ℕ) (ts : List ToldFault) → Reopens profile (between i0 i1 ib im) start ts r a → (lines output : Passage) (f : Fault) → Silent output → WritesFrame (told_lines start ts) lines (Err f) → AgainRefused profile (between i0 i1 ib im) lines output f
+pub told_unwritten : (profile : Profile) (i0 i1 : Option (List ℕ)) (ib im : ℕ) (r : Standing) (a : Accepted) (start : ℕ) (ts : List ToldFault) → OpensTold profile (between i0 i1 ib im) start ts r a → (lines output : Passage) (f : Fault) → Silent output → WritesFrame (told_lines start ts) lines (Err f) → AgainRefused profile (between i0 i1 ib im) lines output f
 told_unwritten profile i0 i1 ib im r a start ts opens lines output f silent h = inr (inr (inl (lines_fail profile i0 i1 ib im r a start ts opens lines f h, silent)))
 
 -- ---- what comes after its end
 
-module _ (profile : Profile) (i0 i1 i2 i3 : Option (List ℕ)) (ib im ia ic : ℕ) (r : Standing) (a : Accepted) (start : ℕ) (ts : List ToldFault) (opens : Reopens profile (between i0 i1 ib im) start ts r a) (course : Course) (cued : Bool) (cues : CuedBy (cued_left r.place (course_of r) false) i1 i2 cued) (goes : Goes r i1 i2 course)
+module _ (profile : Profile) (i0 i1 i2 i3 : Option (List ℕ)) (ib im ia ic : ℕ) (r : Standing) (a : Accepted) (start : ℕ) (ts : List ToldFault) (opens : OpensTold profile (between i0 i1 ib im) start ts r a) (course : Course) (cued : Bool) (cues : CuedBy (cued_left r.place (course_of r) false) i1 i2 cued) (goes : Goes r i1 i2 course)
     (text : HasText (stream_of r a)) (l0 l1 l2 l3 : Option (List ℕ)) (lb lm la lc : ℕ) (first : (lm ≡ lb) × Appends l0 l1 (told_lines start ts)) (output : Passage) (xs : List JudgedItem)
     (all : SalvagesAll (ItemsFrom r.place (course_of r)) (stream_of r a) (between i1 i2 im ia) (between l1 l2 lm la) output xs) (counts : JudgedCounts) (were : AreSalvageCounts (is_ppm_stream (stream_of r a)) counts (told_items start ts ++ xs)) where
   abbrev stream : Stream
@@ -247,7 +247,7 @@ module _ (profile : Profile) (i0 i1 i2 i3 : Option (List ℕ)) (ib im ia ic : �
   all_told new notes h some = end_done ToldItemsThen ToldItemsEnd profile i0 i2 i3 ib ia ic stream r course cued l0 l2 l3 lb la lc output items counts items_kept (all.kept ∙ opens.kept) ends_told ends_so ends_another new notes (end_here new notes h) some
 
 -- its pictures have no text
-pub told_lacks : (profile : Profile) (p : Passage) (r : Standing) (a : Accepted) (start : ℕ) (ts : List ToldFault) → Reopens profile p start ts r a → (f : Fault) → LacksTextBy (is_ppm_stream (stream_of r a)) a.configuration f → ToldLacksText profile p f
+pub told_lacks : (profile : Profile) (p : Passage) (r : Standing) (a : Accepted) (start : ℕ) (ts : List ToldFault) → OpensTold profile p start ts r a → (f : Fault) → LacksTextBy (is_ppm_stream (stream_of r a)) a.configuration f → ToldLacksText profile p f
 told_lacks profile p r a start ts opens f lacks = record {
   stream = stream_of r a;
   start = start;
@@ -255,15 +255,3 @@ told_lacks profile p r a start ts opens f lacks = record {
   opens = record { is = opens.stream; from = r.place; offset = r.offset; known = opens.known; kept = opens.kept };
   lacks = lacks;
 }
-
--- it is not opened, or its pictures have no text
-module _ (profile : Profile) (p : Passage) (f : Fault) where
-  pub lacks_again : (lines output : Passage) → Silent lines → Silent output → AgainLacks p f ⊎ ToldLacksText profile p f → AgainRefused profile p lines output f
-  lacks_again lines output no_line no_picture (inl (inl (is, same))) = subst (AgainRefused profile p lines output) (sym is) (inr (inr (inr (inl ((no_line, same), no_picture)))))
-  lacks_again lines output no_line no_picture (inl (inr (is, same))) = subst (AgainRefused profile p lines output) (sym is) (inr (inr (inr (inl ((no_line, same), no_picture)))))
-  lacks_again lines output no_line no_picture (inr lacks) = inr (inr (inr (inr (lacks, no_line, no_picture))))
-
-  pub lacks_own : AgainLacks p f ⊎ ToldLacksText profile p f → IsUnpackFault f
-  lacks_own (inl (inl (is, same))) = inr (inl (ap is_telling_fault is))
-  lacks_own (inl (inr (is, same))) = inr (inl (ap is_telling_fault is))
-  lacks_own (inr h) = text_own (is_ppm_stream h.stream) h.stream.accepted.configuration f h.lacks

@@ -8,7 +8,7 @@ pub mod ImagesOut
 pub mod ItemsEnd
 pub mod Judged
 pub mod JudgedItems
-pub mod Reopens
+pub mod OpensTold
 pub mod Located
 pub mod Md5List
 pub mod Opens

@@ -3,36 +3,36 @@
 use Rattle.std.specs.Prelude.{◌≡◌, ◌⊎◌, ℕ, Bool, true, false, List, [], ◌∷◌, ◌++◌, length, map}
 use Rattle.std.specs.Prelude.{Option}
 use Rattle.ffv1_wire.specs.Failures.{one_more}
-use Rattle.ffv1_wire.specs.Passage.{Passage, between}
-use Rattle.ffv1_record.specs.Reading.{IsRefused}
+use Rattle.ffv1_wire.specs.Passage.{Passage}
+use Rattle.ffv1_record.specs.Accepted.{Accepted}
+use Rattle.ffv1_record.specs.Reading.{IsRefused, ReachesSets}
 use Rattle.ffv1_record.specs.declared.fault.RecordFault.{RecordFault}
 use Rattle.ffv1_reads.specs.Head.{Head}
 use Rattle.ffv1_reads.specs.Known.{Known}
 use Rattle.ffv1_reads.specs.declared.fault.FileFault.{FileFault}
 use Rattle.ffv1_reads.specs.Items.{Given}
-use Rattle.ffv1_matroska.specs.Salvaged.{salvage_read}
 use Rattle.ffv1_matroska.specs.declared.told.ToldFault.{ToldFault}
-use Rattle.ffv1_files.specs.Answers as files
 use Rattle.ffv1_files.specs.Behind.{EndsThere}
 use Rattle.ffv1_files.specs.Items.{course_by, course_of}
 use Rattle.ffv1_files.specs.Places.{Place}
 use Rattle.ffv1_files.specs.Readers.{Standing}
-use Rattle.ffv1_files.specs.Salvaged.{IsSalvaged, given_told, told_offset}
+use Rattle.ffv1_files.specs.Salvaged.{EndsTelling, IsSalvaged, SomeTold, StopsTelling, given_told}
+use Rattle.ffv1_files.specs.Salvaged.{told_offset}
 use Rattle.ffv1_files.specs.declared.notes.Notes.{Notes}
 use Rattle.ffv1_video.specs.declared.profile.Profile.{Profile}
 use Rattle.ffv1_video.specs.declared.fault.Fault.{Fault}
 use Rattle.ffv1_video.specs.declared.fault.Fault.TheVariants as fault
-use Rattle.ffv1_video.specs.Faults.{Cause, cause_of}
+use Rattle.ffv1_video.specs.Faults.{Cause, cause_of, of_avi, of_record}
 use Rattle.ffv1_video.specs.Faults.Cause.{Reading, Writing, Memory, Content}
 use Rattle.ffv1_video.specs.Output.{Silent, WritesUpTo}
-use Rattle.ffv1_video.specs.Profiles.{byte_told, greatest_depth, record_profile, scope_in}
+use Rattle.ffv1_video.specs.Profiles.{byte_told, greatest_depth, record_profile}
 use Rattle.ffv1_unpack.specs.AllItems.{DoneBy, StopsBy}
 use Rattle.ffv1_unpack.specs.Behind.{Looks}
 use Rattle.ffv1_unpack.specs.ItemsEnd.{EndLooks}
 use Rattle.ffv1_unpack.specs.JudgedItems.{ItemsFrom, ItemsNext, ItemsOver, JudgedItem, ToldAt}
 use Rattle.ffv1_unpack.specs.JudgedItems.{told_line}
-use Rattle.ffv1_unpack.specs.Located.{LocatedFault, WritesLocated}
-use Rattle.ffv1_unpack.specs.Opens.{LacksOpening}
+use Rattle.ffv1_unpack.specs.Located.{WritesLine, located_text}
+use Rattle.ffv1_unpack.specs.Opens.{IsReadAgain}
 use Rattle.ffv1_unpack.specs.Play.{LacksStream}
 use Rattle.ffv1_unpack.specs.Stream.{IsStream, Stream}
 
@@ -73,15 +73,6 @@ is_told fault.Checksum = true
 is_told fault.BadElement = true
 is_told f = false
 
--- it can't be opened nevertheless: its bytes have another fault; or the record of its head has one
-abbrev pub CantOpen : Profile → List ℕ → List ℕ → Type 0
-CantOpen profile file rest =
-    ((g : FileFault) × files.FaultsRead salvage_read file rest g)
-    ⊎ ((head : Head) × (from : Place) × (offset : ℕ) × (told : List Given) × (r : RecordFault)
-    × IsSalvaged file rest head from offset told
-    × IsRefused (record_profile profile) (greatest_depth profile) head.config_record head.width
-    head.height r)
-
 -- a file was opened so, with these faults
 pub record ToldOpens (profile : Profile) (input : Passage) (stream : Stream) (start : ℕ)
     (faults : List ToldFault) : Type 0 where
@@ -98,56 +89,117 @@ HasToldFault profile input =
     (left : Option (List ℕ)) × (f : Fault) × (is_told f ≡ true)
     × LacksStream profile input.old left f
 
-module _ (profile : Profile) (input output : Passage) where
-  -- it was opened, and the lines of what is told were not written whole, or memory for them was
-  -- refused
-  abbrev pub ToldFailsBy : Cause → Type 0
-  ToldFailsBy Writing =
-      (stream : Stream) × (start : ℕ) × (faults : List ToldFault)
-      × ToldOpens profile input stream start faults × (output.after ≡ one_more output.before)
-      × WritesUpTo output.old output.new 0 (told_lines start faults)
-  ToldFailsBy Reading = ⊥
-  ToldFailsBy Memory =
-      (stream : Stream) × (start : ℕ) × (faults : List ToldFault)
-      × ToldOpens profile input stream start faults × Silent output
-  ToldFailsBy Content = ⊥
+-- a file has a fault plainly that may be told, and memory for what is told was refused
+abbrev pub LacksTelling : Profile → Passage → Fault → Type 0
+LacksTelling profile input f =
+    HasToldFault profile input × (f ≡ fault.OutOfMemory) × (input.after ≡ input.before)
 
-  -- it was not opened: it could not begin again, or a read failed, which was counted; or memory was
-  -- refused
+-- ---- a file of which something is told, and which is refused before its first frame
+
+-- memory was refused for the sets of a head's record, or for what comes once that is accepted; or
+-- it has this fault
+abbrev pub HeadLacks : Profile → Head → Fault → Type 0
+HeadLacks profile head f =
+    ((f ≡ fault.OutOfMemory)
+    × (ReachesSets (record_profile profile) (greatest_depth profile) head.config_record
+    ⊎ ((a : Accepted) × IsStream profile (record { head = head; accepted = a }))))
+    ⊎ ((r : RecordFault) × (f ≡ of_record r) × IsRefused (record_profile profile)
+    (greatest_depth profile) head.config_record head.width head.height r)
+
+-- its frames begin, with these faults before, and its record is refused
+pub record ToldLacksStream (profile : Profile) (input : Passage) (start : ℕ)
+    (faults : List ToldFault) (f : Fault) : Type 0 where
+  pub head : Head
+  pub from : Place
+  pub offset : ℕ
+  pub known : Known input.old input.new (λ file rest.
+      IsSalvaged file rest head from offset (map (given_told start) faults))
+  pub kept : input.after ≡ input.before
+  pub lacks : HeadLacks profile head f
+
+-- these are told of it, and then it is refused: the reading that tells is, before its frames, after
+-- so many bytes; or its record is
+abbrev pub ToldLacks : Profile → Passage → ℕ → List ToldFault → Fault → ℕ → Type 0
+ToldLacks profile input start faults f offset =
+    ((g : FileFault) × (f ≡ of_avi g) × StopsTelling input start faults g offset)
+    ⊎ ToldLacksStream profile input start faults f
+
+-- some fault is told, and then this one refuses the file
+pub record ToldRefused (profile : Profile) (input : Passage) (f : Fault) : Type 0 where
+  pub start : ℕ
+  pub faults : List ToldFault
+  pub some : SomeTold faults
+  pub offset : ℕ
+  pub lacks : ToldLacks profile input start faults f offset
+
+-- the lines of what is told were not written whole, or memory for them was refused
+abbrev pub LinesFailBy : Passage → ℕ → List ToldFault → Cause → Type 0
+LinesFailBy output start faults Writing =
+    (output.after ≡ one_more output.before)
+    × WritesUpTo output.old output.new 0 (told_lines start faults)
+LinesFailBy output start faults Reading = ⊥
+LinesFailBy output start faults Memory = Silent output
+LinesFailBy output start faults Content = ⊥
+
+-- they were written, and then the line of the byte where it is refused, if that is asked for; the
+-- answer is the fault that refuses it. Or they were not
+abbrev pub ToldWrites : Bool → Passage → ℕ → List ToldFault → Fault → ℕ → Fault → Type 0
+ToldWrites byte output start faults refusal offset f =
+    ((f ≡ refusal)
+    × WritesLine (told_lines start faults) (located_text byte 0 refusal offset) output)
+    ⊎ LinesFailBy output start faults (cause_of f)
+
+-- what was told is written, and then where the file is refused
+pub record ToldStops (profile : Profile) (byte : Bool) (input output : Passage) (f : Fault)
+    : Type 0 where
+  pub refusal : Fault
+  pub refused : ToldRefused profile input refusal
+  pub writes : ToldWrites byte output refused.start refused.faults refusal refused.offset f
+
+-- ---- a file that is opened, of which something is told
+
+module _ (profile : Profile) (input output : Passage) where
+  -- the lines of what is told were not written whole, or memory for them was refused
+  abbrev pub ToldFailsBy : Cause → Type 0
+  ToldFailsBy why =
+      (stream : Stream) × (start : ℕ) × (faults : List ToldFault)
+      × ToldOpens profile input stream start faults × LinesFailBy output start faults why
+
+  -- memory for what is told was refused before it was opened, and nothing was written
   abbrev pub AgainLacksBy : Cause → Type 0
   AgainLacksBy Writing = ⊥
-  AgainLacksBy Reading = Silent output × (input.after ≡ one_more input.before)
+  AgainLacksBy Reading = ⊥
   AgainLacksBy Memory = Silent output × (input.after ≡ input.before)
   AgainLacksBy Content = ⊥
 
 module _ (profile : Profile) (place : Bool) (input output : Passage) where
-  -- why a file that is read again is refused
+  -- why it is refused then
   abbrev pub AgainFault : Fault → Type 0
   AgainFault f =
       StopsBy ToldItemsThen ToldItemsEnd profile place input output f
       ⊎ ToldFailsBy profile input output (cause_of f)
       ⊎ AgainLacksBy profile input output (cause_of f)
 
-  -- it was read again, and all is told and judged
+  -- all is told and judged
   abbrev pub AgainDone : Option Fault → Notes → Type 0
   AgainDone first notes =
       HasToldFault profile input
       × DoneBy ToldItemsThen ToldItemsEnd profile place input output first notes
 
-  -- it can't be opened nevertheless: the answer is that fault, with the line of its byte
-  abbrev pub AgainPlain : Fault → Type 0
-  AgainPlain f =
-      (left : Option (List ℕ)) × (is_told f ≡ true)
-      × WritesLocated (LocatedFault (scope_in profile)
-      (between input.old left input.before input.after)) (byte_told profile place) 0 [] f output
-      × LacksOpening profile (between input.old left input.before input.after) f
-      × (input.after ≡ input.before) × Known input.old input.new (CantOpen profile)
-
+  -- why it is refused; or it is refused before its first frame, after what is told
   abbrev pub AgainStops : Fault → Type 0
-  AgainStops f = (HasToldFault profile input × AgainFault f) ⊎ AgainPlain f
+  AgainStops f =
+      (HasToldFault profile input × AgainFault f)
+      ⊎ ToldStops profile (byte_told profile place) input output f
 
--- that a file has a fault that may be told is, if its input can begin again, an answer only if it
--- can't be opened nevertheless; of any other fault this says nothing
-abbrev pub IsTriedAgain : Profile → Bool → Passage → Fault → Type 0
-IsTriedAgain profile begins p f =
-    is_told f ≡ true → begins ≡ true → Known p.old p.new (CantOpen profile)
+-- that a file lacks Tracks is its fault as it is read again, if its input can begin again; or the
+-- fault of one reading, if something is told before
+abbrev pub IsReadAgainOrTold : Profile → Bool → Passage → Fault → Type 0
+IsReadAgainOrTold profile begins p f = IsReadAgain profile begins p f ⊎ ToldRefused profile p f
+
+-- a fault that may be told is an answer only if the reading that tells is refused with it, or if
+-- the file lacks Tracks where they are looked for first, and has it where it is read again; of any
+-- other fault this says nothing
+abbrev pub IsTried : Passage → Fault → Type 0
+IsTried p f =
+    is_told f ≡ true → (g : FileFault) × (f ≡ of_avi g) × Known p.old p.new (EndsTelling g)

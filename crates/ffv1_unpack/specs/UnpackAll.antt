@@ -4,7 +4,7 @@ use Rattle.std.specs.Prelude.{length, map, slice_get, Option}
 use Rattle.std.specs.Io.KnownBytes.{Appends}
 use Rattle.ffv1_range.specs.Counts.{saturated}
 use Rattle.ffv1_wire.specs.Failures.{one_more}
-use Rattle.ffv1_wire.specs.Passage.{Passage, between}
+use Rattle.ffv1_wire.specs.Passage.{Passage}
 use Rattle.ffv1_wire.specs.Runs.{Line}
 use Rattle.ffv1_codec.specs.Outcome.{OffersLine}
 use Rattle.ffv1_reads.specs.Head.{Head}
@@ -28,13 +28,11 @@ use Rattle.ffv1_unpack.specs.Behind.{Looks, NotedIn}
 use Rattle.ffv1_unpack.specs.Containers.{IsReadOn}
 use Rattle.ffv1_unpack.specs.ItemsEnd.{BeginsAnother, EndTold, ItemsEnd}
 use Rattle.ffv1_unpack.specs.Plays.{BehindReadFails, FrameHasFault, FrameReadFails}
-use Rattle.ffv1_unpack.specs.Opens.{LacksOpening}
 use Rattle.ffv1_unpack.specs.Plays.{NextPayloadLacks}
 use Rattle.ffv1_unpack.specs.Salvaged.{picture_for, salvage_faults, salvage_lines, shown}
 use Rattle.ffv1_unpack.specs.Stream.{AreAll, CodedFrame, IsStream, Stream}
-use Rattle.ffv1_unpack.specs.ToldItems.{AgainLacksBy, CantOpen, HasToldFault, ToldFailsBy}
-use Rattle.ffv1_unpack.specs.ToldItems.{ToldItemsEnd, ToldItemsThen, ToldOpens, is_told}
-use Rattle.ffv1_unpack.specs.ToldItems.{told_lines}
+use Rattle.ffv1_unpack.specs.ToldItems.{AgainLacksBy, HasToldFault, ToldFailsBy, ToldItemsEnd}
+use Rattle.ffv1_unpack.specs.ToldItems.{ToldItemsThen, ToldOpens, ToldStops, told_lines}
 use Rattle.ffv1_unpack.specs.Unpack.{LacksUnpacking}
 use Rattle.ffv1_unpack.specs.Unpacked.{HasText, LacksText, is_ppm_stream, rows_by, text_of}
 
@@ -229,8 +227,8 @@ module _ (profile : Profile) (input lines output : Passage) where
       (Silent lines × Silent output × LacksUnpacking profile input f)
       ⊎ SalvageRefused (ItemsThen profile) (ItemsEnd profile) profile input lines output f
 
--- ---- a Matroska file that is read again, since it has a fault plainly that may be told: what is
--- told before its frames comes first
+-- ---- a Matroska file that has a fault plainly that may be told: what is told before its frames
+-- comes first
 
 -- it was opened, with these faults, and its pictures have no text
 pub record ToldLacksText (profile : Profile) (input : Passage) (f : Fault) : Type 0 where
@@ -262,13 +260,6 @@ module _ (profile : Profile) (input lines output : Passage) where
       ⊎ (AgainLacksBy profile input lines (cause_of f) × Silent output)
       ⊎ (ToldLacksText profile input f × Silent lines × Silent output)
 
-  -- it can't be opened nevertheless: the answer is the fault that it has plainly
-  abbrev pub UnpackPlainFault : Fault → Type 0
-  UnpackPlainFault f =
-      (left : Option (List ℕ)) × (is_told f ≡ true) × Silent lines × Silent output
-      × LacksOpening profile (between input.old left input.before input.after) f
-      × (input.after ≡ input.before) × Known input.old input.new (CantOpen profile)
-
   -- all that the file gives was judged; if it can't be opened plainly, that and what is told before
   -- its frames
   abbrev pub UnpackAllDone : JudgedCounts → Notes → Type 0
@@ -280,4 +271,5 @@ module _ (profile : Profile) (input lines output : Passage) where
   abbrev pub UnpackAllStops : Fault → Type 0
   UnpackAllStops f =
       PlainlyRefused profile input lines output f
-      ⊎ (HasToldFault profile input × AgainRefused f) ⊎ UnpackPlainFault f
+      ⊎ (HasToldFault profile input × AgainRefused f)
+      ⊎ (ToldStops profile false input lines f × Silent output)

@@ -12,17 +12,18 @@ ghost use Rattle.ffv1_unpack.specs.Internal.Opens.{OpensRange};
 ghost use Rattle.ffv1_unpack.specs.Located.{Stands};
 ghost use Rattle.ffv1_unpack.specs.Opens.{IsReadAgain};
 ghost use Rattle.ffv1_unpack.specs.Judged.{counts_line};
-ghost use Rattle.ffv1_unpack.specs.ToldItems.{IsTriedAgain};
+ghost use Rattle.ffv1_unpack.specs.ToldItems.{IsReadAgainOrTold, IsTried};
 ghost use Rattle.ffv1_unpack.specs.Internal.Told.{WritesFrame};
 
 use crate::frame_line::{FrameLine, put_count, put_counts};
 use crate::judging::judge_frames;
 use crate::judging_all::{judge_on, judge_plainly};
+use crate::opening_all::{none_told, open_telling};
 use crate::passing::{notes_after, pass_frames};
 use crate::plainly::is_plain;
 use crate::player::{Player, open_player_located};
-use crate::reopening::{check_again, is_told, refused_at};
 use crate::telling::{Places, Telling, tell_byte, tell_frames};
+use crate::told_first::{judge_told, refused_at, tell_refused};
 use ffv1_files::{Notes, laws as files_laws};
 use ffv1_video::{Fault, Profile};
 use ffv1_wire::{AgainIn, ByteOut, write_all};
@@ -225,11 +226,13 @@ pub(crate) fn write_counts<W: ByteOut, A: Allocator + Copy>(
 ///
 /// A frame of an AVI that has no bytes has the line that `check` writes of it, and no fault.
 ///
-/// If a Matroska file is refused before its first frame, and the input can begin again, it is read
-/// again from its beginning, as `FileReader::open_salvaged` does: the CRC-32 of the header of EBML
-/// or of an element that is not the sum, `Checksum`, and an element of known size that may not
-/// stand in a Segment, `BadElement`, are told first, at most sixteen, and each is one fault. If it
-/// can't be opened so either, it is refused with the fault that it had.
+/// A Matroska file is read once up to its first frame, as `FileReader::open_told` does: the CRC-32
+/// of the header of EBML or of an element that is not the sum, `Checksum`, and an element of known
+/// size that may not stand in a Segment, `BadElement`, are told first, at most sixteen, and each is
+/// one fault. If a fault ends that before the first frame, the lines of what is told are written,
+/// and it is the answer. So these two are an answer only if they can't be told: the seventeenth
+/// fault, and an element of unknown size. If nothing is told, and the first Cluster comes before
+/// any Tracks, it is read again from its beginning, as `check` does, if the input can begin again.
 ///
 /// Answers the first fault of either kind, and None if there is none, and what is noted of the end,
 /// as `check` does. If another file begins after it, that is told, too: the line of a fault with
@@ -243,8 +246,8 @@ pub(crate) fn write_counts<W: ByteOut, A: Allocator + Copy>(
 /// (`EmptyFrame`, too); `NoFrames` at the end if there was neither a frame nor a fault; `Read`,
 /// `OutOfMemory` and `Write` as they come, `Write` also if the line of a frame's place, or of a
 /// fault that is told, is not written. With `place`, at `Wide`, a fault of the file up to its first
-/// frame has the line of its byte, as `check` writes it, but not a read that fails among the
-/// frames, or as it is read again.
+/// frame has the line of its byte, as `check` writes it, after the lines of what is told; not so a
+/// read that fails among the frames.
 pub fn check_all<R: AgainIn, W: ByteOut, A: Allocator + Copy>(
     alloc: A,
     profile: Profile,
@@ -259,26 +262,19 @@ pub fn check_all<R: AgainIn, W: ByteOut, A: Allocator + Copy>(
         (passage R.remaining R.failures input.old input.new)
         (passage W.contents W.failures output.old output.new)) }
     ensures own { IfErr result (IsCheckFault profile) }
-    ensures again { IfErr result (IsReadAgain profile (R.begins input.old)
+    ensures again { IfErr result (IsReadAgainOrTold profile (R.begins input.old)
         (passage R.remaining R.failures input.old input.new)) }
-    ensures tried { IfErr result (IsTriedAgain profile (R.begins input.old)
-        (passage R.remaining R.failures input.old input.new)) }
+    ensures tried { IfErr result (IsTried (passage R.remaining R.failures input.old input.new)) }
 {
     let byte = profile.tells_byte(place);
     let mut offset = 0u64;
-    let start = input.start();
-    match open_player_located(alloc, profile, input, &mut offset) {
-        Err(fault) => {
-            if is_told(fault) {
-                if let Some(start) = start {
-                    let refused = refused_at(fault, offset, place, byte);
-                    return check_again(alloc, profile, input, &start, output, refused);
-                }
-            }
-            tell_byte(output, byte, 0, offset, fault);
-            Err(fault)
-        }
+    let mut told = none_told(alloc);
+    match open_telling(alloc, profile, input, &mut offset, &mut told) {
+        Err(fault) => Err(tell_refused(alloc, output, &told, refused_at(fault, offset, byte))),
         Ok(mut player) => {
+            if !told.faults.is_empty() {
+                return judge_told(alloc, &mut player, &told, input, output, place);
+            }
             if is_plain(player.reader.course()) {
                 judge_plainly(alloc, &mut player, input, output, Places { place, byte })
             } else {

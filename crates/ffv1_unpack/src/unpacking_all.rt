@@ -1,7 +1,7 @@
 //! Unpacks all frames of a file that may be damaged into pictures.
 
 ghost use Rattle.std.specs.Prelude.{◌≡◌, ◌⊎◌, ◌-◌, ◌^◌, ℕ, IfErr, IfOk, List, None, Ok, Option};
-ghost use Rattle.std.specs.Prelude.{false, length, true};
+ghost use Rattle.std.specs.Prelude.{[], false, length, true};
 ghost use Rattle.ffv1_wire.specs.Passage.{passage};
 ghost use Rattle.ffv1_record.specs.Accepted.{IsAccepted};
 ghost use Rattle.ffv1_record.specs.Configuration.{is_rct};
@@ -19,61 +19,81 @@ ghost use Rattle.ffv1_unpack.specs.Internal.Plainly.{is_plain};
 ghost use Rattle.ffv1_unpack.specs.Internal.ItemsEnd.{BehindAnswers, BehindFailsBy};
 ghost use Rattle.ffv1_unpack.specs.Internal.Located.{ComesToEnd};
 ghost use Rattle.ffv1_unpack.specs.declared.judging.JudgedCounts.{JudgedCounts};
-ghost use Rattle.ffv1_files.specs.Offsets.{Reached};
 ghost use Rattle.ffv1_video.specs.Faults.{cause_of};
 ghost use Rattle.ffv1_video.specs.declared.fault.Fault.TheVariants as fault;
 ghost use Rattle.ffv1_video.specs.Profiles.{scope_in};
 ghost use Rattle.ffv1_unpack.specs.JudgedItems.{ItemsFrom, JudgedItem};
 ghost use Rattle.ffv1_unpack.specs.Internal.Opens.{OpensStream, stream_of};
 ghost use Rattle.ffv1_unpack.specs.Internal.Unpack.{IsWritingFault};
-ghost use Rattle.ffv1_unpack.specs.ToldItems.{IsTriedAgain, is_told};
+ghost use Rattle.ffv1_files.specs.Salvaged.{SomeTold};
+ghost use Rattle.ffv1_video.specs.declared.profile.Profile.TheVariants.{Wide};
+ghost use Rattle.ffv1_unpack.specs.Internal.OpensTold.{OpensTold};
+ghost use Rattle.ffv1_unpack.specs.ToldItems.{HasToldFault, IsReadAgainOrTold, IsTried};
+ghost use Rattle.ffv1_unpack.specs.ToldItems.{LacksTelling, ToldLacks, is_told};
 ghost use Rattle.ffv1_unpack.specs.Unpack.{IsUnpackFault, IsUnpackFaultIn, LacksUnpacking};
 ghost use Rattle.ffv1_unpack.specs.UnpackAll.{AreSalvageCounts, SalvageStopsBy, SalvagesAll};
-ghost use Rattle.ffv1_unpack.specs.UnpackAll.{UnpackAllDone, UnpackAllStops};
+ghost use Rattle.ffv1_unpack.specs.UnpackAll.{ToldLacksText, UnpackAllDone, UnpackAllStops};
 ghost use Rattle.ffv1_unpack.specs.Unpacked.{HasText};
 ghost use Rattle.ffv1_unpack.specs.Located.{Stands};
-ghost use Rattle.ffv1_unpack.specs.Opens.{IsReadAgain};
 
 use crate::behind::tell_behind;
 use crate::judging::JudgedCounts;
+use crate::opening_all::{none_told, open_telling};
 use crate::picture_out::TextOut;
 use crate::pictures_out::text_head;
-use crate::player::{Player, open_player_located};
-use crate::reopening::is_told;
+use crate::player::Player;
 use crate::salvaging::salvage_items;
+use crate::told_first::{refused_at, tell_refused};
 use crate::unpacking::check_text;
-use crate::unpacking_again::{or_refused, unpack_again};
+use crate::unpacking_told::salvage_told;
 use ffv1_codec::KeepLines;
-use ffv1_files::Notes;
+use ffv1_files::{Notes, ToldFaults};
 use ffv1_record::{Colour, laws as record_laws};
 use ffv1_video::{Fault, Profile};
 use ffv1_wire::{AgainIn, ByteIn, ByteOut};
 use ffv1_y4m::PpmWriter;
 use std::alloc::Allocator;
 
-/// Opens a file whose pictures have a text, and makes the decoder of its frames.
+/// Opens a file as `open_telling` does whose pictures have a text. If they have none, nothing is
+/// told.
 fn open_whole<R: AgainIn, A: Allocator + Copy>(
     alloc: A,
     profile: Profile,
     input: &mut R,
+    told: &mut ToldFaults<A>,
 ) -> Result<Player<A>, Fault>
-    ensures ok { IfOk result (λ p. OpensStream profile p.reader p.decoder.accepted
-        (passage R.remaining R.failures input.old input.new)) }
-    ensures located { IfOk result (λ p. Reached (scope_in profile) (R.remaining input.old)
-        (R.remaining input.new) p.reader) }
-    ensures stands { IfOk result (λ p. Stands (scope_in profile) (R.remaining input.old)
-        (R.remaining input.new) p.reader) }
+    requires none { told.old.faults.items ≡ [] }
+    ensures ok { told.new.faults.items ≡ [] → IfOk result (λ p. OpensStream profile p.reader
+        p.decoder.accepted (passage R.remaining R.failures input.old input.new)) }
+    ensures stands { told.new.faults.items ≡ [] → IfOk result (λ p. Stands (scope_in profile)
+        (R.remaining input.old) (R.remaining input.new) p.reader) }
     ensures text { IfOk result (λ p. HasText (stream_of p.reader p.decoder.accepted)) }
     ensures uncued { IfOk result (λ p. p.cued ≡ false) }
-    ensures err { IfErr result (LacksUnpacking profile
+    ensures told { SomeTold told.new.faults.items → IfOk result (λ p. OpensTold profile
+        (passage R.remaining R.failures input.old input.new) told.new.data told.new.faults.items
+        p.reader p.decoder.accepted) }
+    ensures plainly { SomeTold told.new.faults.items → IfOk result (λ p. HasToldFault profile
         (passage R.remaining R.failures input.old input.new)) }
+    ensures wide { SomeTold told.new.faults.items → profile ≡ Wide }
+    ensures err { told.new.faults.items ≡ [] → IfErr result (λ f.
+        LacksUnpacking profile (passage R.remaining R.failures input.old input.new) f
+        ⊎ LacksTelling profile (passage R.remaining R.failures input.old input.new) f
+        ⊎ (HasToldFault profile (passage R.remaining R.failures input.old input.new)
+        × ToldLacksText profile (passage R.remaining R.failures input.old input.new) f)) }
+    ensures refused { SomeTold told.new.faults.items → IfErr result (λ f. (offset : ℕ)
+        × ToldLacks profile (passage R.remaining R.failures input.old input.new) told.new.data
+        told.new.faults.items f offset) }
     ensures own { IfErr result (IsUnpackFaultIn profile) }
-    ensures again { IfErr result (IsReadAgain profile (R.begins input.old)
+    ensures again { IfErr result (IsReadAgainOrTold profile (R.begins input.old)
         (passage R.remaining R.failures input.old input.new)) }
+    ensures tried { IfErr result (IsTried (passage R.remaining R.failures input.old input.new)) }
 {
     let mut offset = 0u64;
-    let player = open_player_located(alloc, profile, input, &mut offset)?;
-    check_text(player.reader.head(), player.decoder.config())?;
+    let player = open_telling(alloc, profile, input, &mut offset, told)?;
+    if let Err(fault) = check_text(player.reader.head(), player.decoder.config()) {
+        told.faults.clear();
+        return Err(fault);
+    }
     Ok(player)
 }
 
@@ -320,11 +340,10 @@ pub(crate) fn end_all<R: ByteIn, L: ByteOut, A: Allocator + Copy>(
 /// by row, so each payload is decoded twice, first without writing, so that nothing of a refused
 /// picture is written. Beside what `unpack` holds, one payload more is held, the last good one.
 ///
-/// If a Matroska file is refused before its first frame, and the input can begin again, it is read
-/// again from its beginning, as `check_all` does: the faults that are told there have their lines
-/// before all others, and each is one fault more. If it can't be opened so either, it is refused
-/// with the fault that it had, and nothing is written. If it is opened so, and its pictures have no
-/// text, that is its fault, and nothing is told.
+/// A Matroska file is read once up to its first frame, as `check_all` does: the faults that are
+/// told there have their lines before all others, and each is one fault more. If a fault ends that
+/// before the first frame, the lines of what is told are written, and it is the answer. If the
+/// pictures have no text, that is the fault, and nothing is told.
 ///
 /// All other faults end it as they end `unpack`, after the pictures and lines before: those of the
 /// file up to its first frame, of its record, `NoY4mName` and `NoPpm`, and at `Strict` of the
@@ -350,25 +369,20 @@ pub fn unpack_all<R: AgainIn, L: ByteOut, W: ByteOut, A: Allocator + Copy>(
         (passage L.contents L.failures lines.old lines.new)
         (passage W.contents W.failures output result.0)) }
     ensures own { IfErr result.1 (IsUnpackFaultIn profile) }
-    ensures again { IfErr result.1 (IsReadAgain profile (R.begins input.old)
+    ensures again { IfErr result.1 (IsReadAgainOrTold profile (R.begins input.old)
         (passage R.remaining R.failures input.old input.new)) }
-    ensures tried { IfErr result.1 (IsTriedAgain profile (R.begins input.old)
-        (passage R.remaining R.failures input.old input.new)) }
+    ensures tried { IfErr result.1 (IsTried (passage R.remaining R.failures input.old input.new)) }
 {
-    let start = input.start();
-    match open_whole(alloc, profile, input) {
+    let mut told = none_told(alloc);
+    match open_whole(alloc, profile, input, &mut told) {
         Err(fault) => {
-            if is_told(fault) {
-                if let Some(start) = start {
-                    let (output, answer) = unpack_again(
-                        alloc, profile, input, &start, lines, output,
-                    );
-                    return (output, or_refused(answer, fault));
-                }
-            }
+            let fault = tell_refused(alloc, lines, &told, refused_at(fault, 0, false));
             (output, Err(fault))
         }
         Ok(mut player) => {
+            if !told.faults.is_empty() {
+                return salvage_told(alloc, &mut player, &told, input, lines, output);
+            }
             let (output, answer) = salvage_file(alloc, &mut player, input, lines, output);
             match answer {
                 Err(fault) => (output, Err(fault)),

@@ -11,7 +11,7 @@ use Rattle.ffv1_matroska.specs.Offsets.{BeforeSegment, spot_taken}
 use Rattle.ffv1_matroska.specs.Opening.{most_elements, root_or_on, root_read, segment_entered}
 use Rattle.ffv1_matroska.specs.Opening.{segment_up_to}
 use Rattle.ffv1_matroska.proofs.SpotReadings.{counts_on, none_left, opening_stops, root_refused}
-use Rattle.ffv1_matroska.proofs.SpotReadings.{root_whole}
+use Rattle.ffv1_matroska.proofs.SpotReadings.{counted_all, counted_none, counted_read, root_whole}
 use Rattle.ffv1_matroska.proofs.opening.enter_segment.Goals as goal
 
 pub loop-element-init : goal.loop-element-init
@@ -21,6 +21,7 @@ loop-element-init g c = (
   0,
   reads_none spot_taken (BeforeSegment most_elements) _,
   λ k is. is ∙ offset_same 0 k (2 ^ 64 - 1),
+  counted_none segment_entered _,
 )
 
 pub loop-element-preserved : goal.loop-element-preserved
@@ -36,6 +37,7 @@ loop-element-preserved g c =
       _,
       root_whole most None inv.2 counted.1,
       λ k is. counted.2 ∙ rw (inv.3 k is) (counts_on k inv.1 counted.0 (2 ^ 64 - 1)),
+      counted_read root_read (root_or_on (segment_up_to most)) inv.4 counted.1,
     )
 
 pub returns-in_err-size-clause-answer : goal.returns-in_err-size-clause-answer
@@ -105,4 +107,17 @@ returns-clause-from g c =
       inv.1,
       opening_stops _ fault.NotMatroska inv.0.same inv.2 (none_left _ _),
       inv.3,
+    )
+
+pub returns-in-Some-clause-counted : goal.returns-in-Some-clause-counted
+unfolding segment_up_to
+returns-in-Some-clause-counted g c =
+    let most = 18446744073709551615 - (c.loop-element._element + 1) in
+    let more : 18446744073709551615 - c.loop-element._element ≡ suc most = omega
+    (arith, c.loop-element-test.true) in
+    let inv = rw more at c.loop-element.invariant in
+    let counted = rw c.in-Some.is at c.in_ok-size.ensures.counted in (
+      _,
+      counted_all c.in-Some.size (counted_read root_read (root_or_on (segment_up_to most)) inv.4 counted.1),
+      λ k is. counted.2 ∙ rw (inv.3 k is) (counts_on k inv.1 counted.0 (2 ^ 64 - 1)),
     )

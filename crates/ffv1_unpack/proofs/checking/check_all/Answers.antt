@@ -2,207 +2,170 @@
 -- and at `Wide` after a fault of the file itself.
 use Rattle.std.proofs.Common.{◌≡◌, true, false, ap, sym, ◌∙◌, inl, inr}
 use Rattle.ffv1_wire.specs.Passage.{passage}
-use Rattle.ffv1_video.specs.Profiles.{scope_in}
-use Rattle.ffv1_unpack.specs.CheckAll.{judged_count}
-use Rattle.ffv1_unpack.specs.Judged.{IsJudged, judged_lines, payload_of}
-use Rattle.ffv1_unpack.specs.Located.{Stands}
+use Rattle.ffv1_files.proofs.ToldLists.{none_told, some_told}
 use Rattle.ffv1_unpack.specs.Internal.Plainly.{is_plain}
-use Rattle.ffv1_unpack.specs.ToldItems.{is_told}
-use Rattle.ffv1_unpack.proofs.FileChecked.{lacks_opening}
-use Rattle.ffv1_unpack.proofs.FileItems.{items_unopened}
-use Rattle.ffv1_unpack.proofs.OpenedAs.{either_on, read_on_as}
+use Rattle.ffv1_unpack.proofs.OpenedAs.{read_on_as}
 use Rattle.ffv1_unpack.proofs.OwnFaults.{opening_checks, passing_checks}
-use Rattle.ffv1_unpack.proofs.ReadAgain.{passing_again, telling_again}
-use Rattle.ffv1_unpack.proofs.ToldChecks.{again_again, again_err, again_ok, err_so, ok_so, on_again}
-use Rattle.ffv1_unpack.proofs.ToldChecks.{on_checks, on_tried, plain_tried, tried_again}
+use Rattle.ffv1_unpack.proofs.ReadAgain.{passing_again}
+use Rattle.ffv1_unpack.proofs.ToldChecks.{check_refused, err_so, ok_so, on_again, on_checks, on_tried}
+use Rattle.ffv1_unpack.proofs.ToldChecks.{plain_tried, refused_again, refused_own, refused_tried}
 use Rattle.ffv1_unpack.proofs.checking.check_all.Goals as goal
-
-pub returns-in-Err-clause-err : goal.returns-in-Err-clause-err
-returns-in-Err-clause-err g c =
-    let i = g.R.ByteIn.remaining in
-    let o = g.W.ByteOut.contents in
-    let k = g.R.ByteIn.failures in
-    let n = g.W.ByteOut.failures in
-    let f = c.in-Err.fault in
-    let told = rw c.tells_byte-byte.ensures at c.tell_byte.ensures in
-    elim (either_on c.args.profile (i c.args.input.now)) [
-      | inl avi ↦ inl (
-        avi,
-        lacks_opening IsJudged payload_of (judged_lines c.args.place) judged_count
-            c.args.profile c.args.place (i c.args.input.now)
-            (i c.open_player_located.new.input) (o c.args.output.now)
-            (o c.tell_byte.new.output) (k c.args.input.now)
-            (k c.open_player_located.new.input) (n c.args.output.now)
-            (n c.tell_byte.new.output) f
-            c.open_player_located.new.offset c.in-Err.ensures.err c.in-Err.ensures.stopped
-            told,
-      )
-      | inr matroska ↦ inr (inl (
-        matroska,
-        items_unopened c.args.profile c.args.place (i c.args.input.now)
-            (i c.open_player_located.new.input) (o c.args.output.now)
-            (o c.tell_byte.new.output) (k c.args.input.now)
-            (k c.open_player_located.new.input) (n c.args.output.now)
-            (n c.tell_byte.new.output) f c.open_player_located.new.offset
-            c.in-Err.ensures.err c.in-Err.ensures.stopped told,
-      ))
-    ]
-
-pub returns-in-Err-clause-own : goal.returns-in-Err-clause-own
-returns-in-Err-clause-own g c =
-    opening_checks c.args.profile c.in-Err.fault c.in-Err.ensures.own
 
 pub returns-then-is_plain-clause-ok : goal.returns-then-is_plain-clause-ok
 returns-then-is_plain-clause-ok g c =
-    let stands : Stands (scope_in c.args.profile) (g.R.ByteIn.remaining c.args.input.now)
-    (g.R.ByteIn.remaining c.open_player_located.new.input) c.in-Ok.player.reader = record {
-      reached = c.in-Ok.ensures.located;
-      ends = c.in-Ok.ensures.ends;
-      noted = c.in-Ok.ensures.noted;
-    } in
+    let none = none_told c.open_telling.new.told.faults _ c.is_empty.ensures c.if-not-is_empty.false in
+    let stands = c.in-Ok.ensures.stands none in
     let is = ap is_plain (sym c.course.ensures) ∙ sym c.is_plain.ensures ∙ c.if-is_plain.true in
     let read = read_on_as c.args.profile (g.R.ByteIn.remaining c.args.input.now)
-    (g.R.ByteIn.remaining c.open_player_located.new.input) c.in-Ok.player.reader stands true
+    (g.R.ByteIn.remaining c.open_telling.new.input) c.in-Ok.player.reader stands true
     is in
     ok_so _ _ c.judge_plainly.result (λ told h. inl (read, h))
     (c.judge_plainly.ensures.ok c.args.profile (g.R.ByteIn.remaining c.args.input.now)
-    (g.R.ByteIn.failures c.args.input.now) c.in-Ok.ensures.ok stands)
+    (g.R.ByteIn.failures c.args.input.now) (c.in-Ok.ensures.ok none) stands)
 
 pub returns-then-is_plain-clause-err : goal.returns-then-is_plain-clause-err
 returns-then-is_plain-clause-err g c =
-    let stands : Stands (scope_in c.args.profile) (g.R.ByteIn.remaining c.args.input.now)
-    (g.R.ByteIn.remaining c.open_player_located.new.input) c.in-Ok.player.reader = record {
-      reached = c.in-Ok.ensures.located;
-      ends = c.in-Ok.ensures.ends;
-      noted = c.in-Ok.ensures.noted;
-    } in
+    let none = none_told c.open_telling.new.told.faults _ c.is_empty.ensures c.if-not-is_empty.false in
+    let stands = c.in-Ok.ensures.stands none in
     let is = ap is_plain (sym c.course.ensures) ∙ sym c.is_plain.ensures ∙ c.if-is_plain.true in
     let read = read_on_as c.args.profile (g.R.ByteIn.remaining c.args.input.now)
-    (g.R.ByteIn.remaining c.open_player_located.new.input) c.in-Ok.player.reader stands true
+    (g.R.ByteIn.remaining c.open_telling.new.input) c.in-Ok.player.reader stands true
     is in
     err_so _ _ c.judge_plainly.result (λ f h. inl (read, h))
     (c.judge_plainly.ensures.err c.args.profile (g.R.ByteIn.remaining c.args.input.now)
-    (g.R.ByteIn.failures c.args.input.now) c.in-Ok.ensures.ok stands c.tells_byte-byte.ensures)
+    (g.R.ByteIn.failures c.args.input.now) (c.in-Ok.ensures.ok none) stands c.tells_byte-byte.ensures)
 
 pub returns-then-is_plain-clause-own : goal.returns-then-is_plain-clause-own
 returns-then-is_plain-clause-own g c =
-    let stands : Stands (scope_in c.args.profile) (g.R.ByteIn.remaining c.args.input.now)
-    (g.R.ByteIn.remaining c.open_player_located.new.input) c.in-Ok.player.reader = record {
-      reached = c.in-Ok.ensures.located;
-      ends = c.in-Ok.ensures.ends;
-      noted = c.in-Ok.ensures.noted;
-    } in
+    let none = none_told c.open_telling.new.told.faults _ c.is_empty.ensures c.if-not-is_empty.false in
+    let stands = c.in-Ok.ensures.stands none in
     err_so _ _ c.judge_plainly.result (λ f h. passing_checks c.args.profile c.in-Ok.player.reader
-    (g.R.ByteIn.remaining c.args.input.now) (g.R.ByteIn.remaining c.open_player_located.new.input)
-    f stands c.in-Ok.ensures.ok.within h) c.judge_plainly.ensures.own
+    (g.R.ByteIn.remaining c.args.input.now) (g.R.ByteIn.remaining c.open_telling.new.input)
+    f stands (c.in-Ok.ensures.ok none).within h) c.judge_plainly.ensures.own
 
 pub returns-then-is_plain-clause-again : goal.returns-then-is_plain-clause-again
 returns-then-is_plain-clause-again g c =
-    err_so _ _ c.judge_plainly.result (passing_again c.args.profile (g.R.AgainIn.begins c.args.input.now)
+    err_so _ _ c.judge_plainly.result (λ f h. inl (passing_again c.args.profile (g.R.AgainIn.begins c.args.input.now)
     (passage g.R.ByteIn.remaining g.R.ByteIn.failures c.args.input.now c.judge_plainly.new.input)
-    c.in-Ok.player.reader (g.R.ByteIn.remaining c.open_player_located.new.input))
+    c.in-Ok.player.reader (g.R.ByteIn.remaining c.open_telling.new.input) f h))
     c.judge_plainly.ensures.own
 
 pub returns-then-is_plain-clause-tried : goal.returns-then-is_plain-clause-tried
 returns-then-is_plain-clause-tried g c =
     let is = ap is_plain (sym c.course.ensures) ∙ sym c.is_plain.ensures ∙ c.if-is_plain.true in
-    err_so _ _ c.judge_plainly.result (plain_tried c.args.profile (g.R.AgainIn.begins c.args.input.now)
-    (passage g.R.ByteIn.remaining g.R.ByteIn.failures c.args.input.now c.judge_plainly.new.input)
-    c.in-Ok.player.reader (g.R.ByteIn.remaining c.open_player_located.new.input) is)
+    err_so _ _ c.judge_plainly.result (plain_tried (passage g.R.ByteIn.remaining g.R.ByteIn.failures c.args.input.now c.judge_plainly.new.input)
+    c.in-Ok.player.reader (g.R.ByteIn.remaining c.open_telling.new.input) is)
     c.judge_plainly.ensures.own
 
 pub returns-clause-ok : goal.returns-clause-ok
 returns-clause-ok g c =
-    let stands : Stands (scope_in c.args.profile) (g.R.ByteIn.remaining c.args.input.now)
-    (g.R.ByteIn.remaining c.open_player_located.new.input) c.in-Ok.player.reader = record {
-      reached = c.in-Ok.ensures.located;
-      ends = c.in-Ok.ensures.ends;
-      noted = c.in-Ok.ensures.noted;
-    } in
+    let none = none_told c.open_telling.new.told.faults _ c.is_empty.ensures c.if-not-is_empty.false in
+    let stands = c.in-Ok.ensures.stands none in
     let is = ap is_plain (sym c.course.ensures) ∙ sym c.is_plain.ensures ∙ c.if-is_plain.false in
     let read = read_on_as c.args.profile (g.R.ByteIn.remaining c.args.input.now)
-    (g.R.ByteIn.remaining c.open_player_located.new.input) c.in-Ok.player.reader stands false
+    (g.R.ByteIn.remaining c.open_telling.new.input) c.in-Ok.player.reader stands false
     is in
     ok_so _ _ c.judge_on.result (λ told h. inr (inl (read, h)))
     (c.judge_on.ensures.ok c.args.profile (g.R.ByteIn.remaining c.args.input.now)
-    (g.R.ByteIn.failures c.args.input.now) c.in-Ok.ensures.ok stands c.in-Ok.ensures.uncued)
+    (g.R.ByteIn.failures c.args.input.now) (c.in-Ok.ensures.ok none) stands c.in-Ok.ensures.uncued)
 
 pub returns-clause-err : goal.returns-clause-err
 returns-clause-err g c =
-    let stands : Stands (scope_in c.args.profile) (g.R.ByteIn.remaining c.args.input.now)
-    (g.R.ByteIn.remaining c.open_player_located.new.input) c.in-Ok.player.reader = record {
-      reached = c.in-Ok.ensures.located;
-      ends = c.in-Ok.ensures.ends;
-      noted = c.in-Ok.ensures.noted;
-    } in
+    let none = none_told c.open_telling.new.told.faults _ c.is_empty.ensures c.if-not-is_empty.false in
+    let stands = c.in-Ok.ensures.stands none in
     let is = ap is_plain (sym c.course.ensures) ∙ sym c.is_plain.ensures ∙ c.if-is_plain.false in
     let read = read_on_as c.args.profile (g.R.ByteIn.remaining c.args.input.now)
-    (g.R.ByteIn.remaining c.open_player_located.new.input) c.in-Ok.player.reader stands false
+    (g.R.ByteIn.remaining c.open_telling.new.input) c.in-Ok.player.reader stands false
     is in
     err_so _ _ c.judge_on.result (λ f h. inr (inl (read, h)))
     (c.judge_on.ensures.err c.args.profile (g.R.ByteIn.remaining c.args.input.now)
-    (g.R.ByteIn.failures c.args.input.now) c.in-Ok.ensures.ok stands c.in-Ok.ensures.uncued)
+    (g.R.ByteIn.failures c.args.input.now) (c.in-Ok.ensures.ok none) stands c.in-Ok.ensures.uncued)
 
 pub returns-clause-own : goal.returns-clause-own
 returns-clause-own g c = err_so _ _ c.judge_on.result (on_checks c.args.profile) c.judge_on.ensures.own
 
 pub returns-clause-again : goal.returns-clause-again
 returns-clause-again g c =
-    err_so _ _ c.judge_on.result (on_again c.args.profile (g.R.AgainIn.begins c.args.input.now)
-    (passage g.R.ByteIn.remaining g.R.ByteIn.failures c.args.input.now c.judge_on.new.input))
+    err_so _ _ c.judge_on.result (λ f h. inl (on_again c.args.profile (g.R.AgainIn.begins c.args.input.now)
+    (passage g.R.ByteIn.remaining g.R.ByteIn.failures c.args.input.now c.judge_on.new.input) f h))
     c.judge_on.ensures.own
 
 pub returns-clause-tried : goal.returns-clause-tried
 returns-clause-tried g c =
-    err_so _ _ c.judge_on.result (on_tried c.args.profile (g.R.AgainIn.begins c.args.input.now)
-    (passage g.R.ByteIn.remaining g.R.ByteIn.failures c.args.input.now c.judge_on.new.input))
+    err_so _ _ c.judge_on.result (on_tried (passage g.R.ByteIn.remaining g.R.ByteIn.failures c.args.input.now c.judge_on.new.input))
     c.judge_on.ensures.own
 
-pub returns-in-Some-clause-ok : goal.returns-in-Some-clause-ok
-returns-in-Some-clause-ok g c =
-    let is : is_told c.in-Err.fault ≡ true = sym c.is_told.ensures ∙ c.if-is_told.true in
-    let done = rw (c.refused_at-refused.ensures, c.in-Some.ensures.there) at c.check_again.ensures.ok in
-    ok_so _ _ c.check_again.result (λ r h. again_ok c.args.profile c.args.place
-    (g.R.ByteIn.remaining c.args.input.now) (g.R.ByteIn.remaining c.open_player_located.new.input)
-    (g.R.ByteIn.remaining c.check_again.new.input) (g.R.ByteIn.failures c.args.input.now)
-    (g.R.ByteIn.failures c.open_player_located.new.input)
-    (g.R.ByteIn.failures c.check_again.new.input)
-    (passage g.W.ByteOut.contents g.W.ByteOut.failures c.args.output.now c.check_again.new.output)
-    c.in-Err.fault is c.in-Err.ensures.err r.0 r.1 h) done
+-- ---- it is refused
 
-pub returns-in-Some-clause-err : goal.returns-in-Some-clause-err
-returns-in-Some-clause-err g c =
-    let is : is_told c.in-Err.fault ≡ true = sym c.is_told.ensures ∙ c.if-is_told.true in
-    let stops = rw (c.refused_at-refused.ensures, c.in-Some.ensures.there) at c.check_again.ensures.err in
-    err_so _ _ c.check_again.result (λ f h. again_err c.args.profile c.args.place
-    (g.R.ByteIn.remaining c.args.input.now) (g.R.ByteIn.remaining c.open_player_located.new.input)
-    (g.R.ByteIn.remaining c.check_again.new.input) (g.R.ByteIn.failures c.args.input.now)
-    (g.R.ByteIn.failures c.open_player_located.new.input)
-    (g.R.ByteIn.failures c.check_again.new.input)
-    (passage g.W.ByteOut.contents g.W.ByteOut.failures c.args.output.now c.check_again.new.output)
-    c.in-Err.fault is c.in-Err.ensures.err c.tells_byte-byte.result
-    c.open_player_located.new.offset c.in-Err.ensures.stopped c.tells_byte-byte.ensures f h) stops
+pub returns-in-Err-clause-err : goal.returns-in-Err-clause-err
+returns-in-Err-clause-err g c =
+    let refused = c.refused_at.ensures in
+    check_refused c.args.profile c.args.place (g.R.ByteIn.remaining c.args.input.now)
+    (g.R.ByteIn.remaining c.open_telling.new.input) (g.W.ByteOut.contents c.args.output.now)
+    (g.W.ByteOut.contents c.tell_refused.new.output) (g.R.ByteIn.failures c.args.input.now)
+    (g.R.ByteIn.failures c.open_telling.new.input) (g.W.ByteOut.failures c.args.output.now)
+    (g.W.ByteOut.failures c.tell_refused.new.output) c.open_telling.new.told.data
+    c.open_telling.new.told.faults.items c.in-Err.fault c.open_telling.new.offset
+    c.tells_byte-byte.result c.tell_refused.result c.tells_byte-byte.ensures c.in-Err.ensures.err
+    c.in-Err.ensures.stopped c.in-Err.ensures.refused (rw refused at c.tell_refused.ensures.none)
+    (rw refused at c.tell_refused.ensures.some)
 
-pub returns-in-Some-clause-again : goal.returns-in-Some-clause-again
-returns-in-Some-clause-again g c =
-    let is : is_told c.in-Err.fault ≡ true = sym c.is_told.ensures ∙ c.if-is_told.true in
-    err_so _ _ c.check_again.result (λ f h. again_again c.args.profile c.args.place
-    (g.R.ByteIn.remaining c.args.input.now) (g.R.ByteIn.remaining c.open_player_located.new.input)
-    (g.R.ByteIn.remaining c.check_again.new.input) (g.R.ByteIn.failures c.args.input.now)
-    (g.R.ByteIn.failures c.open_player_located.new.input)
-    (g.R.ByteIn.failures c.check_again.new.input)
-    (passage g.W.ByteOut.contents g.W.ByteOut.failures c.args.output.now c.check_again.new.output)
-    c.in-Err.fault is c.in-Err.ensures.err (g.R.AgainIn.begins c.args.input.now)
-    (passage g.R.ByteIn.remaining g.R.ByteIn.failures c.args.input.now c.check_again.new.input) f h)
-    (rw c.refused_at-refused.ensures at c.check_again.ensures.own)
+pub returns-in-Err-clause-own : goal.returns-in-Err-clause-own
+returns-in-Err-clause-own g c =
+    refused_own c.args.profile c.in-Err.fault c.tell_refused.result
+    (rw c.refused_at.ensures at c.tell_refused.ensures.own)
+    (opening_checks c.args.profile c.in-Err.fault c.in-Err.ensures.own)
 
-pub returns-in-Some-clause-tried : goal.returns-in-Some-clause-tried
-returns-in-Some-clause-tried g c =
-    let stops = rw (c.refused_at-refused.ensures, c.in-Some.ensures.there) at c.check_again.ensures.err in
-    err_so _ _ c.check_again.result (λ f h. tried_again c.args.profile c.args.place
-    (g.R.AgainIn.begins c.args.input.now) (g.R.ByteIn.remaining c.args.input.now)
-    (g.R.ByteIn.remaining c.check_again.new.input) (g.R.ByteIn.failures c.args.input.now)
-    (g.R.ByteIn.failures c.open_player_located.new.input)
-    (g.R.ByteIn.failures c.check_again.new.input)
-    (passage g.W.ByteOut.contents g.W.ByteOut.failures c.args.output.now c.check_again.new.output)
-    c.in-Err.fault f _ h) stops
+pub returns-in-Err-clause-again : goal.returns-in-Err-clause-again
+returns-in-Err-clause-again g c =
+    refused_again c.args.profile c.in-Err.fault c.tell_refused.result
+    (rw c.refused_at.ensures at c.tell_refused.ensures.own) (g.R.AgainIn.begins c.args.input.now)
+    (passage g.R.ByteIn.remaining g.R.ByteIn.failures c.args.input.now c.open_telling.new.input)
+    c.in-Err.ensures.again
+
+pub returns-in-Err-clause-tried : goal.returns-in-Err-clause-tried
+returns-in-Err-clause-tried g c =
+    refused_tried (passage g.R.ByteIn.remaining g.R.ByteIn.failures c.args.input.now
+    c.open_telling.new.input) c.in-Err.fault c.tell_refused.result
+    (rw c.refused_at.ensures at c.tell_refused.ensures.own) c.in-Err.ensures.tried
+
+-- ---- something is told
+
+pub returns-then-not-is_empty-clause-ok : goal.returns-then-not-is_empty-clause-ok
+returns-then-not-is_empty-clause-ok g c =
+    let some = some_told c.open_telling.new.told.faults _ c.is_empty.ensures c.if-not-is_empty.true in
+    ok_so _ _ c.judge_told.result (λ r h. inr (inr (c.in-Ok.ensures.plainly some, h)))
+    (c.judge_told.ensures.ok c.args.profile (g.R.ByteIn.remaining c.args.input.now)
+    (g.R.ByteIn.failures c.args.input.now) (c.in-Ok.ensures.told some) c.in-Ok.ensures.uncued)
+
+pub returns-then-not-is_empty-clause-err : goal.returns-then-not-is_empty-clause-err
+returns-then-not-is_empty-clause-err g c =
+    let some = some_told c.open_telling.new.told.faults _ c.is_empty.ensures c.if-not-is_empty.true in
+    err_so _ _ c.judge_told.result (λ f h. inr (inr (inl (c.in-Ok.ensures.plainly some, h))))
+    (c.judge_told.ensures.err c.args.profile (g.R.ByteIn.remaining c.args.input.now)
+    (g.R.ByteIn.failures c.args.input.now) (c.in-Ok.ensures.told some) c.in-Ok.ensures.uncued)
+
+pub returns-then-not-is_empty-clause-own : goal.returns-then-not-is_empty-clause-own
+returns-then-not-is_empty-clause-own g c =
+    err_so _ _ c.judge_told.result (on_checks c.args.profile) c.judge_told.ensures.own
+
+pub returns-then-not-is_empty-clause-again : goal.returns-then-not-is_empty-clause-again
+returns-then-not-is_empty-clause-again g c =
+    err_so _ _ c.judge_told.result (λ f h. inl (on_again c.args.profile
+    (g.R.AgainIn.begins c.args.input.now) (passage g.R.ByteIn.remaining g.R.ByteIn.failures
+    c.args.input.now c.judge_told.new.input) f h)) c.judge_told.ensures.own
+
+pub returns-then-not-is_empty-clause-tried : goal.returns-then-not-is_empty-clause-tried
+returns-then-not-is_empty-clause-tried g c =
+    err_so _ _ c.judge_told.result (on_tried (passage g.R.ByteIn.remaining g.R.ByteIn.failures
+    c.args.input.now c.judge_told.new.input)) c.judge_told.ensures.own
+
+pub judge_plainly-requires-clause-sound : goal.judge_plainly-requires-clause-sound
+judge_plainly-requires-clause-sound g c =
+    let none = none_told c.open_telling.new.told.faults _ c.is_empty.ensures c.if-not-is_empty.false in
+    (c.in-Ok.ensures.ok none).sound
+
+pub judge_on-requires-clause-sound : goal.judge_on-requires-clause-sound
+judge_on-requires-clause-sound g c =
+    let none = none_told c.open_telling.new.told.faults _ c.is_empty.ensures c.if-not-is_empty.false in
+    (c.in-Ok.ensures.ok none).sound

@@ -1,5 +1,5 @@
 -- Reads the next item of a file, of either container.
-use Rattle.std.proofs.Common.{◌≡◌, Bool, Ok, inl, inr, refl, subst, sym, true, ◌∙◌}
+use Rattle.std.proofs.Common.{◌≡◌, Bool, Ok, refl, subst, sym, true, ◌∙◌}
 use Rattle.ffv1_wire.specs.Passage.{passage}
 use Rattle.ffv1_files.specs.Answers.{ReadsAs}
 use Rattle.ffv1_files.specs.Files.{frame_read}

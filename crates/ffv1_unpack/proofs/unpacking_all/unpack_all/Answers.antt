@@ -1,35 +1,29 @@
 -- Decodes all frames of a file that the profile reads, and goes on after a frame that is refused.
 use Rattle.std.proofs.Common.{◌≡◌, true, inl, inr, sym, ◌∙◌}
 use Rattle.ffv1_wire.specs.Passage.{passage}
+use Rattle.ffv1_files.proofs.ToldLists.{none_told, some_told}
 use Rattle.ffv1_video.proofs.Output.{silent}
 use Rattle.ffv1_video.specs.Profiles.{scope_in}
-use Rattle.ffv1_unpack.specs.ToldItems.{is_told}
 use Rattle.ffv1_unpack.proofs.FileSalvaged.{all_fails}
 use Rattle.ffv1_unpack.proofs.ItemsCourse.{plain_avi, plain_is}
 use Rattle.ffv1_unpack.proofs.SalvagedEnd.{end_done, end_fails, end_none, first_noted, salvage_told}
 use Rattle.ffv1_unpack.proofs.OwnFaults.{written_unpacks}
 use Rattle.ffv1_unpack.proofs.ReadAgain.{unpack_again, written_again}
-use Rattle.ffv1_unpack.proofs.UnpackedAgain.{answered_again, answered_err, answered_ok}
-use Rattle.ffv1_unpack.proofs.UnpackedAgain.{answered_own, answered_tried, tried_untold}
+use Rattle.ffv1_unpack.proofs.ToldChecks.{err_so, ok_so, refused_again, refused_tried}
+use Rattle.ffv1_unpack.proofs.UnpackedTold.{own_told, reads_again, refused_unpacks, segment_writes}
+use Rattle.ffv1_unpack.proofs.UnpackedTold.{tried_untold, unpack_refused}
 use Rattle.ffv1_unpack.proofs.unpacking_all.unpack_all.Goals as goal
-
-pub returns-in-Err-clause-err : goal.returns-in-Err-clause-err
-returns-in-Err-clause-err g c =
-    inl (inl (
-      silent (g.L.ByteOut.contents c.args.lines.now) (g.L.ByteOut.failures c.args.lines.now),
-      silent (g.W.ByteOut.contents c.args.output) (g.W.ByteOut.failures c.args.output),
-      c.in-Err.ensures.err,
-    ))
 
 pub returns-in-Err-answer-clause-err : goal.returns-in-Err-answer-clause-err
 returns-in-Err-answer-clause-err g c =
+    let nothing = none_told c.open_whole.new.told.faults _ c.is_empty.ensures c.if-not-is_empty.false in
     inl (inr (all_fails c.args.profile (g.R.ByteIn.remaining c.args.input.now)
     (g.R.ByteIn.remaining c.open_whole.new.input)
     (g.R.ByteIn.remaining c.salvage_file-output.new.input)
     (g.R.ByteIn.failures c.args.input.now) (g.R.ByteIn.failures c.open_whole.new.input)
     (g.R.ByteIn.failures c.salvage_file-output.new.input)
-    c.in-Ok.player.reader c.in-Ok.player.decoder.accepted c.in-Ok.ensures.ok
-    c.in-Ok.ensures.located c.in-Ok.ensures.text
+    c.in-Ok.player.reader c.in-Ok.player.decoder.accepted (c.in-Ok.ensures.ok nothing)
+    (c.in-Ok.ensures.stands nothing).reached c.in-Ok.ensures.text
     (passage g.L.ByteOut.contents g.L.ByteOut.failures c.args.lines.now
     c.salvage_file-output.new.lines)
     (passage g.W.ByteOut.contents g.W.ByteOut.failures c.args.output
@@ -38,14 +32,16 @@ returns-in-Err-answer-clause-err g c =
 
 pub returns-in-Err-answer-clause-own : goal.returns-in-Err-answer-clause-own
 returns-in-Err-answer-clause-own g c =
+    let nothing = none_told c.open_whole.new.told.faults _ c.is_empty.ensures c.if-not-is_empty.false in
     written_unpacks c.args.profile c.in-Ok.player.reader
     (g.R.ByteIn.remaining c.args.input.now)
     (g.R.ByteIn.remaining c.open_whole.new.input) c.in-Err-answer.fault
-    c.in-Ok.ensures.stands
-    c.in-Ok.ensures.ok.within (rw c.in-Err-answer.is at c.salvage_file-output.ensures.own)
+    (c.in-Ok.ensures.stands nothing)
+    (c.in-Ok.ensures.ok nothing).within (rw c.in-Err-answer.is at c.salvage_file-output.ensures.own)
 
 pub returns-in-Ok-end_all-clause-ok : goal.returns-in-Ok-end_all-clause-ok
 returns-in-Ok-end_all-clause-ok g c =
+    let nothing = none_told c.open_whole.new.told.faults _ c.is_empty.ensures c.if-not-is_empty.false in
     let all = rw c.in-Ok-answer.is at c.salvage_file-output.ensures.ok in
     let last = c.salvage_file-output.new.player.reader in
     let cues = rw (c.in-Ok.ensures.uncued, c.in-Ok-answer.is) at
@@ -63,8 +59,8 @@ returns-in-Ok-end_all-clause-ok g c =
     (g.R.ByteIn.failures c.args.input.now) (g.R.ByteIn.failures c.open_whole.new.input)
     (g.R.ByteIn.failures c.salvage_file-output.new.input)
     (g.R.ByteIn.failures c.end_all.new.input)
-    c.in-Ok.player.reader last c.in-Ok.player.decoder.accepted c.in-Ok.ensures.ok
-    c.in-Ok.ensures.stands c.salvage_file-output.new.player.course
+    c.in-Ok.player.reader last c.in-Ok.player.decoder.accepted (c.in-Ok.ensures.ok nothing)
+    (c.in-Ok.ensures.stands nothing) c.salvage_file-output.new.player.course
     c.salvage_file-output.new.player.cued cues goes same kind stays
     c.in-Ok.ensures.text (g.L.ByteOut.contents c.args.lines.now)
     (g.L.ByteOut.contents c.salvage_file-output.new.lines)
@@ -82,8 +78,8 @@ returns-in-Ok-end_all-clause-ok g c =
     (g.R.ByteIn.failures c.args.input.now) (g.R.ByteIn.failures c.open_whole.new.input)
     (g.R.ByteIn.failures c.salvage_file-output.new.input)
     (g.R.ByteIn.failures c.end_all.new.input)
-    c.in-Ok.player.reader last c.in-Ok.player.decoder.accepted c.in-Ok.ensures.ok
-    c.in-Ok.ensures.stands c.salvage_file-output.new.player.course
+    c.in-Ok.player.reader last c.in-Ok.player.decoder.accepted (c.in-Ok.ensures.ok nothing)
+    (c.in-Ok.ensures.stands nothing) c.salvage_file-output.new.player.course
     c.salvage_file-output.new.player.cued cues goes same kind stays
     c.in-Ok.ensures.text (g.L.ByteOut.contents c.args.lines.now)
     (g.L.ByteOut.contents c.salvage_file-output.new.lines)
@@ -97,7 +93,7 @@ returns-in-Ok-end_all-clause-ok g c =
     (first_noted c.args.profile (g.R.ByteIn.remaining c.args.input.now)
     (g.R.ByteIn.remaining c.open_whole.new.input) (g.R.ByteIn.remaining c.end_all.new.input)
     (g.R.ByteIn.failures c.args.input.now) (g.R.ByteIn.failures c.end_all.new.input)
-    c.in-Ok.player.reader told.1 _ c.in-Ok.ensures.stands
+    c.in-Ok.player.reader told.1 _ (c.in-Ok.ensures.stands nothing)
     (λ plain. elim (all.3 plain) [
       | inl comes ↦
           inl (c.in-Ok-end_all.ensures.noted
@@ -105,12 +101,13 @@ returns-in-Ok-end_all-clause-ok g c =
           (plain_is c.salvage_file-output.new.player.course (kind ∙ plain))
           (scope_in c.args.profile) (g.R.ByteIn.remaining c.args.input.now)
           (comes (scope_in c.args.profile) (g.R.ByteIn.remaining c.args.input.now)
-          c.in-Ok.ensures.stands))
+          (c.in-Ok.ensures.stands nothing)))
       | inr many ↦ inr many
     ])))
 
 pub returns-clause-err : goal.returns-clause-err
 returns-clause-err g c =
+    let nothing = none_told c.open_whole.new.told.faults _ c.is_empty.ensures c.if-not-is_empty.false in
     let all = rw c.in-Ok-answer.is at c.salvage_file-output.ensures.ok in
     let last = c.salvage_file-output.new.player.reader in
     let cues = rw (c.in-Ok.ensures.uncued, c.in-Ok-answer.is) at
@@ -127,8 +124,8 @@ returns-clause-err g c =
           (g.R.ByteIn.failures c.args.input.now) (g.R.ByteIn.failures c.open_whole.new.input)
           (g.R.ByteIn.failures c.salvage_file-output.new.input)
           (g.R.ByteIn.failures c.end_all.new.input)
-          c.in-Ok.player.reader last c.in-Ok.player.decoder.accepted c.in-Ok.ensures.ok
-          c.in-Ok.ensures.stands c.salvage_file-output.new.player.course
+          c.in-Ok.player.reader last c.in-Ok.player.decoder.accepted (c.in-Ok.ensures.ok nothing)
+          (c.in-Ok.ensures.stands nothing) c.salvage_file-output.new.player.course
           c.salvage_file-output.new.player.cued cues goes same kind stays
           c.in-Ok.ensures.text (g.L.ByteOut.contents c.args.lines.now)
           (g.L.ByteOut.contents c.salvage_file-output.new.lines)
@@ -146,8 +143,8 @@ returns-clause-err g c =
           (g.R.ByteIn.failures c.args.input.now) (g.R.ByteIn.failures c.open_whole.new.input)
           (g.R.ByteIn.failures c.salvage_file-output.new.input)
           (g.R.ByteIn.failures c.end_all.new.input)
-          c.in-Ok.player.reader last c.in-Ok.player.decoder.accepted c.in-Ok.ensures.ok
-          c.in-Ok.ensures.stands c.salvage_file-output.new.player.course
+          c.in-Ok.player.reader last c.in-Ok.player.decoder.accepted (c.in-Ok.ensures.ok nothing)
+          (c.in-Ok.ensures.stands nothing) c.salvage_file-output.new.player.course
           c.salvage_file-output.new.player.cued cues goes same kind stays
           c.in-Ok.ensures.text (g.L.ByteOut.contents c.args.lines.now)
           (g.L.ByteOut.contents c.salvage_file-output.new.lines)
@@ -164,8 +161,8 @@ returns-clause-err g c =
           (g.R.ByteIn.failures c.args.input.now) (g.R.ByteIn.failures c.open_whole.new.input)
           (g.R.ByteIn.failures c.salvage_file-output.new.input)
           (g.R.ByteIn.failures c.end_all.new.input)
-          c.in-Ok.player.reader last c.in-Ok.player.decoder.accepted c.in-Ok.ensures.ok
-          c.in-Ok.ensures.stands c.salvage_file-output.new.player.course
+          c.in-Ok.player.reader last c.in-Ok.player.decoder.accepted (c.in-Ok.ensures.ok nothing)
+          (c.in-Ok.ensures.stands nothing) c.salvage_file-output.new.player.course
           c.salvage_file-output.new.player.cued cues goes same kind stays
           c.in-Ok.ensures.text (g.L.ByteOut.contents c.args.lines.now)
           (g.L.ByteOut.contents c.salvage_file-output.new.lines)
@@ -183,113 +180,99 @@ returns-clause-own g c = inl c.in-Err-end_all.ensures.own
 
 pub returns-in-Err-answer-clause-again : goal.returns-in-Err-answer-clause-again
 returns-in-Err-answer-clause-again g c =
-    written_again c.args.profile
+    inl (written_again c.args.profile
     (g.R.AgainIn.begins c.args.input.now)
     (passage g.R.ByteIn.remaining g.R.ByteIn.failures c.args.input.now c.salvage_file-output.new.input)
     c.in-Ok.player.reader (g.R.ByteIn.remaining c.open_whole.new.input)
-    c.in-Err-answer.fault (rw c.in-Err-answer.is at c.salvage_file-output.ensures.own)
+    c.in-Err-answer.fault (rw c.in-Err-answer.is at c.salvage_file-output.ensures.own))
 
 pub returns-clause-again : goal.returns-clause-again
 returns-clause-again g c =
-    unpack_again c.args.profile
+    inl (unpack_again c.args.profile
     (g.R.AgainIn.begins c.args.input.now)
     (passage g.R.ByteIn.remaining g.R.ByteIn.failures c.args.input.now c.end_all.new.input)
-    c.in-Err-end_all.fault c.in-Err-end_all.ensures.own
+    c.in-Err-end_all.fault c.in-Err-end_all.ensures.own)
 
 pub returns-in-Err-answer-clause-tried : goal.returns-in-Err-answer-clause-tried
 returns-in-Err-answer-clause-tried g c =
-    tried_untold c.args.profile (g.R.AgainIn.begins c.args.input.now)
-    (passage g.R.ByteIn.remaining g.R.ByteIn.failures c.args.input.now c.salvage_file-output.new.input)
+    tried_untold (passage g.R.ByteIn.remaining g.R.ByteIn.failures c.args.input.now c.salvage_file-output.new.input)
     c.in-Err-answer.fault (rw c.in-Err-answer.is at c.salvage_file-output.ensures.untold)
 
 pub returns-clause-tried : goal.returns-clause-tried
 returns-clause-tried g c =
-    tried_untold c.args.profile (g.R.AgainIn.begins c.args.input.now)
-    (passage g.R.ByteIn.remaining g.R.ByteIn.failures c.args.input.now c.end_all.new.input)
+    tried_untold (passage g.R.ByteIn.remaining g.R.ByteIn.failures c.args.input.now c.end_all.new.input)
     c.in-Err-end_all.fault c.in-Err-end_all.ensures.untold
 
--- ---- it is read again
+-- ---- it is refused
 
-pub returns-in-Some-clause-ok : goal.returns-in-Some-clause-ok
-returns-in-Some-clause-ok g c =
-    let is : is_told c.in-Err.fault ≡ true = sym c.is_told.ensures ∙ c.if-is_told.true in
-    answered_ok c.args.profile (g.R.ByteIn.remaining c.args.input.now)
-    (g.R.ByteIn.remaining c.open_whole.new.input)
-    (g.R.ByteIn.remaining c.unpack_again-output.new.input)
-    (g.R.ByteIn.failures c.args.input.now) (g.R.ByteIn.failures c.open_whole.new.input)
-    (g.R.ByteIn.failures c.unpack_again-output.new.input)
-    (passage g.L.ByteOut.contents g.L.ByteOut.failures c.args.lines.now
-    c.unpack_again-output.new.lines)
-    (passage g.W.ByteOut.contents g.W.ByteOut.failures c.args.output
-    c.unpack_again-output.result.0)
-    c.in-Err.fault is c.in-Err.ensures.err c.unpack_again-output.result.1
-    (rw c.in-Some.ensures.there at c.unpack_again-output.ensures.none) c.or_refused.result
-    (rw c.in-Some.ensures.there at c.unpack_again-output.ensures.ok) c.or_refused.ensures.ok
+pub returns-in-Err-clause-err : goal.returns-in-Err-clause-err
+returns-in-Err-clause-err g c =
+    let refused = c.refused_at.ensures in
+    unpack_refused c.args.profile (passage g.R.ByteIn.remaining g.R.ByteIn.failures
+    c.args.input.now c.open_whole.new.input) (passage g.L.ByteOut.contents g.L.ByteOut.failures
+    c.args.lines.now c.tell_refused-fault.new.output) (passage g.W.ByteOut.contents
+    g.W.ByteOut.failures c.args.output c.args.output)
+    (silent (g.W.ByteOut.contents c.args.output) (g.W.ByteOut.failures c.args.output))
+    c.open_whole.new.told.data c.open_whole.new.told.faults.items c.in-Err.fault
+    c.tell_refused-fault.result c.in-Err.ensures.err c.in-Err.ensures.refused
+    (rw refused at c.tell_refused-fault.ensures.none) (rw refused at c.tell_refused-fault.ensures.some)
 
-pub returns-in-Some-clause-err : goal.returns-in-Some-clause-err
-returns-in-Some-clause-err g c =
-    let is : is_told c.in-Err.fault ≡ true = sym c.is_told.ensures ∙ c.if-is_told.true in
-    answered_err c.args.profile (g.R.ByteIn.remaining c.args.input.now)
-    (g.R.ByteIn.remaining c.open_whole.new.input)
-    (g.R.ByteIn.remaining c.unpack_again-output.new.input)
-    (g.R.ByteIn.failures c.args.input.now) (g.R.ByteIn.failures c.open_whole.new.input)
-    (g.R.ByteIn.failures c.unpack_again-output.new.input)
-    (passage g.L.ByteOut.contents g.L.ByteOut.failures c.args.lines.now
-    c.unpack_again-output.new.lines)
-    (passage g.W.ByteOut.contents g.W.ByteOut.failures c.args.output
-    c.unpack_again-output.result.0)
-    c.in-Err.fault is c.in-Err.ensures.err c.unpack_again-output.result.1
-    (rw c.in-Some.ensures.there at c.unpack_again-output.ensures.none) c.or_refused.result
-    (rw c.in-Some.ensures.there at c.unpack_again-output.ensures.err) c.or_refused.ensures.err
+pub returns-in-Err-clause-own : goal.returns-in-Err-clause-own
+returns-in-Err-clause-own g c =
+    refused_unpacks c.args.profile c.in-Err.fault c.tell_refused-fault.result
+    (rw c.refused_at.ensures at c.tell_refused-fault.ensures.own) c.in-Err.ensures.own
 
-pub returns-in-Some-clause-own : goal.returns-in-Some-clause-own
-returns-in-Some-clause-own g c =
-    let is : is_told c.in-Err.fault ≡ true = sym c.is_told.ensures ∙ c.if-is_told.true in
-    answered_own c.args.profile (g.R.ByteIn.remaining c.args.input.now)
-    (g.R.ByteIn.remaining c.open_whole.new.input)
-    (g.R.ByteIn.remaining c.unpack_again-output.new.input)
-    (g.R.ByteIn.failures c.args.input.now) (g.R.ByteIn.failures c.open_whole.new.input)
-    (g.R.ByteIn.failures c.unpack_again-output.new.input)
-    (passage g.L.ByteOut.contents g.L.ByteOut.failures c.args.lines.now
-    c.unpack_again-output.new.lines)
-    (passage g.W.ByteOut.contents g.W.ByteOut.failures c.args.output
-    c.unpack_again-output.result.0)
-    c.in-Err.fault is c.in-Err.ensures.err c.unpack_again-output.result.1
-    (rw c.in-Some.ensures.there at c.unpack_again-output.ensures.none) c.or_refused.result
-    c.in-Err.ensures.own c.unpack_again-output.ensures.own c.or_refused.ensures.err
+pub returns-in-Err-clause-again : goal.returns-in-Err-clause-again
+returns-in-Err-clause-again g c =
+    refused_again c.args.profile c.in-Err.fault c.tell_refused-fault.result
+    (rw c.refused_at.ensures at c.tell_refused-fault.ensures.own) (g.R.AgainIn.begins c.args.input.now)
+    (passage g.R.ByteIn.remaining g.R.ByteIn.failures c.args.input.now c.open_whole.new.input)
+    c.in-Err.ensures.again
 
-pub returns-in-Some-clause-again : goal.returns-in-Some-clause-again
-returns-in-Some-clause-again g c =
-    let is : is_told c.in-Err.fault ≡ true = sym c.is_told.ensures ∙ c.if-is_told.true in
-    answered_again c.args.profile (g.R.ByteIn.remaining c.args.input.now)
-    (g.R.ByteIn.remaining c.open_whole.new.input)
-    (g.R.ByteIn.remaining c.unpack_again-output.new.input)
-    (g.R.ByteIn.failures c.args.input.now) (g.R.ByteIn.failures c.open_whole.new.input)
-    (g.R.ByteIn.failures c.unpack_again-output.new.input)
-    (passage g.L.ByteOut.contents g.L.ByteOut.failures c.args.lines.now
-    c.unpack_again-output.new.lines)
-    (passage g.W.ByteOut.contents g.W.ByteOut.failures c.args.output
-    c.unpack_again-output.result.0)
-    c.in-Err.fault is c.in-Err.ensures.err c.unpack_again-output.result.1
-    (rw c.in-Some.ensures.there at c.unpack_again-output.ensures.none)
-    (g.R.AgainIn.begins c.args.input.now)
-    (passage g.R.ByteIn.remaining g.R.ByteIn.failures c.args.input.now
-    c.unpack_again-output.new.input)
-    c.or_refused.result c.unpack_again-output.ensures.own c.or_refused.ensures.err
+pub returns-in-Err-clause-tried : goal.returns-in-Err-clause-tried
+returns-in-Err-clause-tried g c =
+    refused_tried (passage g.R.ByteIn.remaining g.R.ByteIn.failures c.args.input.now
+    c.open_whole.new.input) c.in-Err.fault c.tell_refused-fault.result
+    (rw c.refused_at.ensures at c.tell_refused-fault.ensures.own) c.in-Err.ensures.tried
 
-pub returns-in-Some-clause-tried : goal.returns-in-Some-clause-tried
-returns-in-Some-clause-tried g c =
-    let is : is_told c.in-Err.fault ≡ true = sym c.is_told.ensures ∙ c.if-is_told.true in
-    answered_tried c.args.profile (g.R.ByteIn.remaining c.args.input.now)
-    (g.R.ByteIn.remaining c.open_whole.new.input)
-    (g.R.ByteIn.remaining c.unpack_again-output.new.input)
-    (g.R.ByteIn.failures c.args.input.now) (g.R.ByteIn.failures c.open_whole.new.input)
-    (g.R.ByteIn.failures c.unpack_again-output.new.input)
-    (passage g.L.ByteOut.contents g.L.ByteOut.failures c.args.lines.now
-    c.unpack_again-output.new.lines)
-    (passage g.W.ByteOut.contents g.W.ByteOut.failures c.args.output
-    c.unpack_again-output.result.0)
-    c.in-Err.fault is c.in-Err.ensures.err c.unpack_again-output.result.1
-    (rw c.in-Some.ensures.there at c.unpack_again-output.ensures.none)
-    (g.R.AgainIn.begins c.args.input.now) c.or_refused.result
-    c.unpack_again-output.ensures.untold c.or_refused.ensures.err
+-- ---- something is told
+
+pub returns-then-not-is_empty-clause-ok : goal.returns-then-not-is_empty-clause-ok
+returns-then-not-is_empty-clause-ok g c =
+    let some = some_told c.open_whole.new.told.faults _ c.is_empty.ensures c.if-not-is_empty.true in
+    ok_so _ _ c.salvage_told.result.1 (λ r h. inr (c.in-Ok.ensures.plainly some, h))
+    (c.salvage_told.ensures.ok c.args.profile (g.R.ByteIn.remaining c.args.input.now)
+    (g.R.ByteIn.failures c.args.input.now) (c.in-Ok.ensures.told some) c.in-Ok.ensures.uncued)
+
+pub returns-then-not-is_empty-clause-err : goal.returns-then-not-is_empty-clause-err
+returns-then-not-is_empty-clause-err g c =
+    let some = some_told c.open_whole.new.told.faults _ c.is_empty.ensures c.if-not-is_empty.true in
+    err_so _ _ c.salvage_told.result.1 (λ f h. inr (inl (c.in-Ok.ensures.plainly some, h)))
+    (c.salvage_told.ensures.err c.args.profile (g.R.ByteIn.remaining c.args.input.now)
+    (g.R.ByteIn.failures c.args.input.now) (c.in-Ok.ensures.told some) c.in-Ok.ensures.uncued)
+
+pub returns-then-not-is_empty-clause-own : goal.returns-then-not-is_empty-clause-own
+returns-then-not-is_empty-clause-own g c =
+    let some = some_told c.open_whole.new.told.faults _ c.is_empty.ensures c.if-not-is_empty.true in
+    err_so _ _ c.salvage_told.result.1 (λ f h. own_told c.args.profile f (c.in-Ok.ensures.wide some)
+    (segment_writes c.in-Ok.player.reader (g.R.ByteIn.remaining c.open_whole.new.input) f
+    (c.in-Ok.ensures.told some).segment h)) c.salvage_told.ensures.own
+
+pub returns-then-not-is_empty-clause-again : goal.returns-then-not-is_empty-clause-again
+returns-then-not-is_empty-clause-again g c =
+    let some = some_told c.open_whole.new.told.faults _ c.is_empty.ensures c.if-not-is_empty.true in
+    err_so _ _ c.salvage_told.result.1 (λ f h. inl (reads_again c.args.profile
+    (g.R.AgainIn.begins c.args.input.now) (passage g.R.ByteIn.remaining g.R.ByteIn.failures
+    c.args.input.now c.salvage_told.new.input) f (segment_writes c.in-Ok.player.reader
+    (g.R.ByteIn.remaining c.open_whole.new.input) f (c.in-Ok.ensures.told some).segment h)))
+    c.salvage_told.ensures.own
+
+pub returns-then-not-is_empty-clause-tried : goal.returns-then-not-is_empty-clause-tried
+returns-then-not-is_empty-clause-tried g c =
+    err_so _ _ c.salvage_told.result.1 (tried_untold (passage g.R.ByteIn.remaining
+    g.R.ByteIn.failures c.args.input.now c.salvage_told.new.input)) c.salvage_told.ensures.untold
+
+pub salvage_file-output-requires-clause-sound : goal.salvage_file-output-requires-clause-sound
+salvage_file-output-requires-clause-sound g c =
+    let nothing = none_told c.open_whole.new.told.faults _ c.is_empty.ensures c.if-not-is_empty.false in
+    (c.in-Ok.ensures.ok nothing).sound
