@@ -231,8 +231,9 @@ pub(crate) fn write_counts<W: ByteOut, A: Allocator + Copy>(
 /// size that may not stand in a Segment, `BadElement`, are told first, at most sixteen, and each is
 /// one fault. If a fault ends that before the first frame, the lines of what is told are written,
 /// and it is the answer. So these two are an answer only if they can't be told: the seventeenth
-/// fault, and an element of unknown size. If nothing is told, and the first Cluster comes before
-/// any Tracks, it is read again from its beginning, as `check` does, if the input can begin again.
+/// fault, and an element of unknown size; or if the file is read again. It is, from its beginning,
+/// as `check` does, if nothing is told, the first Cluster comes before any Tracks, and the input
+/// can begin again.
 ///
 /// Answers the first fault of either kind, and None if there is none, and what is noted of the end,
 /// as `check` does. If another file begins after it, that is told, too: the line of a fault with
