@@ -5,8 +5,12 @@ reading goes on.
 All of it is this project's own choice. Up to its first frame a file is read once. A CRC-32 of the
 header of EBML, or of an element of the Segment, that is not the sum is told, and the content is taken
 as it is; an element of known size that no Segment has is told, and passed. At most sixteen are told.
-What ends that is the answer, behind what was told. Where nothing is told all is as in a file that is
-sound, also where its first Tracks stand behind Clusters.
+What ends that is the answer, behind what was told.
+
+Where its first Tracks stand behind Clusters it is read twice from its beginning. Where nothing was told
+that is as in a file that is sound. Where that is refused for a fault that may be told, or something was
+told before, nothing is told up to the first Tracks; and then, with what they say, what stands before the
+first Cluster is told. Without any Tracks it is refused where it was at first.
 """
 import contextlib
 
@@ -16,7 +20,7 @@ import ffv1
 import matroska
 from ebml import known
 from ffv1 import Fault
-from matroska import CLUSTER, INFO, JUDGED, PASSED, TRACKS, Segment, head_in, segment_size
+from matroska import CLUSTER, INFO, JUDGED, PASSED, TRACKS, Segment, head_in, segment_size, to_tracks
 
 MOST = 16
 
@@ -87,11 +91,11 @@ class Opening:
                 raise
             self.tell(fault)
 
-    def segment(self):
-        """The head of a file, and its Segment where the frames begin. Where something is told, nothing
-        is noted of when frames come."""
+    def segment(self, head=None):
+        """The head of a file, unless it is known, and its Segment where the frames begin. Where something
+        is told, or it is known, nothing is noted of when frames come."""
         self.header()
-        segment, head = Segment(self.source, segment_size(self.source)), None
+        segment, timed = Segment(self.source, segment_size(self.source)), head is None
         while (header := segment.header()) and header[0] != CLUSTER:
             if header[0] == TRACKS and head is None:
                 head = self.tracks(header[1])
@@ -100,7 +104,7 @@ class Opening:
         if head is None:
             raise Fault(82)
         segment.known, segment.others = head.known, head.others
-        segment.times.duration = 0 if self.told else head.duration
+        segment.times.duration = head.duration if timed and not self.told else 0
         if header:
             segment.enter(header[1])
         return head, segment
@@ -110,16 +114,46 @@ class Opening:
         yield from self.told
         yield from damaged_files.items(segment, head.number)
 
+    def late(self, place):
+        """The same as `segment` gives, of a file that lacks Tracks before its first Cluster, at this
+        place, and has begun again."""
+        self.told = []
+        head = Seeking(self.source).head(place)
+        if not self.source.again():
+            raise Fault(56)
+        return self.segment(head)
+
     def opened(self):
-        """The head of a file, the size of its Segment, and what it gives. Where nothing is told, and
-        its first Tracks stand behind Clusters, it is read from its beginning again."""
+        """The head of a file, the size of its Segment, and what it gives."""
         try:
             head, segment = self.segment()
         except Fault as fault:
-            if fault.number != 82 or self.told or not self.source.again():
+            place = self.source.begun
+            if fault.number != 82 or not self.source.again():
                 raise
-            return matroska.open_late(self.source, damaged_files.items)
+            if not self.told:
+                try:
+                    return matroska.open_late(self.source, place, damaged_files.items)
+                except Fault as plain:
+                    if plain.number not in (81, 85):
+                        raise
+                if not self.source.again():
+                    raise Fault(56)
+            head, segment = self.late(place)
         return head, segment.size, self.items(head, segment)
+
+
+class Seeking(Opening):
+    """A file up to its first Tracks, of which nothing is told."""
+
+    def tell(self, fault):
+        pass
+
+    def head(self, place):
+        """What they say, wherever they stand; a file that has none is refused at this place."""
+        self.header()
+        segment = Segment(self.source, segment_size(self.source))
+        return self.tracks(to_tracks(segment, lambda header: self.passed(header, segment.times), place))
 
 
 def opened(source):

@@ -426,23 +426,32 @@ def open_matroska(source, read=Segment.frames, head=None):
     return head, size, read(segment, head.number)
 
 
-def sought(source):
-    """What the first Tracks of a file say, wherever they stand. Own: a Cluster of known size is passed
-    as a whole, and of one of unknown size each element."""
-    ebml.open_ebml(source)
-    segment = Segment(source, segment_size(source))
+def to_tracks(segment, passed, place):
+    """The size of the first Tracks of a Segment, wherever they stand; the elements before them are
+    passed so. Own: a Cluster of known size is passed as a whole, and of one of unknown size each
+    element; a Segment without Tracks is refused at this place."""
     while header := segment.header():
         ident, size = header
         if ident == TRACKS:
-            return head_in(source.exactly(ebml.limited(size), 52))
+            return size
         if ident == CLUSTER:
             segment.loose = size is None
-            source.skip(size or 0, 52)
-        elif segment.loose and ident in (SIMPLE_BLOCK, BLOCK_GROUP):
-            source.skip(known(header)[1], 52)
+            segment.source.skip(size or 0, 52)
+        elif segment.loose and (ident in (SIMPLE_BLOCK, BLOCK_GROUP) or ident in OF_CLUSTER):
+            segment.source.skip(known(header)[1], 52)
         else:
-            segment.other(header)
+            passed(header)
+            segment.loose = segment.loose and ident in PASSED
+    segment.source.begun = place
     raise Fault(82)
+
+
+def sought(source, place):
+    """What the first Tracks of a file say, wherever they stand."""
+    ebml.open_ebml(source)
+    segment = Segment(source, segment_size(source))
+    size = to_tracks(segment, segment.other, place)
+    return head_in(source.exactly(ebml.limited(size), 52))
 
 
 def open_again(source, read=Segment.frames):
@@ -452,14 +461,15 @@ def open_again(source, read=Segment.frames):
     try:
         return open_matroska(source, read)
     except Fault as fault:
+        place = source.begun
         if fault.number != 82 or not source.again():
             raise
-    return open_late(source, read)
+    return open_late(source, place, read)
 
 
-def open_late(source, read):
-    """The same of a file that lacks Tracks before its first Cluster, and has begun again."""
-    head = sought(source)
+def open_late(source, place, read):
+    """The same of a file that lacks Tracks before its first Cluster, at this place, and has begun again."""
+    head = sought(source, place)
     if not source.again():
         raise Fault(56)
     return open_matroska(source, read, head)

@@ -110,6 +110,7 @@ INFO = element("1549A966", summed("2AD7B1 83 0F4240", crc=1))      # 18 bytes
 NONE = element("4DBB", "00")                                       # an element that no Segment has
 TRACKS = element("1654AE6B", summed(T[12:], crc=1), length=8)      # 85 bytes
 HEADER = element("1A45DFA3", summed(H[5:], crc=1))                 # 46 bytes
+SOUND = element("AE", "D78101 838102")                             # a track that is no video
 
 OPENED = [
     ("Info", H + segment(INFO, T, C), [(52, SUM), FRAME]),
@@ -121,13 +122,19 @@ OPENED = [
     ("and a Cluster", H + segment(INFO, T, cluster(summed("E78100", block(), crc=1)), C),
      [(52, SUM), FRAME, (170, SUM), FRAME]),
     ("sixteen", H + segment(*[NONE] * 16, T, C), [*[(52 + 4 * k, BAD) for k in range(16)], FRAME]),
+    ("Info, and Tracks behind the Cluster", H + segment(INFO, C, T), [(52, SUM), FRAME]),
+    ("another ID of a Cluster before Tracks", H + segment(C, "1F43B674 81 78", T), [FRAME, (78, BAD)]),
+    ("Tracks between Clusters", H + segment(C, TRACKS, C), [FRAME, (78, SUM), FRAME]),
+    ("sixteen, and Tracks behind the Cluster", H + segment(*[NONE] * 16, C, NONE, T),
+     [*[(52 + 4 * k, BAD) for k in range(16)], FRAME, (142, BAD)]),
 ]
 BEGUN = [(52, SUM)]
 REFUSED = [                     # what plain reading meets first; what is told, and what ends that, where
     ("seventeen", H + segment(*[NONE] * 17, T, C), BAD, [(52 + 4 * k, BAD) for k in range(16)],
      (116, BAD)),
-    ("Tracks behind the Cluster", H + segment(INFO, C, T), SUM, BEGUN, (70, "82 NoTracks")),
-    ("no Tracks", H + segment(INFO, C), SUM, BEGUN, (70, "82 NoTracks")),
+    ("no Tracks", H + segment(INFO, C, NONE), SUM, [], (70, "82 NoTracks")),
+    ("Tracks behind the Cluster without a video",
+     H + segment(C, element("1654AE6B", summed(SOUND, crc=1)), C), SUM, [], (78, "51 NoFfv1")),
     ("another DocType", HEADER.replace(b"matroska", b"matroskb") + segment(T, C), SUM, [(0, SUM)],
      (0, "80 NotMatroska")),
     ("an element of unknown size", H + segment(INFO, "1254C367FF", T, C), SUM, BEGUN, (70, BAD)),

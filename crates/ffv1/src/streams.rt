@@ -9,7 +9,7 @@ ghost use Rattle.ffv1_info.specs.Info.{IsInfoReadAgain};
 ghost use Rattle.ffv1_unpack.specs.Check.{IsCheckFault};
 ghost use Rattle.ffv1_unpack.specs.Opens.{IsReadAgain};
 ghost use Rattle.ffv1_unpack.specs.Show.{IsShowFault};
-ghost use Rattle.ffv1_unpack.specs.ToldItems.{IsReadAgainOrTold};
+ghost use Rattle.ffv1_unpack.specs.ToldItems.{IsReadAgainTelling};
 ghost use Rattle.ffv1_unpack.specs.Unpack.{UnpackRangeDone, UnpackRangeStops};
 ghost use Rattle.ffv1.specs.Made.{UnpacksAll};
 ghost use Rattle.ffv1_words.specs.Order.{leaves_out};
@@ -46,7 +46,7 @@ pub fn check_stream<R: AgainIn, W: ByteOut>(
         (passage W.contents W.failures output.old output.new) result }
     ensures none { all ≡ false → IfOk result (λ answer. answer.0 ≡ None) }
     ensures own { IfErr result (IsCheckFault profile.Wide) }
-    ensures again { IfErr result (IsReadAgainOrTold profile.Wide (R.begins input.old)
+    ensures again { IfErr result (IsReadAgainTelling profile.Wide (R.begins input.old)
         (passage R.remaining R.failures input.old input.new)) }
 {
     if !all {
@@ -191,7 +191,7 @@ pub fn unpack_all_stream<R: AgainIn, L: ByteOut, W: ByteOut>(
     ensures unpacks { UnpacksAll (passage R.remaining R.failures input.old input.new)
         (passage L.contents L.failures lines.old lines.new)
         (passage W.contents W.failures output result.0) result.1 }
-    ensures again { IfErr result.1 (IsFault (IsReadAgainOrTold profile.Wide (R.begins input.old)
+    ensures again { IfErr result.1 (IsFault (IsReadAgainTelling profile.Wide (R.begins input.old)
         (passage R.remaining R.failures input.old input.new))) }
     ensures fault { IfErr result.1 IsAnyFault }
 {

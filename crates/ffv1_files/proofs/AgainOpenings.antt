@@ -1,5 +1,5 @@
 -- A Matroska file that is read from its beginning again, since it lacks Tracks.
-use Rattle.std.proofs.Common.{◌≡◌, ◌⊎◌, ◌+◌, ◌^◌, ◌-◌, ◌∙◌, min, refl, ℕ, true, Option, Some, None, Ok, Err, List, inl, inr, ap, sym, subst, arith}
+use Rattle.std.proofs.Common.{◌≡◌, ◌⊎◌, ◌+◌, ◌^◌, ◌-◌, ◌∙◌, min, refl, ℕ, if◌then◌else◌, Bool, true, false, Option, Some, None, Ok, Err, List, inl, inr, ap, sym, subst, arith}
 use Rattle.ffv1_wire.specs.Passage.{Passage, between}
 use Rattle.ffv1_reads.specs.Head.{Head}
 use Rattle.ffv1_reads.specs.Known.{Known}
@@ -21,14 +21,14 @@ use Rattle.ffv1_matroska.proofs.AgainLaws.{once_again}
 use Rattle.ffv1_files.specs.Again.{AgainFails, AgainWants, HasTracks, LacksTracks, RoomWithin, StopsAgain, known_endings, lacks_tracks, track_endings}
 use Rattle.ffv1_files.specs.Answers.{Endings, FaultsRead, ReadFails, ReadsAs, StopsReading, WantsMore}
 use Rattle.ffv1_files.specs.Files.{matroska_begun, open_read}
-use Rattle.ffv1_files.specs.Offsets.{EndsKnown, Reached, ReadsKnown, StopsAt}
+use Rattle.ffv1_files.specs.Offsets.{EndsKnown, Reached, ReadsKnown, StopsAt, StopsOnce}
 use Rattle.ffv1_files.specs.Places.{InMatroska}
 use Rattle.ffv1_files.specs.declared.container.Scope.TheVariants as scope
 use Rattle.ffv1_files.proofs.Answering.{faults_stops, just_read, known_map, over_known}
 use Rattle.ffv1_files.proofs.Locations.{in_matroska}
 
 -- what is known of one text, of what is left at several places
-known_both : (text mid new : Option (List ℕ)) (P Q R : List ℕ → List ℕ → Type 0) → ((file left rest : List ℕ) → P file left → Q file rest → R file rest) → Known text mid P → Known text new Q → Known text new R
+pub known_both : (text mid new : Option (List ℕ)) (P Q R : List ℕ → List ℕ → Type 0) → ((file left rest : List ℕ) → P file left → Q file rest → R file rest) → Known text mid P → Known text new Q → Known text new R
 known_both None mid new P Q R f p q = tt
 known_both (Some file) None new P Q R f p q = absurd p
 known_both (Some file) (Some left) None P Q R f p q = absurd q
@@ -129,8 +129,35 @@ module _ (old new : Option (List ℕ)) (before after : ℕ) where
       on_begun known (inr (is, ends)) =
           inr (is, r.track.head, record { size = h.size; between = h.between; before = h.before; after = h.after; entered = h.entered; goes = (known, ends); offset_is = h.offset_is })
 
-  pub twice_stopped : (f : FileFault) (offset : ℕ) → TwiceOpened (between old new before after) (Err f) offset → StopsAt scope.Whole (between old new before after) f offset
-  twice_stopped f offset h = record { whole = inr (inr (inr (inl h))) }
+  pub twice_stopped : (f : FileFault) (offset : ℕ) → lacks_tracks f ≡ false → TwiceOpened (between old new before after) (Err f) offset → StopsAt scope.Whole (between old new before after) f offset
+  twice_stopped f offset other h = record { whole = inr (inr (inr (inl (other, h)))) }
+
+  -- it has no Tracks at all
+  pub without_stopped : (f : FileFault) (left : Option (List ℕ)) (now offset : ℕ) → lacks_tracks f ≡ true → after ≡ before → now ≡ before → StopsOnce (between old left before now) f offset → StopsAt scope.Whole (between old new before after) f offset
+  without_stopped f left now offset is same kept h =
+      let P : ℕ → Type 0 = λ n. StopsOnce (between old left before n) f offset in
+      record { whole = inr (inr (inr (inr (inr (named f is, left, subst P (kept ∙ sym same) h))))) }
+    where
+      named : (g : FileFault) → lacks_tracks g ≡ true → g ≡ fault.NoTracks
+      named fault.NoTracks is = refl
+      named g is = absurd (cc (is))
+
+-- where the first reading stopped, if there are no Tracks
+pub by_tracks : (P : ℕ → Type 0) (f : FileFault) (first last : ℕ) → (lacks_tracks f ≡ true → P first) → (lacks_tracks f ≡ false → P last) → P (if lacks_tracks f then first else last)
+by_tracks P f first last one two = on_test (lacks_tracks f) refl
+  where
+    on_test : (b : Bool) → lacks_tracks f ≡ b → P (if b then first else last)
+    on_test true is = one is
+    on_test false is = two is
+
+both_lack : (g f : FileFault) → lacks_tracks g ≡ true → lacks_tracks f ≡ true → g ≡ f
+both_lack fault.NoTracks fault.NoTracks one two = refl
+both_lack fault.NoTracks f one two = absurd (cc (two))
+both_lack g f one two = absurd (cc (one))
+
+none_counted : (p : Passage) (f : FileFault) → lacks_tracks f ≡ true → StopsAgain p f → p.after ≡ p.before
+none_counted p fault.NoTracks is h = h.0
+none_counted p f is h = absurd (cc (is))
 
 -- ---- the call, whose input begins again where it stood
 pub late_counted : {X : Type 0} (ends : Endings X) (reading : Reading X) (p : Passage) (f : FileFault) → lacks_tracks f ≡ true → StopsReading ends reading p f → p.after ≡ p.before
@@ -150,8 +177,16 @@ module _ (old whole mid new : Option (List ℕ)) (before now after : ℕ) (begin
   pub call_reached : (r : matroska_reader.Standing) (offset : ℕ) → TwiceOpened (between whole new now after) (Ok r) offset → Reached scope.Whole old new (in_matroska r)
   call_reached r offset h = twice_reached old new before after r offset (moved (λ z n. TwiceOpened (between z new n after) (Ok r) offset) h)
 
-  pub call_stopped : (f : FileFault) (offset : ℕ) → TwiceOpened (between whole new now after) (Err f) offset → StopsAt scope.Whole (between old new before after) f offset
-  call_stopped f offset h = twice_stopped old new before after f offset (moved (λ z n. TwiceOpened (between z new n after) (Err f) offset) h)
+  pub call_stopped : (f : FileFault) (offset : ℕ) → lacks_tracks f ≡ false → TwiceOpened (between whole new now after) (Err f) offset → StopsAt scope.Whole (between old new before after) f offset
+  call_stopped f offset other h = twice_stopped old new before after f offset other (moved (λ z n. TwiceOpened (between z new n after) (Err f) offset) h)
+
+  pub call_stays : Known old mid LacksTracks → (g f : FileFault) (first last : ℕ) → lacks_tracks g ≡ true → StopsOnce (between old mid before now) g first → matroska_again.StopsAgain mid (between whole new now after) f → TwiceOpened (between whole new now after) (Err f) last →
+      StopsAt scope.Whole (between old new before after) f (if lacks_tracks f then first else last)
+  call_stays lacks g f first last is once stops twice =
+      let P : FileFault → Type 0 = λ e. StopsOnce (between old mid before now) e first in
+      by_tracks (λ n. StopsAt scope.Whole (between old new before after) f n) f first last
+      (λ none. without_stopped old new before after f mid now first none (none_counted (between old new before after) f none (call_stops lacks f stops)) same (subst P (both_lack g f is none) once))
+      (λ other. call_stopped f last other twice)
 
   pub call_room : (room : ℕ) → RoomTwice whole new 0 room → RoomWithin old new room
   call_room room h = inr (subst (λ z. RoomTwice z new 0 room) begins h)

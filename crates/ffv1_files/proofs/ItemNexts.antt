@@ -1,11 +1,12 @@
 -- The next item of a file, of either container.
-use Rattle.std.proofs.Common.{◌≡◌, refl, ℕ, Bool, true, false, Option, Some, None, Result, Ok, Err, IfOk, List, ap, subst}
+use Rattle.std.proofs.Common.{◌≡◌, ◌≤◌, ◌+◌, ◌*◌, max, refl, ℕ, Bool, true, false, Option, Some, None, Result, Ok, Err, IfOk, List, ap, subst, arith}
 use Rattle.ffv1_wire.specs.Passage.{Passage}
 use Rattle.ffv1_reads.specs.Ends.{ReadOrEnds, Stops}
 use Rattle.ffv1_reads.specs.Items.{Given, SaidBy, given_by}
 use Rattle.ffv1_reads.specs.Items as reads
 use Rattle.ffv1_reads.specs.Known.{Known}
 use Rattle.ffv1_reads.specs.Reads.{Reading, given, read_on, ◌>>=◌}
+use Rattle.ffv1_reads.specs.Room.{HasRoom}
 use Rattle.ffv1_reads.specs.declared.fault.FileFault.{FileFault}
 use Rattle.ffv1_reads.specs.declared.fault.FileFault.TheVariants as fault
 use Rattle.ffv1_reads.specs.declared.item.Item.{Item}
@@ -144,3 +145,14 @@ pub chunk_uncued : (place : AviPlace) (c : Course) (cued : Bool) (p : Passage) (
 unfolding cued_item
 chunk_uncued place c cued p (Ok i) bytes to d h = known_uncued cued p.old p.new _ h.1
 chunk_uncued place c cued p (Err f) bytes to d h = tt
+
+-- ---- how much room the vector has
+
+pub plain_room : (r : Result Bool FileFault) (old new n : ℕ) → HasRoom old new n r → new ≤ max old (2 * n + 65536)
+plain_room (Ok b) old new n h = let few : new ≤ max old n = h in omega (arith, few)
+plain_room (Err f) old new n h = h
+
+pub plain_held : (r : Result Bool FileFault) (old new n : ℕ) → HasRoom old new n r → IfOk (plain_answer r) (λ i. i ≡ item.Frame → new ≤ max old n)
+plain_held (Ok true) old new n h = λ is. h
+plain_held (Ok false) old new n h = λ is. h
+plain_held (Err f) old new n h = tt

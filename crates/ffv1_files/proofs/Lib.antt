@@ -15,6 +15,8 @@ mod NotedLaws
 mod NotedOnce
 mod NotedSegments
 pub mod AgainOpenings
+mod MoreBytes
+mod LateTelling
 mod SalvagedOpenings
 pub mod ToldLists
 mod ToldOpenings

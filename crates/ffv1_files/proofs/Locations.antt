@@ -24,7 +24,7 @@ use Rattle.ffv1_matroska.specs.declared.place.Place.{Place as MatroskaPlace}
 use Rattle.ffv1_matroska.specs.Times.{times_begun}
 use Rattle.ffv1_files.specs.declared.container.Scope.{Scope}
 use Rattle.ffv1_files.specs.declared.container.Scope.TheVariants as scope
-use Rattle.ffv1_files.specs.Offsets.{AviReached, AviStops, Layout, LocatedNext, MatroskaReached, MatroskaStops, Reached, ReadsKnown, ReadsThrough, StopsAt, StopsThrough}
+use Rattle.ffv1_files.specs.Offsets.{AviReached, AviStops, Layout, LocatedNext, MatroskaReached, MatroskaStops, Reached, ReadsKnown, ReadsThrough, StopsAt, StopsOnce, StopsThrough}
 use Rattle.ffv1_files.specs.Places.{InAvi, InMatroska}
 use Rattle.ffv1_files.specs.Readers.{Standing}
 use Rattle.ffv1_files.proofs.OpenedRooms.{consumed_with}
@@ -80,8 +80,11 @@ module _ (first : Option ℕ) (old mid new : Option (List ℕ)) (before now afte
   matroska_reached r offset (count, inr (over, ends), is) =
       record { whole = inr (inl (over, r.track.head, (count, record { here = ends.here; between = ends.between; before = whole_with first old mid ends.between gives ends.before; none = ends.none }, is))) }
 
+  pub once_stopped : (f : FileFault) (offset : ℕ) → matroska.OffsetOpened handed (Err f) offset → StopsOnce all f offset
+  once_stopped f offset h = (h.0, h.1, opening_with first old mid new before now after f same gives h.2, h.3)
+
   pub matroska_stopped : (f : FileFault) (offset : ℕ) → matroska.OffsetOpened handed (Err f) offset → StopsAt scope.Whole all f offset
-  matroska_stopped f offset h = record { whole = inr (inl (h.0, h.1, opening_with first old mid new before now after f same gives h.2, h.3)) }
+  matroska_stopped f offset h = record { whole = inr (inl (once_stopped f offset h)) }
 
 -- a file of which the first byte could not be read
 pub first_stopped : (old new : Option (List ℕ)) (before after : ℕ) → Keeps old new → after ≡ one_more before → StopsAt scope.Whole (record { old = old; new = new; before = before; after = after }) fault.Read 0
@@ -165,7 +168,7 @@ matroska_stops_on : (text : Option (List ℕ)) (old new : matroska_reader.Standi
 matroska_stops_on text old new p f over h (inr (inl ends)) = absurd (not_over f (over ends.0))
 matroska_stops_on text old new p f over h (inr (inr (inr ends))) = absurd (not_over f (over ends.0))
 matroska_stops_on text old new p f over (to, n, stops, is) (inr (inr (inl (head, h)))) =
-    inr (inr (inr (record { track = record { numbers = old.track.numbers; head = head }; between = p.old; place = old.place; before = old.offset; reads = h; to = to; after = n; stops = stops; offset_is = is })))
+    inr (inr (inr (inl (record { track = record { numbers = old.track.numbers; head = head }; between = p.old; place = old.place; before = old.offset; reads = h; to = to; after = n; stops = stops; offset_is = is }))))
 matroska_stops_on text old new p f over (to, n, stops, is) (inl (head, h)) = inr (inl (record { numbers = old.track.numbers; head = head }, stops_on p f n h stops (is ∙ rw h.offset_is (goes_on h.before h.after n (2 ^ 64 - 1)))))
 
 pub matroska_located : (s : Scope) (text : Option (List ℕ)) (old new : matroska_reader.Standing) (p : Passage) (r : Result Bool FileFault) → matroska_reader.StandsAfter old r new → matroska.OffsetAfter old p r new → Over old r → Reached s text p.old (in_matroska old) → LocatedNext s text p r (in_matroska new)

@@ -1,5 +1,5 @@
 -- Files are opened, of either container.
-use Rattle.std.proofs.Common.{◌≡◌, ◌≢◌, ◌==◌, ◌∙◌, refl, ℕ, if◌then◌else◌, Bool, true, false, Option, Some, None, Ok, Err, List, [], inl, inr, ap}
+use Rattle.std.proofs.Common.{◌≡◌, ◌≢◌, ◌==◌, ◌∙◌, refl, ℕ, if◌then◌else◌, Bool, true, false, Option, Some, None, Result, Ok, Err, List, [], inl, inr, ap, subst}
 use Rattle.std.proofs.lemmas.Bool.{ne_eqb}
 use Rattle.ffv1_wire.specs.Passage.{Passage, between}
 use Rattle.ffv1_wire.specs.Reads.{GivesByte}
@@ -7,7 +7,7 @@ use Rattle.ffv1_reads.specs.Ends.{ReadOrOver, RefusedOrFaults}
 use Rattle.ffv1_reads.specs.First.{bytes_with}
 use Rattle.ffv1_reads.specs.Head.{Head}
 use Rattle.ffv1_reads.specs.Known.{Known}
-use Rattle.ffv1_reads.specs.Reads.{Looked, Read, Refused, Short, read_on}
+use Rattle.ffv1_reads.specs.Reads.{Looked, Met, Read, Refused, Short, Stop, read_on}
 use Rattle.ffv1_reads.proofs.Results.{read_on_ok}
 use Rattle.ffv1_reads.specs.declared.fault.FileFault.{FileFault}
 use Rattle.ffv1_reads.specs.declared.fault.FileFault.TheVariants as fault
@@ -18,7 +18,9 @@ use Rattle.ffv1_matroska.specs.Opened as beginning
 use Rattle.ffv1_matroska.specs.Opening.{ident_read}
 use Rattle.ffv1_matroska.specs.Readers.{HasEnded}
 use Rattle.ffv1_avi.specs.Readers as avi_reader
-use Rattle.ffv1_matroska.proofs.AgainLaws.{once_again}
+use Rattle.ffv1_matroska.specs.Late.{again_read}
+use Rattle.ffv1_matroska.specs.Salvaged.{may_be_told}
+use Rattle.ffv1_matroska.proofs.AgainLaws.{once_again, other_fault}
 use Rattle.ffv1_files.specs.declared.container.Scope.{Scope}
 use Rattle.ffv1_files.specs.declared.container.Scope.TheVariants as scope
 use Rattle.ffv1_files.specs.Again.{LacksTracks, lacks_tracks}
@@ -46,6 +48,24 @@ once_open scope.Whole text rest x h = on_first (is_matroska text) refl h
     on_first true is k =
         let first = read_on_ok (beginning.open_read text) matroska_begun (x, rest) k in
         ap (λ z. read_on z matroska_begun) (once_again text (Ok first.0) first.1) ∙ first.2
+
+-- and so is a fault of one that is not read again
+pub once_refuses : (text rest : List ℕ) (f : FileFault) → may_be_told f ≡ true → once_read scope.Whole text ≡ Err (Met f rest) → open_read scope.Whole text ≡ Err (Met f rest)
+unfolding open_read once_read
+once_refuses text rest f told h = on_first (is_matroska text) h
+  where
+    other : f ≡ fault.NoTracks → ⊥
+    other is = absurd (let no : false ≡ true = subst (λ e. may_be_told e ≡ true) is told in cc)
+
+    on_read : (z : Result (beginning.Opened × List ℕ) Stop) → beginning.open_read text ≡ z → read_on z matroska_begun ≡ Err (Met f rest) → read_on (again_read text) matroska_begun ≡ Err (Met f rest)
+    on_read (Ok p) is k = absurd (cc (k))
+    on_read (Err why) is k =
+        let same : ◌≡◌ {A = Stop} why (Met f rest) = cc (k) in
+        ap (λ z. read_on z matroska_begun) (once_again text (Err (Met f rest)) (is ∙ ap Err same) ∙ other_fault text rest f other)
+
+    on_first : (b : Bool) → (if b then matroska_once text else avi_opened EveryRiff text) ≡ Err (Met f rest) → (if b then matroska_opened text else avi_opened EveryRiff text) ≡ Err (Met f rest)
+    on_first false k = k
+    on_first true k = on_read (beginning.open_read text) refl k
 
 pub once_opens : (s : Scope) (p : Passage) (x : Head × Place) → ReadsAs (once_read s) p x → ReadsAs (open_read s) p x
 once_opens s p x h = (h.0, known_map p.old p.new _ _ (λ text rest is. once_open s text rest x is) h.1)

@@ -10,3 +10,4 @@ pub mod Offsets
 pub mod Items
 pub mod Again
 pub mod Salvaged
+pub mod Ways

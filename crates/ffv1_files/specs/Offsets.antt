@@ -8,6 +8,7 @@ use Rattle.ffv1_reads.specs.Head.{Head}
 use Rattle.ffv1_reads.specs.Offsets.{ReadsWhole, StopsAfter, offset_after}
 use Rattle.ffv1_reads.specs.Reads.{Reading}
 use Rattle.ffv1_reads.specs.declared.fault.FileFault.{FileFault}
+use Rattle.ffv1_reads.specs.declared.fault.FileFault.TheVariants as fault
 use Rattle.ffv1_avi.specs.Offsets as avi
 use Rattle.ffv1_avi.specs.declared.place.Extent.{Extent}
 use Rattle.ffv1_avi.specs.declared.place.Extent.TheVariants.{FirstMovi, EveryRiff}
@@ -21,6 +22,7 @@ use Rattle.ffv1_matroska.specs.declared.place.Place.{Place as MatroskaPlace}
 use Rattle.ffv1_matroska.specs.declared.track.TrackNumbers.{TrackNumbers}
 use Rattle.ffv1_files.specs.declared.container.Scope.{Scope}
 use Rattle.ffv1_files.specs.declared.container.Scope.TheVariants as scope
+use Rattle.ffv1_files.specs.Again.{lacks_tracks}
 use Rattle.ffv1_files.specs.Places.{InAvi, InMatroska, Place}
 use Rattle.ffv1_files.specs.Readers.{Standing}
 
@@ -144,12 +146,24 @@ MatroskaReached text left numbers place offset =
     ⊎ ((place ≡ ended) × (head : Head)
     × EndsKnown text left (record { numbers = numbers; head = head }) offset)))
 
+-- read once, up to its frames
+abbrev pub StopsOnce : Passage → FileFault → ℕ → Type 0
+StopsOnce p f offset =
+    (to : matroska.Spot) × (count : ℕ) × matroska.OpeningStops matroska.Start p f to count
+    × (offset ≡ offset_after 0 count)
+
+-- it has no Tracks: it was read again for these, up to what is left now, and it stops where the
+-- first reading did, at its first Cluster or at its end
+abbrev pub StopsWithout : Passage → FileFault → ℕ → Type 0
+StopsWithout p f offset =
+    (f ≡ fault.NoTracks) × (left : Option (List ℕ)) × StopsOnce (record p { new = left }) f offset
+
 abbrev pub MatroskaStops : Passage → FileFault → ℕ → Type 0
 MatroskaStops p f offset =
-    ((to : matroska.Spot) × (count : ℕ) × matroska.OpeningStops matroska.Start p f to count
-    × (offset ≡ offset_after 0 count))
+    StopsOnce p f offset
     ⊎ (((track : Track) × StopsThrough (matroska_layout track) p f offset)
-    ⊎ (StopsTwice p f offset ⊎ StopsKnown p f offset))
+    ⊎ (((lacks_tracks f ≡ false) × StopsTwice p f offset)
+    ⊎ (StopsKnown p f offset ⊎ StopsWithout p f offset)))
 
 -- what was read before a position; up to its first movi a file is read as AVI alone
 abbrev pub PlaceReached : Scope → Option (List ℕ) → Option (List ℕ) → Head → Place → ℕ → Type 0

@@ -1,6 +1,7 @@
 //! What a file that may be damaged gives, one by one, of either container.
 
-ghost use Rattle.std.specs.Prelude.{◌≡◌, IfOk, None};
+ghost use Rattle.std.specs.Prelude.{◌≡◌, ◌≤◌, ◌+◌, ◌*◌, IfOk, None, length, max};
+ghost use Rattle.std.specs.Vec.{vec_capacity};
 ghost use Rattle.ffv1_wire.specs.Passage.{passage};
 ghost use Rattle.ffv1_reads.specs.Items.{SaidBy};
 ghost use Rattle.ffv1_reads.specs.declared.item.Item.TheVariants as item;
@@ -71,6 +72,10 @@ pub(crate) fn read_chunk_item<R: ByteIn, A: Allocator>(
     ensures kind { (course.old ≡ Plain → ⊥) → course.new ≡ Plain → ⊥ }
     ensures plain { course.old ≡ Plain → course.new ≡ Plain }
     ensures kept { reader.new.room ≡ reader.old.room }
+    ensures room { vec_capacity frame.new
+        ≤ max (vec_capacity frame.old) (2 * length frame.new.items + 65536) }
+    ensures held { IfOk result (λ i. i ≡ item.Frame →
+        vec_capacity frame.new ≤ max (vec_capacity frame.old) (length frame.new.items)) }
     ensures ended { reader.old.fault ≡ None → IfOk result (λ i. i ≡ item.End →
         SaidBy (course_ended course.old)
         (R.remaining input.old) (R.remaining input.new) course.new) }
@@ -107,6 +112,10 @@ pub(crate) fn read_element_item<R: ByteIn, A: Allocator>(
         (InMatroska reader.now.segment reader.now.track.numbers reader.now.place) course.new }
     ensures kind { (course.old ≡ Plain → ⊥) → course.new ≡ Plain → ⊥ }
     ensures plain { course.old ≡ Plain → course.new ≡ Plain }
+    ensures room { vec_capacity frame.new
+        ≤ max (vec_capacity frame.old) (2 * length frame.new.items + 65536) }
+    ensures held { IfOk result (λ i. i ≡ item.Frame →
+        vec_capacity frame.new ≤ max (vec_capacity frame.old) (length frame.new.items)) }
     ensures cued { IfOk result (λ i. CuedBy (cued_item
         (InMatroska reader.now.segment reader.now.track.numbers reader.now.place) course.old
         cued.old) (R.remaining input.old) (R.remaining input.new) cued.new) }

@@ -26,6 +26,7 @@ mod opening;
 mod reader;
 pub mod salvage_laws;
 mod salvaging;
+mod way;
 pub mod written_laws;
 
 pub use container::{Container, Scope};
@@ -34,3 +35,4 @@ pub use ffv1_matroska::{ToldFault, ToldFaults};
 pub use ffv1_reads::Item;
 pub use notes::Notes;
 pub use reader::FileReader;
+pub use way::Way;

@@ -1,6 +1,6 @@
 //! Opens files of which all is read, as what they are.
 
-ghost use Rattle.std.specs.Prelude.{◌≡◌, ◌≤◌, true, false, None, IfErr, IfOk};
+ghost use Rattle.std.specs.Prelude.{◌≡◌, ◌≤◌, if◌then◌else◌, true, false, None, IfErr, IfOk};
 ghost use Rattle.ffv1_wire.specs.Passage.{passage};
 ghost use Rattle.ffv1_reads.specs.Known.{Known};
 ghost use Rattle.ffv1_reads.specs.Room.{RoomRead};
@@ -11,7 +11,7 @@ ghost use Rattle.ffv1_files.specs.Behind.{EndsThere};
 ghost use Rattle.ffv1_files.specs.Endings.{opening_endings};
 ghost use Rattle.ffv1_files.specs.Files.{once_read};
 ghost use Rattle.ffv1_files.specs.Noted.{StreamsReached, TimesBegin};
-ghost use Rattle.ffv1_files.specs.Offsets.{Reached, StopsAt};
+ghost use Rattle.ffv1_files.specs.Offsets.{Reached, StopsAt, StopsOnce};
 ghost use Rattle.ffv1_files.specs.Places.{least_bytes, least_in, most_bytes, most_in};
 ghost use Rattle.ffv1_files.specs.Readers.{is_opening_fault, opened_at};
 
@@ -46,6 +46,8 @@ fn open_once<R: ByteIn, A: Allocator + Copy>(
         (passage R.remaining R.failures input.old input.new) f offset.new) }
     ensures late { IfErr result (λ f. lacks_tracks f ≡ true →
         Known (R.remaining input.old) (R.remaining input.new) LacksTracks) }
+    ensures first { IfErr result (λ f. lacks_tracks f ≡ true → StopsOnce
+        (passage R.remaining R.failures input.old input.new) f offset.new) }
     ensures ends { IfOk result EndsThere }
     ensures uncued { IfOk result (λ r. r.cued ≡ false) }
     ensures untold { IfOk result (λ r. r.after ≡ None) }
@@ -85,9 +87,18 @@ pub(crate) fn lacks_tracks(fault: FileFault) -> bool
     }
 }
 
+/// Where a file stops that was read again, by where the first reading did: there, if it has no
+/// Tracks at all.
+pub(crate) fn stop_of(fault: FileFault, first: u64, last: u64) -> u64
+    ensures { result ≡ (if lacks_tracks fault then first else last) }
+{
+    if lacks_tracks(fault) { first } else { last }
+}
+
 /// Opens a file that is read whole: once, or if it lacks Tracks where they are looked for first,
 /// from its beginning again, if the input can begin again. After a fault `offset` is the number of
-/// bytes before the element or chunk at fault.
+/// bytes before the element or chunk at fault; if it has no Tracks at all, as the first reading
+/// says.
 pub(crate) fn open_whole<R: AgainIn, A: Allocator + Copy>(
     alloc: A,
     input: &mut R,
@@ -124,10 +135,14 @@ pub(crate) fn open_whole<R: AgainIn, A: Allocator + Copy>(
     let Some(start) = start else {
         return Err(fault);
     };
+    let first = *offset;
     match MatroskaReader::open_again(alloc, &start, input, offset) {
         Ok(reader) => Ok(FileReader {
             inner: Inner::Matroska(reader),
         }),
-        Err(fault) => Err(fault),
+        Err(fault) => {
+            *offset = stop_of(fault, first, *offset);
+            Err(fault)
+        }
     }
 }

@@ -2,7 +2,7 @@
 
 ghost use Rattle.std.specs.Prelude.{◌≡◌, ◌<◌, ◌≤◌, ℕ, Bool, List, [], true, false, Option, None};
 ghost use Rattle.std.specs.Prelude.{Some};
-ghost use Rattle.std.specs.Prelude.{IfErr, IfOk, OnErr, Ok, Err, length};
+ghost use Rattle.std.specs.Prelude.{IfErr, IfOk, OnErr, Ok, Err, length, max, ◌+◌, ◌*◌};
 ghost use Rattle.std.specs.Vec.{vec_capacity};
 ghost use Rattle.ffv1_wire.specs.Passage.{passage};
 ghost use Rattle.ffv1_reads.specs.Head.{head_of};
@@ -312,7 +312,9 @@ impl<A: Allocator> FileReader<A> {
     /// `MatroskaReader` do, by a course that begins as `course` says: the reader stays where it is.
     /// But an AVI of which the first `movi` alone is read gives what `next_frame` gives, and its
     /// first fault is answered. The input has to be the one that the reader was opened on, and the
-    /// reader not to have met a fault. By a course of another container nothing comes.
+    /// reader not to have met a fault. By a course of another container nothing comes. After a
+    /// frame the vector has room for as many bytes as it had, or as the frame has, if that is more;
+    /// else at most for twice as many as it holds and 65536 more.
     ///
     /// `cued` is lent to each call, and is false before the first one. It is then whether Cues came
     /// after the last Cluster of a Segment, by the elements that were read so far; an AVI leaves it
@@ -334,6 +336,10 @@ impl<A: Allocator> FileReader<A> {
         ensures kind { (course.old ≡ Plain → ⊥) → course.new ≡ Plain → ⊥ }
         ensures plain { course.old ≡ Plain → course.new ≡ Plain }
         ensures kept { self.new.room ≡ self.old.room }
+        ensures room { vec_capacity frame.new
+            ≤ max (vec_capacity frame.old) (2 * length frame.new.items + 65536) }
+        ensures held { IfOk result (λ i. i ≡ item.Frame →
+            vec_capacity frame.new ≤ max (vec_capacity frame.old) (length frame.new.items)) }
         ensures cued { self.old.fault ≡ None → IfOk result (λ i. CuedBy
             (cued_item self.old.place course.old cued.old)
             (R.remaining input.old) (R.remaining input.new) cued.new) }

@@ -3,6 +3,7 @@ use Rattle.std.proofs.Common.{◌≡◌, ℕ, Bool, true, Option, Some, None, Er
 use Rattle.std.specs.Io.KnownBytes.{Keeps}
 use Rattle.ffv1_wire.specs.Passage.{Passage, between}
 use Rattle.ffv1_video.specs.declared.fault.Fault.{Fault}
+use Rattle.ffv1_reads.specs.declared.fault.FileFault.TheVariants as file_fault
 use Rattle.ffv1_video.specs.declared.fault.Fault.TheVariants as fault
 use Rattle.ffv1_video.specs.declared.profile.Profile.{Profile}
 use Rattle.ffv1_outline.specs.Beginnings.{IsBeginning}
@@ -43,13 +44,13 @@ pub outline_stops : (profile : Profile) (form : Form) (count : Bool) (file : Opt
 outline_stops profile form count file begins o0 o1 ob om f h = inr (inl (record { begins = begins; stops = group_stops (outline_facts form begins.bytes) o0 o1 ob om f h }))
 
 -- what is read of the reader that begins with the first bytes is read of the file
-again_there : (profile : Profile) (file input rest : Option (List ℕ)) (before after : ℕ) → Keeps file input → IsReadAgain profile true (between input rest before after) fault.NoTracks → IsReadAgain profile true (between file rest 0 0) fault.NoTracks
+again_there : (profile : Profile) (file input rest : Option (List ℕ)) (before after : ℕ) → Keeps file input → IsReadAgain profile true (between input rest before after) (fault.File file_fault.NoTracks) → IsReadAgain profile true (between file rest 0 0) (fault.File file_fault.NoTracks)
 again_there profile None input rest before after same h = λ on. tt
 again_there profile (Some text) None rest before after same h = absurd same
-again_there profile (Some text) (Some all) rest before after same h = subst (λ z. IsReadAgain profile true (between (Some z) rest 0 0) fault.NoTracks) same h
+again_there profile (Some text) (Some all) rest before after same h = subst (λ z. IsReadAgain profile true (between (Some z) rest 0 0) (fault.File file_fault.NoTracks)) same h
 
 pub file_again : (profile : Profile) (file input rest : Option (List ℕ)) (before after : ℕ) (begins : Bool) (f : Fault) → Keeps file input → begins ≡ true → IsReadAgain profile begins (between input rest before after) f → IsInfoReadAgain profile file f
-file_again profile file input rest before after begins fault.NoTracks same able h = (rest, again_there profile file input rest before after same (λ on. h able))
+file_again profile file input rest before after begins (fault.File file_fault.NoTracks) same able h = (rest, again_there profile file input rest before after same (λ on. h able))
 file_again profile file input rest before after begins f same able h = (None, tt)
 
 -- a line that was not written

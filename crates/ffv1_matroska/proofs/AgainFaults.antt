@@ -18,11 +18,11 @@ use Rattle.ffv1_reads.proofs.Made.{Made, made_given, made_if, made_passed, made_
 
 ruleset made = (made_if, made_then, made_refused, made_wanted, made_given, made_passed)
 
-of_cluster : {ends : Bool} (size : Option ℕ) → Made is_opening_fault ends (cluster_passed size)
+pub of_cluster : {ends : Bool} (size : Option ℕ) → Made is_opening_fault ends (cluster_passed size)
 of_cluster None = made_given true
 of_cluster (Some size) = search (made) depth 14
 
-of_loose : {ends : Bool} (size : Option ℕ) → Made is_opening_fault ends (loose_passed size)
+pub of_loose : {ends : Bool} (size : Option ℕ) → Made is_opening_fault ends (loose_passed size)
 of_loose None = made_refused fault.BadElement refl
 of_loose (Some size) = search (made) depth 14
 

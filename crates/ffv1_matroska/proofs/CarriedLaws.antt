@@ -1,6 +1,5 @@
 -- What holds beside elements that are read one after the other, if it goes on with each of them.
-use Rattle.std.proofs.Common.{◌≡◌, ◌++◌, ℕ, List, [], ◌∷◌, Option, Some, None, Ok, refl, sym, ap, subst, append_assoc}
-use Rattle.std.specs.Io.KnownBytes.{Consumes}
+use Rattle.std.proofs.Common.{◌≡◌, ◌++◌, ℕ, List, [], ◌∷◌, Some, Ok, sym, subst, append_assoc}
 use Rattle.ffv1_reads.specs.Offsets.{Leads, ReadsWhole, all_bytes}
 use Rattle.ffv1_reads.specs.Reads.{given}
 use Rattle.ffv1_reads.proofs.Results.{ok_is, read_on_ok}

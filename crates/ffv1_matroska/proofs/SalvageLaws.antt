@@ -154,7 +154,7 @@ visit_same None now ident size text rest is = on_tracks (ident == tracks) is
         moved ((element_salvaged ident size >>= none_with) text) None now one.0.1 rest same (rw (element_same ident size text one.0.1 one.1) refl)
 
 -- a Segment that is read plainly
-abbrev SameBegun : ℕ → Place → Option Track → Place → List ToldFault → List ℕ → Track × Place → List ℕ → Type 0
+abbrev pub SameBegun : ℕ → Place → Option Track → Place → List ToldFault → List ℕ → Track × Place → List ℕ → Type 0
 SameBegun k begin found here faults text p rest = (at : Place) × (salvage_up_to k begin found here faults text ≡ Ok (record { track = p.0; place = p.1; here = at; told = faults }, rest))
 
 begun_same : (found : Option Track) (place at : Place) (faults : List ToldFault) (text rest : List ℕ) (p : Track × Place) → begun_at found place text ≡ Ok (p, rest) →
@@ -163,7 +163,7 @@ unfolding begun_at salvage_begun
 begun_same None place at faults text rest p is = no_ok (p, rest) (Met fault.NoTracks text) is
 begun_same (Some track) place at faults text rest p is = let same = same_ok (track, place) p text rest is in rw (← same.0, same.1) refl
 
-begin_same : (k : ℕ) (begin : Place) (found : Option Track) (here : Place) (faults : List ToldFault) (text rest : List ℕ) (p : Track × Place) → begin_up_to k found here text ≡ Ok (p, rest) → SameBegun k begin found here faults text p rest
+pub begin_same : (k : ℕ) (begin : Place) (found : Option Track) (here : Place) (faults : List ToldFault) (text rest : List ℕ) (p : Track × Place) → begin_up_to k found here text ≡ Ok (p, rest) → SameBegun k begin found here faults text p rest
 unfolding begin_up_to salvage_up_to
 begin_same zero begin found here faults text rest p is = no_ok (p, rest) (Met fault.NoTracks text) is
 begin_same (suc k) begin found here faults text rest p is =
@@ -196,7 +196,7 @@ open_by : (text mid left rest : List ℕ) (size : Option ℕ) (b : Begun) → eb
 unfolding salvage_read
 open_by text mid left rest size b one two three = rw (one, two, three) refl
 
-moved_open : (r : Result (Salvaged × List ℕ) Stop) (a b : Opened) (begun : ℕ) (x y : List ℕ) → (a ≡ b) × (x ≡ y) → r ≡ Ok (record { opened = a; begun = begun; told = [] }, x) → r ≡ Ok (record { opened = b; begun = begun; told = [] }, y)
+pub moved_open : (r : Result (Salvaged × List ℕ) Stop) (a b : Opened) (begun : ℕ) (x y : List ℕ) → (a ≡ b) × (x ≡ y) → r ≡ Ok (record { opened = a; begun = begun; told = [] }, x) → r ≡ Ok (record { opened = b; begun = begun; told = [] }, y)
 moved_open r a b begun x y same h = rw (← same.0, ← same.1) h
 
 pub open_same : (text rest : List ℕ) (o : Opened) → open_read text ≡ Ok (o, rest) → (begun : ℕ) × (salvage_read text ≡ Ok (record { opened = o; begun = begun; told = [] }, rest))

@@ -26,29 +26,29 @@ use Rattle.ffv1_matroska.proofs.ReadingFaults.{of_header}
 use Rattle.ffv1_matroska.proofs.SalvageLaws.{no_err, no_ok, read_on_met, same_met, same_ok, short_met}
 
 -- a reading meets these alone, and what it gives has this property
-record Owns {X : Type 0} (Q : X → Type 0) (r : Reading X) : Type 0 where
+pub record Owns {X : Type 0} (Q : X → Type 0) (r : Reading X) : Type 0 where
   pub meets : (text rest : List ℕ) (f : FileFault) → r text ≡ Err (Met f rest) → is_opening_fault f ≡ true
   pub gives : (text rest : List ℕ) (x : X) → r text ≡ Ok (x, rest) → Q x
 
-abbrev Whatever : {X : Type 0} → X → Type 0
+abbrev pub Whatever : {X : Type 0} → X → Type 0
 Whatever x = Unit {0}
 
-owns_made : {X : Type 0} {r : Reading X} → Made is_opening_fault true r → Owns Whatever r
+pub owns_made : {X : Type 0} {r : Reading X} → Made is_opening_fault true r → Owns Whatever r
 owns_made made = record { meets = λ text rest f is. made_meets made text rest f is; gives = λ text rest x is. tt }
 
-owns_given : {X : Type 0} {Q : X → Type 0} (x : X) → Q x → Owns Q (given x)
+pub owns_given : {X : Type 0} {Q : X → Type 0} (x : X) → Q x → Owns Q (given x)
 owns_given {X = X} {Q = Q} x h = record {
   meets = λ text rest f is. no_err (x, text) (Met f rest) is;
   gives = λ text rest y is. subst Q (same_ok x y text rest is).0 h;
 }
 
-owns_refused : {X : Type 0} {Q : X → Type 0} (f : FileFault) → is_opening_fault f ≡ true → Owns Q (refused {X = X} f)
+pub owns_refused : {X : Type 0} {Q : X → Type 0} (f : FileFault) → is_opening_fault f ≡ true → Owns Q (refused {X = X} f)
 owns_refused {X = X} f own = record {
   meets = λ text rest g is. subst (λ z. is_opening_fault z ≡ true) (same_met {X = X × List ℕ} f g text rest is) own;
   gives = λ text rest y is. no_ok (y, rest) (Met f text) is;
 }
 
-owns_then : {X Y : Type 0} {Q : X → Type 0} {P : Y → Type 0} (r : Reading X) (k : X → Reading Y) → Owns Q r → ((x : X) → Q x → Owns P (k x)) → Owns P (r >>= k)
+pub owns_then : {X Y : Type 0} {Q : X → Type 0} {P : Y → Type 0} (r : Reading X) (k : X → Reading Y) → Owns Q r → ((x : X) → Q x → Owns P (k x)) → Owns P (r >>= k)
 owns_then {X = X} {Y = Y} {P = P} r k first next = record { meets = λ text rest f is. on_first text rest f (read_on_met (r text) k f rest is); gives = λ text rest y is. on_ok text rest y (read_on_ok (r text) k (y, rest) is) }
   where
     on_first : (text rest : List ℕ) (f : FileFault) → (r text ≡ Err (Met f rest)) ⊎ ((p : X × List ℕ) × (r text ≡ Ok p) × (k p.0 p.1 ≡ Err (Met f rest))) → is_opening_fault f ≡ true
@@ -58,13 +58,13 @@ owns_then {X = X} {Y = Y} {P = P} r k first next = record { meets = λ text rest
     on_ok : (text rest : List ℕ) (y : Y) → (p : X × List ℕ) × (r text ≡ Ok p) × (k p.0 p.1 ≡ Ok (y, rest)) → P y
     on_ok text rest y (p, one, two) = (next p.0 (first.gives text p.1 p.0 one)).gives p.1 rest y two
 
-owns_if : {X : Type 0} {Q : X → Type 0} (b : Bool) (r s : Reading X) → Owns Q r → Owns Q s → Owns Q (if b then r else s)
+pub owns_if : {X : Type 0} {Q : X → Type 0} (b : Bool) (r s : Reading X) → Owns Q r → Owns Q s → Owns Q (if b then r else s)
 owns_if true r s one two = one
 owns_if false r s one two = two
 
 -- ---- what may be told
 
-abbrev MayTell : Option FileFault → Type 0
+abbrev pub MayTell : Option FileFault → Type 0
 MayTell o = IfSome o (λ f. may_be_told f ≡ true)
 
 told_own : (f : FileFault) → may_be_told f ≡ true → is_opening_fault f ≡ true
@@ -81,7 +81,7 @@ sum_may content = on_sum (content_told content) refl
     on_sum (Err fault.Checksum) is = rw is refl
     on_sum (Err f) is = rw is tt
 
-more_owns : (faults : List ToldFault) (o : Option FileFault) (position : Option ℕ) → MayTell o → Owns Whatever (told (told_more faults o position))
+pub more_owns : (faults : List ToldFault) (o : Option FileFault) (position : Option ℕ) → MayTell o → Owns Whatever (told (told_more faults o position))
 more_owns faults None position may = owns_given faults tt
 more_owns faults (Some f) position may = on_test (nat_lt (length faults) 16) refl
   where
@@ -91,13 +91,13 @@ more_owns faults (Some f) position may = on_test (nat_lt (length faults) 16) ref
 
 -- ---- elements
 
-ebml_owns : Owns MayTell ebml_salvaged
+pub ebml_owns : Owns MayTell ebml_salvaged
 unfolding ebml_salvaged
 ebml_owns =
     owns_then (ident_read ebml) _ (owns_made (of_ident ebml)) (λ u _. owns_then top_size _ (owns_made of_size) (λ size _. owns_then (content_kept size) _ (owns_made (of_kept size)) (λ content _.
     owns_then (told (header_in (sound_part content))) _ (owns_made (of_told (header_in (sound_part content)) (told_header (sound_part content)))) (λ v _. owns_given (sum_fault content) (sum_may content)))))
 
-tracks_owns : (size : Option ℕ) → Owns (λ (p : Track × Option FileFault). MayTell p.1) (tracks_salvaged size)
+pub tracks_owns : (size : Option ℕ) → Owns (λ (p : Track × Option FileFault). MayTell p.1) (tracks_salvaged size)
 unfolding tracks_salvaged
 tracks_owns size =
     owns_then (content_kept size) _ (owns_made (of_kept size)) (λ content _.
@@ -126,7 +126,7 @@ place_may : (b : Bool) → MayTell (if b then None else Some fault.BadElement)
 place_may true = tt
 place_may false = refl
 
-element_owns : (ident : ℕ) (size : Option ℕ) → Owns MayTell (element_salvaged ident size)
+pub element_owns : (ident : ℕ) (size : Option ℕ) → Owns MayTell (element_salvaged ident size)
 unfolding element_salvaged
 element_owns ident None = owns_refused fault.BadElement refl
 element_owns ident (Some size) =
@@ -149,7 +149,7 @@ unfolding salvage_begun
 begun_owns None place here faults = owns_refused fault.NoTracks refl
 begun_owns (Some track) place here faults = owns_given _ tt
 
-up_to_owns : (k : ℕ) (begin : Place) (found : Option Track) (here : Place) (faults : List ToldFault) → Owns Whatever (salvage_up_to k begin found here faults)
+pub up_to_owns : (k : ℕ) (begin : Place) (found : Option Track) (here : Place) (faults : List ToldFault) → Owns Whatever (salvage_up_to k begin found here faults)
 unfolding salvage_up_to
 up_to_owns zero begin found here faults = owns_refused fault.NoTracks refl
 up_to_owns (suc k) begin found here faults = owns_then (header_read here) (salvage_or_begun (salvage_up_to k begin) begin found here faults) (owns_made (of_header basic here)) (λ o _. on_header (λ now at more. up_to_owns k begin now at more) o)

@@ -168,11 +168,11 @@ module _ (k : ℕ) (begin : Place) (found : Option Track) (here : Place) (faults
 -- ---- a file
 
 -- the Segment was not entered
-no_data : (bytes : List ℕ) (why : Stop) → (ebml_salvaged >>= λ _. segment_entered) bytes ≡ Err why → data_at bytes ≡ 0
+pub no_data : (bytes : List ℕ) (why : Stop) → (ebml_salvaged >>= λ _. segment_entered) bytes ≡ Err why → data_at bytes ≡ 0
 unfolding data_at
 no_data bytes why is = rw is refl
 
-some_data : (bytes rest : List ℕ) (size : Option ℕ) → (ebml_salvaged >>= λ _. segment_entered) bytes ≡ Ok (size, rest) → data_at bytes ≡ length bytes - length rest
+pub some_data : (bytes rest : List ℕ) (size : Option ℕ) → (ebml_salvaged >>= λ _. segment_entered) bytes ≡ Ok (size, rest) → data_at bytes ≡ length bytes - length rest
 unfolding data_at
 some_data bytes rest size is = rw is refl
 

@@ -152,14 +152,14 @@ content_all n = record { only = λ text rest o h. (tt, on_content text rest o (c
     on_content text rest o (Err (Met f left)) is h = no_ok (o, rest) (Met f left) h
     on_content text rest o (Err (Short w)) is h = no_ok (o, rest) (Short w) h
 
-element_all : (ident : ℕ) (size : Option ℕ) → Takes Any (bytes_of size) (λ (o : Option FileFault). 0) (element_salvaged ident size)
+pub element_all : (ident : ℕ) (size : Option ℕ) → Takes Any (bytes_of size) (λ (o : Option FileFault). 0) (element_salvaged ident size)
 unfolding element_salvaged
 element_all ident None = takes_refused fault.BadElement
 element_all ident (Some n) =
     takes_if (is_section ident) (content_salvaged n) _ (λ _. content_all n)
     (λ _. takes_then (passed n) _ (takes_same _ n (passed n) (omega arith) (takes_passed n 0)) (λ _ _. takes_given _ tt refl))
 
-tracks_all : (size : Option ℕ) → Takes Any (bytes_of size) (λ (p : Track × Option FileFault). 0) (tracks_salvaged size)
+pub tracks_all : (size : Option ℕ) → Takes Any (bytes_of size) (λ (p : Track × Option FileFault). 0) (tracks_salvaged size)
 unfolding tracks_salvaged
 tracks_all size = takes_then (content_kept size) _ (kept_takes size) (λ content _. takes_then (told (track_in (sound_part content))) _ (told_takes (track_in (sound_part content))) (λ track _. takes_given (track, sum_fault content) tt refl))
 

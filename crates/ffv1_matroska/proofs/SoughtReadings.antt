@@ -59,7 +59,7 @@ found_last {Y = Y} {whole = whole} {old = old} {now = now} {before = before} {af
     on_result (Err f) why = on_fault f why
 
 -- what comes after one element
-abbrev On : Type 0
+abbrev pub On : Type 0
 On = Place → Reading Track
 
 -- the end of the Segment
@@ -77,11 +77,11 @@ pub sought_other : (on : On) (place : Place) (e : Element) → (e.ident == track
 sought_other on place e is text = rw is refl
 
 -- how many bytes it has
-cluster_takes : (size : Option ℕ) → Takes Any (bytes_of size) (λ _. 0) (cluster_passed size)
+pub cluster_takes : (size : Option ℕ) → Takes Any (bytes_of size) (λ _. 0) (cluster_passed size)
 cluster_takes None = takes_given true tt refl
 cluster_takes (Some n) = takes_then (passed n) _ (takes_same _ _ (passed n) (omega arith) (takes_passed n 0)) (λ _ _. takes_given false tt refl)
 
-loose_takes : (size : Option ℕ) → Takes Any (bytes_of size) (λ _. 0) (loose_passed size)
+pub loose_takes : (size : Option ℕ) → Takes Any (bytes_of size) (λ _. 0) (loose_passed size)
 loose_takes None = takes_refused fault.BadElement
 loose_takes (Some n) = takes_then (passed n) _ (takes_same _ _ (passed n) (omega arith) (takes_passed n 0)) (λ _ _. takes_given true tt refl)
 

@@ -1,12 +1,11 @@
 -- The three forms of a written file, as they open and as their elements are read.
-use Rattle.std.proofs.Common.{◌≡◌, ◌⊎◌, ◌≤◌, ◌<◌, ◌+◌, ◌-◌, ◌*◌, ◌^◌, ◌==◌, ◌∙◌, ◌++◌, ℕ, suc, List, [], ◌∷◌, Bool, true, false, Option, Some, None, Ok, length, refl, sym, ap, subst, arith, inl, inr, append-nil, append_assoc, length-append}
-use Rattle.std.proofs.lemmas.Bool.{cases_eq, eq-eqb, ne_eqb}
+use Rattle.std.proofs.Common.{◌≡◌, ◌⊎◌, ◌<◌, ◌+◌, ◌-◌, ◌^◌, ◌∙◌, ◌++◌, ℕ, List, [], ◌∷◌, Bool, true, false, Option, Some, None, Ok, length, refl, sym, ap, subst, arith, inl, inr, append-nil, append_assoc, length-append}
+use Rattle.std.proofs.lemmas.Bool.{cases_eq, ne_eqb}
 use Rattle.ffv1_reads.specs.Head.{Head}
 use Rattle.ffv1_reads.specs.Offsets.{ReadsWhole}
 use Rattle.ffv1_reads.proofs.Results.{ok_is}
 use Rattle.ffv1_ebml.specs.Spelled.{SaysSize, ident_length}
 use Rattle.ffv1_ebml.proofs.SpelledLaws.{long_spelled, unknown_spelled}
-use Rattle.ffv1_matroska.specs.Carried.{carried}
 use Rattle.ffv1_matroska.specs.Cues.{cued_behind, cued_taken}
 use Rattle.ffv1_matroska.specs.Late.{again_read}
 use Rattle.ffv1_matroska.specs.MatroskaFiles.{endless}
@@ -14,12 +13,10 @@ use Rattle.ffv1_matroska.specs.Opened.{Opened}
 use Rattle.ffv1_matroska.specs.Scales.{tick_in}
 use Rattle.ffv1_matroska.specs.Segments.{step_read}
 use Rattle.ffv1_matroska.specs.Times.{timed_behind, timed_taken, times_begun}
-use Rattle.ffv1_matroska.specs.Written.{begun_of, checked, clusters_from, cues_element, cues_from, cues_of, ebml_header, finish_of, finished_of, frame_duration, open_of, opening, segment_size, tick_of, tracks_element}
+use Rattle.ffv1_matroska.specs.Written.{begun_of, clusters_from, cues_element, cues_from, cues_of, ebml_header, finish_of, finished_of, frame_duration, open_of, opening, segment_size, tick_of, tracks_element}
 use Rattle.ffv1_matroska.specs.WrittenFiles.{IsWritable}
 use Rattle.ffv1_matroska.specs.WrittenPlaces.{stride_of}
 use Rattle.ffv1_matroska.specs.WrittenTimes.{ComeInTime, EndsWhole}
-use Rattle.ffv1_matroska.specs.declared.place.Place.{Place}
-use Rattle.ffv1_matroska.specs.declared.times.Times.{Times}
 use Rattle.ffv1_matroska.specs.declared.track_entry.TrackEntry.{TrackEntry}
 use Rattle.ffv1_matroska.specs.declared.write.opening.Finish.{Finish}
 use Rattle.ffv1_matroska.proofs.CarriedLaws.{carried_holds}
@@ -29,7 +26,7 @@ use Rattle.ffv1_matroska.proofs.WrittenClusters.{written_numbers}
 use Rattle.ffv1_matroska.proofs.WrittenFile.{clusters_least, kept, kept_few}
 use Rattle.ffv1_matroska.proofs.WrittenLengths.{checked_long, cues_from_long, cues_long}
 use Rattle.ffv1_matroska.proofs.WrittenOpened.{OpensAt, counted, first_at, first_text, open_ended, opens_at, track_of}
-use Rattle.ffv1_matroska.proofs.WrittenPhases.{Before, Entered, IsFine, IsTail, Phase, after}
+use Rattle.ffv1_matroska.proofs.WrittenPhases.{Entered, IsFine, IsTail, after}
 use Rattle.ffv1_matroska.proofs.WrittenTimed.{StandsCued, StandsTimed, cued_go_on, ends_cued, has, times_go_on}
 
 -- a tick is a frame's duration, if that is known

@@ -1,26 +1,26 @@
 -- How a written file opens, and how many nanoseconds a tick of it has.
-use Rattle.std.proofs.Common.{◌≡◌, ◌⊎◌, ◌≤◌, ◌<◌, ◌+◌, ◌-◌, ◌%◌, ◌^◌, ◌==◌, ◌∙◌, ◌++◌, ℕ, suc, zero, List, [], ◌∷◌, Bool, true, false, Option, Some, None, Result, Ok, length, take, drop, min, nat_le, refl, sym, ap, arith, inl, inr, append-nil, append_assoc, length-append}
+use Rattle.std.proofs.Common.{◌≡◌, ◌≤◌, ◌<◌, ◌+◌, ◌-◌, ◌%◌, ◌^◌, ◌==◌, ◌∙◌, ◌++◌, ℕ, suc, zero, List, [], ◌∷◌, Bool, true, false, Option, Some, None, Ok, length, min, nat_le, refl, ap, arith, inl, inr, append-nil, append_assoc, length-append}
 use Rattle.std.proofs.Math.Nat.{min-eq_left}
 use Rattle.std.proofs.lemmas.Bool.{cases_eq, eq-eqb, le-leb, ne_eqb}
 use Rattle.std.specs.Int.{bytes_high_first, bytes_low_first}
 use Rattle.ffv1_sum.specs.Sum.{crc_of}
 use Rattle.ffv1_reads.specs.Head.{Head, frame_limit}
-use Rattle.ffv1_reads.specs.Reads.{Stop, given, read_on, ◌>>=◌}
+use Rattle.ffv1_reads.specs.Reads.{given, read_on}
 use Rattle.ffv1_reads.proofs.Results.{cut_back, cut_front}
-use Rattle.ffv1_ebml.specs.Contents.{Found, found, number_in}
+use Rattle.ffv1_ebml.specs.Contents.{found, number_in}
 use Rattle.ffv1_ebml.specs.Elements.{crc_ident}
-use Rattle.ffv1_ebml.specs.Spelled.{IsIdent, SaysSize, ident_bytes, ident_length, long, number_element, short, spelled}
+use Rattle.ffv1_ebml.specs.Spelled.{IsIdent, SaysSize, ident_bytes, long, short, spelled}
 use Rattle.ffv1_ebml.specs.declared.sum.Sum.TheVariants.{Absent, Begins}
 use Rattle.ffv1_ebml.proofs.ElementLaws.{element_spelled, found_first}
 use Rattle.ffv1_ebml.proofs.Numbers.{length_high}
 use Rattle.ffv1_ebml.proofs.SpelledLaws.{ident_spelled, long_spelled, number_high, short_spelled}
-use Rattle.ffv1_matroska.specs.Elements.{IsTopLevel, TopLevel, top_text, tops_text}
+use Rattle.ffv1_matroska.specs.Elements.{top_text, tops_text}
 use Rattle.ffv1_matroska.specs.Late.{again_read}
 use Rattle.ffv1_matroska.specs.MatroskaFiles.{FileBegins, endless}
 use Rattle.ffv1_matroska.specs.Opened.{Opened, begin_up_to, begun_at, element_or_begun, open_read, tracks}
 use Rattle.ffv1_matroska.specs.Opening.{segment_begun}
-use Rattle.ffv1_matroska.specs.Places.{amount, segment_at}
-use Rattle.ffv1_matroska.specs.Scales.{scale_from, scale_in, scale_of, scale_on, scale_told, scale_up_to, scale_with, tick_in}
+use Rattle.ffv1_matroska.specs.Places.{amount}
+use Rattle.ffv1_matroska.specs.Scales.{scale_from, scale_in, scale_of, scale_on, scale_up_to, scale_with, tick_in}
 use Rattle.ffv1_matroska.specs.Segments.{cluster}
 use Rattle.ffv1_matroska.specs.Tracks.{Track}
 use Rattle.ffv1_matroska.specs.Written.{checked, cluster_content, cluster_element, clusters_from, crc_element, duration_element, entry_element, frame_duration, info_content, opening, seeks, segment_size, short_element, tick_of, tracks_element, writer_name}
@@ -33,7 +33,7 @@ use Rattle.ffv1_matroska.proofs.OpenedLaws.{begins_complete, ebml_complete, segm
 use Rattle.ffv1_matroska.proofs.PartLaws.{header_is_read}
 use Rattle.ffv1_matroska.proofs.WrittenChecks.{crc_is_ident}
 use Rattle.ffv1_matroska.proofs.WrittenClusters.{written_numbers}
-use Rattle.ffv1_matroska.proofs.WrittenFile.{before_are, file_begins, info_few, info_is, info_top, no_tracks, seek_is, seek_top, seeks_few, tops_long, tracks_is, tracks_say, tracks_text, tracks_top}
+use Rattle.ffv1_matroska.proofs.WrittenFile.{before_are, file_begins, info_few, info_is, info_top, no_tracks, seek_is, seek_top, seeks_few, tops_long, tracks_is, tracks_say, tracks_top}
 use Rattle.ffv1_matroska.proofs.WrittenLengths.{checked_long, crc_long}
 use Rattle.ffv1_matroska.proofs.WrittenPhases.{after, tail_text}
 use Rattle.ffv1_matroska.proofs.SpelledLengths.{long_long}

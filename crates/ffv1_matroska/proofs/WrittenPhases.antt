@@ -1,8 +1,8 @@
 -- Where a reader of a written Segment stands, from one element to the next.
-use Rattle.std.proofs.Common.{append-nil, ◌≡◌, ◌⊎◌, ◌≤◌, ◌<◌, ◌+◌, ◌-◌, ◌^◌, ◌==◌, ◌∙◌, ◌++◌, ℕ, suc, List, [], ◌∷◌, Bool, true, false, Option, Some, None, Result, Ok, length, refl, sym, ap, subst, arith, inl, inr, append_assoc, length-append}
+use Rattle.std.proofs.Common.{append-nil, ◌≡◌, ◌⊎◌, ◌<◌, ◌+◌, ◌-◌, ◌^◌, ◌∙◌, ◌++◌, ℕ, suc, List, [], ◌∷◌, Bool, true, false, Option, Some, None, Result, Ok, length, refl, sym, ap, arith, inl, inr, append_assoc, length-append}
 use Rattle.std.specs.Int.{bytes_high_first, bytes_low_first}
 use Rattle.ffv1_sum.specs.Sum.{crc_of, number_of as low_number, turned}
-use Rattle.ffv1_reads.specs.Reads.{Kept, Stop, given, read_on, ◌>>=◌}
+use Rattle.ffv1_reads.specs.Reads.{Kept, Stop, given, read_on}
 use Rattle.ffv1_reads.proofs.Results.{ok_is}
 use Rattle.ffv1_reads.proofs.WantedBytes.{wanted_complete}
 use Rattle.ffv1_ebml.specs.Spelled.{ident_bytes, number_element, short}
@@ -12,7 +12,7 @@ use Rattle.ffv1_ebml.specs.declared.sum.Sum.TheVariants.{Absent, Begins, Awaits}
 use Rattle.ffv1_matroska.specs.Offsets.{element_taken, frame_taken, step_taken}
 use Rattle.ffv1_matroska.specs.Places.{closed, is_sound, summed_at}
 use Rattle.ffv1_matroska.specs.Segments.{step_read}
-use Rattle.ffv1_matroska.specs.Written.{block_header, checked, cluster_content, cluster_element, clusters_from, long_element}
+use Rattle.ffv1_matroska.specs.Written.{checked, cluster_content, cluster_element, clusters_from, long_element}
 use Rattle.ffv1_matroska.specs.WrittenFiles.{AreWritten}
 use Rattle.ffv1_matroska.specs.WrittenIdents.{cues, timestamp}
 use Rattle.ffv1_matroska.specs.declared.place.Place.{Place}

@@ -1,13 +1,13 @@
 -- The elements of a Segment that is written, one after the other, each as the step that it is.
-use Rattle.std.proofs.Common.{◌≡◌, ◌⊎◌, ◌≤◌, ◌<◌, ◌+◌, ◌-◌, ◌^◌, ◌%◌, ◌==◌, ◌∙◌, ◌++◌, ℕ, suc, List, [], ◌∷◌, Bool, true, false, Option, Some, None, Ok, length, nat_lt, refl, sym, ap, arith, inl, inr, append_assoc, length-append}
-use Rattle.std.proofs.lemmas.Bool.{lt-ltb, ne_eqb}
+use Rattle.std.proofs.Common.{◌≡◌, ◌⊎◌, ◌≤◌, ◌<◌, ◌+◌, ◌-◌, ◌^◌, ◌==◌, ◌∙◌, ◌++◌, ℕ, List, [], ◌∷◌, Bool, true, false, Option, Some, None, Ok, length, refl, ap, arith, inl, inr, append_assoc, length-append}
+use Rattle.std.proofs.lemmas.Bool.{lt-ltb}
 use Rattle.std.specs.Int.{bytes_high_first, bytes_low_first}
 use Rattle.ffv1_reads.specs.Head.{frame_limit}
-use Rattle.ffv1_reads.specs.Reads.{given, read_on, ◌>>=◌}
+use Rattle.ffv1_reads.specs.Reads.{read_on}
 use Rattle.ffv1_reads.proofs.WantedBytes.{taken_complete}
 use Rattle.ffv1_sum.specs.Sum.{crc_of, number_of as low_number, turned}
 use Rattle.ffv1_ebml.specs.Elements.{crc_ident, first_read}
-use Rattle.ffv1_ebml.specs.Spelled.{IsIdent, SaysSize, ident_bytes, ident_length, long, number_element, short}
+use Rattle.ffv1_ebml.specs.Spelled.{IsIdent, SaysSize, ident_bytes, long, short}
 use Rattle.ffv1_ebml.specs.Sums.{summed}
 use Rattle.ffv1_ebml.specs.Vints.{IsVint, length_of, number_of}
 use Rattle.ffv1_ebml.specs.declared.sum.Sum.{Sum}
@@ -17,21 +17,21 @@ use Rattle.ffv1_ebml.proofs.Numbers.{length_high}
 use Rattle.ffv1_ebml.proofs.SpelledLaws.{ident_spelled, long_spelled, number_high, short_spelled}
 use Rattle.ffv1_matroska.specs.Elements.{IsOwn}
 use Rattle.ffv1_matroska.specs.Internal.{bytes_of}
-use Rattle.ffv1_matroska.specs.Places.{closed, cluster_at, cluster_entered, frame_at, segment_at, step_to, summed_at, timed_to}
-use Rattle.ffv1_matroska.specs.Segments.{block_group, child_by, cluster, cluster_child, cluster_read, cluster_rest, first_child, header_read, is_beside, is_outside, is_section, known_child, other_read, outside_idents, segment_child, segment_read, segment_rest, simple_block, step_read, timestamp_read}
+use Rattle.ffv1_matroska.specs.Places.{cluster_at, frame_at, step_to, summed_at, timed_to}
+use Rattle.ffv1_matroska.specs.Segments.{child_by, cluster, cluster_child, cluster_read, cluster_rest, first_child, header_read, is_beside, is_outside, is_section, known_child, other_read, outside_idents, segment_child, segment_read, segment_rest, simple_block, step_read, timestamp_read}
 use Rattle.ffv1_matroska.specs.WrittenIdents.{cues, timestamp}
-use Rattle.ffv1_matroska.specs.Written.{block_header, checked, cluster_content, cluster_element, clusters_from, crc_element, long_element}
+use Rattle.ffv1_matroska.specs.Written.{block_header, checked, cluster_content, cluster_element, crc_element, long_element}
 use Rattle.ffv1_matroska.specs.declared.place.Place.{Place}
 use Rattle.ffv1_matroska.specs.declared.track.TrackNumbers.{TrackNumbers}
 use Rattle.ffv1_matroska.proofs.BlockLaws.{own_complete}
 use Rattle.ffv1_matroska.proofs.HeaderLaws.{IsHeader, header_inside}
 use Rattle.ffv1_matroska.proofs.PartLaws.{header_is_read}
-use Rattle.ffv1_matroska.proofs.PieceLaws.{IsPast, by_past, header_some, past_summed, sound_cluster}
+use Rattle.ffv1_matroska.proofs.PieceLaws.{IsPast, by_past, header_some, past_summed}
 use Rattle.ffv1_matroska.proofs.SpelledLengths.{long_long}
 use Rattle.ffv1_matroska.proofs.WrittenBytes.{AreBytes}
 use Rattle.ffv1_matroska.proofs.WrittenChecks.{checked_told, crc_is_ident}
 use Rattle.ffv1_matroska.proofs.WrittenClusters.{written_numbers}
-use Rattle.ffv1_matroska.proofs.WrittenLengths.{checked_long, cluster_long}
+use Rattle.ffv1_matroska.proofs.WrittenLengths.{cluster_long}
 
 -- in no BlockGroup, and in no Cluster of unknown size
 abbrev pub at : Bool → ℕ → ℕ → Sum → Place

@@ -1,5 +1,5 @@
 -- What is known beside the elements of a written Segment: of when frames come, and of Cues.
-use Rattle.std.proofs.Common.{◌≡◌, ◌⊎◌, ◌≤◌, ◌<◌, ◌+◌, ◌-◌, ◌*◌, ◌%◌, ◌^◌, ◌==◌, ◌||◌, ◌∙◌, ◌++◌, ℕ, suc, zero, List, [], ◌∷◌, Bool, true, false, Option, Some, None, Result, Ok, length, min, nat_lt, refl, sym, ap, ap₂, subst, arith, inl, inr, append-nil, append_assoc, length-append}
+use Rattle.std.proofs.Common.{◌≡◌, ◌⊎◌, ◌<◌, ◌+◌, ◌-◌, ◌*◌, ◌^◌, ◌==◌, ◌||◌, ◌∙◌, ◌++◌, ℕ, suc, List, [], ◌∷◌, Bool, true, false, Option, Some, None, Result, Ok, length, min, nat_lt, refl, sym, ap, ap₂, subst, arith, inl, inr, append-nil, append_assoc, length-append}
 use Rattle.std.proofs.Math.Nat.{min-eq_left}
 use Rattle.std.proofs.lemmas.Bool.{le-ltb}
 use Rattle.std.proofs.lemmas.Bool.Decides.{nat_tests}
@@ -7,13 +7,12 @@ use Rattle.ffv1_reads.specs.Reads.{Stop}
 use Rattle.ffv1_reads.proofs.Results.{ok_is}
 use Rattle.ffv1_ebml.specs.Spelled.{IsIdent, ident_bytes, long}
 use Rattle.ffv1_ebml.specs.declared.sum.Sum.{Sum}
-use Rattle.ffv1_ebml.specs.declared.sum.Sum.TheVariants.{Absent}
 use Rattle.ffv1_ebml.specs.Elements.{first_read}
 use Rattle.ffv1_ebml.proofs.SpelledLaws.{ident_spelled, long_spelled}
 use Rattle.ffv1_matroska.specs.Cues.{cued_behind, cued_by}
 use Rattle.ffv1_matroska.specs.Offsets.{element_taken}
 use Rattle.ffv1_matroska.specs.Segments.{cluster, header_read, step_read}
-use Rattle.ffv1_matroska.specs.Times.{first_moment, first_off, is_away, is_off, moment, timed_at, timed_behind, timed_by, timed_in, timed_read, timed_with}
+use Rattle.ffv1_matroska.specs.Times.{first_moment, first_off, is_away, is_off, moment, timed_at, timed_behind, timed_by, timed_read, timed_with}
 use Rattle.ffv1_matroska.specs.Written.{checked, cluster_content, cluster_element, clusters_from, long_element}
 use Rattle.ffv1_matroska.specs.WrittenIdents.{cues}
 use Rattle.ffv1_matroska.specs.declared.place.Place.{Place}
@@ -21,10 +20,9 @@ use Rattle.ffv1_matroska.specs.declared.place.Step.{Step}
 use Rattle.ffv1_matroska.specs.declared.times.Times.{Times}
 use Rattle.ffv1_matroska.proofs.CuesTold.{cued_cluster, cued_cues, told_inside, told_sized}
 use Rattle.ffv1_matroska.proofs.WrittenClusters.{written_numbers}
-use Rattle.ffv1_matroska.proofs.WrittenLengths.{checked_long, cluster_long}
-use Rattle.ffv1_matroska.proofs.WrittenPhases.{IsFine, Phase, Before, Entered, Summed, Dated, after, comes, content_some, frame_of, goes_on, next_of, place_of, step_by, step_of, tail_text, text_of, time_at}
-use Rattle.ffv1_matroska.proofs.WrittenSteps.{at, block_of, block_some, content_small}
-use Rattle.ffv1_matroska.proofs.SpelledLengths.{long_long}
+use Rattle.ffv1_matroska.proofs.WrittenLengths.{checked_long}
+use Rattle.ffv1_matroska.proofs.WrittenPhases.{IsFine, Phase, Before, Entered, Summed, Dated, comes, content_some, frame_of, goes_on, next_of, place_of, step_by, step_of, tail_text, text_of, time_at}
+use Rattle.ffv1_matroska.proofs.WrittenSteps.{at, block_some, content_small}
 
 -- ---- of one frame
 

@@ -1,7 +1,7 @@
 -- Blocks (RFC 9559, 5.1.3.4, 5.1.3.5.1 and 10): a track number, two bytes of time, flags, and a
 -- frame, if there is no lacing.
-use Rattle.std.specs.Prelude.{ℕ, ◌-◌, ◌/◌, ◌%◌, ◌^◌, ◌==◌, Bool, if◌then◌else◌, nat_le}
-use Rattle.std.specs.Prelude.{nat_lt, slice_index, List, take, Option, Some}
+use Rattle.std.specs.Prelude.{ℕ, ◌-◌, ◌/◌, ◌%◌, ◌^◌, ◌<◌, ◌≤◌, ◌==◌, Bool, if◌then◌else◌, nat_le}
+use Rattle.std.specs.Prelude.{nat_lt, slice_index, List, take, Option, Some, IfSome}
 use Rattle.ffv1_reads.specs.Reads.{Reading, given, refused, ◌>>=◌}
 use Rattle.ffv1_reads.specs.declared.fault.FileFault.TheVariants as fault
 use Rattle.ffv1_ebml.specs.Elements.{data_read}
@@ -14,6 +14,14 @@ use Rattle.ffv1_matroska.specs.declared.place.Place.{Place}
 use Rattle.ffv1_matroska.specs.declared.place.Step.{Step}
 use Rattle.ffv1_reads.specs.Head.{frame_limit}
 use Rattle.ffv1_matroska.specs.declared.track.TrackNumbers.{TrackNumbers}
+
+-- a frame that is read has from one byte on, up to the limit
+abbrev pub IsFrameSize : ℕ → Type 0
+IsFrameSize size = (0 < size) × (size ≤ frame_limit)
+
+-- so has the frame of a step, if it has one
+abbrev pub HasFrameSize : Option Step → Type 0
+HasFrameSize step = IfSome step (λ s. IfSome s.frame IsFrameSize)
 
 -- so many bytes are passed
 unfoldable pub passed_on : ℕ → Place → Reading (Option Step)

@@ -16,6 +16,8 @@ pub mod Again
 pub mod Salvaged
 pub mod SalvageTold
 pub mod SalvageStops
+pub mod SalvagedLate
+pub mod SalvagedAgain
 pub mod Scales
 pub mod Carried
 pub mod Cues

@@ -37,6 +37,11 @@ stride_from (suc others) stride count =
 abbrev pub stride_of : ℕ → ℕ
 stride_of count = stride_from 64 1 count
 
+-- a frame or a record of fewer bytes fits in an element with all that stands beside it there, since
+-- a size of eight bytes says 56 bits
+abbrev pub content_limit : ℕ
+content_limit = 2 ^ 56 - 512
+
 -- the last place where a Cluster may end
 abbrev pub last_place : ℕ
 last_place = 2 ^ 56 - 2 ^ 20

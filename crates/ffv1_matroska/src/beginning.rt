@@ -21,17 +21,16 @@ ghost use Rattle.ffv1_matroska.specs.Tracks.{Track};
 ghost use Rattle.ffv1_matroska.specs.declared.place.Place.{Place};
 ghost use Rattle.ffv1_matroska.specs.declared.track.Numbers.{Numbers};
 
+use crate::idents::{CLUSTER, TRACKS};
 use crate::info::pass_scaled;
 use crate::opening::{LIMIT, begin_segment, enter_segment, read_ebml};
 use crate::place::{Place, cluster_entered, ended, passed, segment_at};
-use crate::segment::{CLUSTER, is_filler, is_section, next_header};
+use crate::segment::{is_filler, is_section, next_header};
 use crate::track::{Numbers, read_track};
 use ffv1_ebml::{Element, pass_content};
 use ffv1_reads::{FileFault, append, fill, pass};
 use ffv1_wire::ByteIn;
 use std::alloc::Allocator;
-
-pub(crate) const TRACKS: u32 = 0x1654_AE6B;
 
 /// Reads so many bytes, at least one, in place of what the vector has, and makes room for as many
 /// in another vector, which is emptied, before the last of them is read. Both have room as

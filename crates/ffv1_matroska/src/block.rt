@@ -1,9 +1,9 @@
 //! Blocks, up to their frames.
 
-ghost use Rattle.std.specs.Prelude.{◌≡◌, ◌<◌, ◌≤◌, Option, IfOk, IfSome};
+ghost use Rattle.std.specs.Prelude.{◌≡◌, Option, IfOk, IfSome};
 ghost use Rattle.ffv1_wire.specs.Passage.{passage};
 ghost use Rattle.ffv1_reads.specs.Reads.{Answers};
-ghost use Rattle.ffv1_matroska.specs.Blocks.{block_read, fields_read, passed_on};
+ghost use Rattle.ffv1_matroska.specs.Blocks.{HasFrameSize, block_read, fields_read, passed_on};
 ghost use Rattle.ffv1_matroska.specs.Places.{amount};
 ghost use Rattle.ffv1_matroska.specs.declared.place.Step.{Step};
 
@@ -27,8 +27,7 @@ pub(crate) fn pass_on<R: ByteIn>(
 ) -> Result<Option<Step>, FileFault>
     ensures answer { Answers (λ (s : Option Step). s) (passed_on size place)
         (passage R.remaining R.failures input.old input.new) result }
-    ensures sized { IfOk result (λ o. IfSome o (λ s. IfSome s.frame
-        (λ n. (0 < n) × (n ≤ 1073741824)))) }
+    ensures sized { IfOk result HasFrameSize }
     ensures same { IfOk result (λ o. IfSome o (λ s. amount s.place ≡ amount place)) }
 {
     let mut sum = place.sum;
@@ -44,8 +43,7 @@ pub(crate) fn pass_on<R: ByteIn>(
 fn read_fields<R: ByteIn>(input: &mut R, left: u64, place: Place) -> Result<Option<Step>, FileFault>
     ensures answer { Answers (λ (s : Option Step). s) (fields_read left place)
         (passage R.remaining R.failures input.old input.new) result }
-    ensures sized { IfOk result (λ o. IfSome o (λ s. IfSome s.frame
-        (λ n. (0 < n) × (n ≤ 1073741824)))) }
+    ensures sized { IfOk result HasFrameSize }
     ensures same { IfOk result (λ o. IfSome o (λ s. amount s.place ≡ amount place)) }
 {
     if left < 3 {
@@ -84,8 +82,7 @@ pub(crate) fn read_block<R: ByteIn>(
 ) -> Result<Option<Step>, FileFault>
     ensures answer { Answers (λ (s : Option Step). s) (block_read track size place)
         (passage R.remaining R.failures input.old input.new) result }
-    ensures sized { IfOk result (λ o. IfSome o (λ s. IfSome s.frame
-        (λ n. (0 < n) × (n ≤ 1073741824)))) }
+    ensures sized { IfOk result HasFrameSize }
     ensures same { IfOk result (λ o. IfSome o (λ s. amount s.place ≡ amount place)) }
 {
     let mut sum = place.sum;

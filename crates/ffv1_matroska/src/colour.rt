@@ -4,22 +4,12 @@ ghost use Rattle.std.specs.Prelude.{◌≡◌, ◌≤◌, length};
 ghost use Rattle.ffv1_ebml.specs.Contents.{found};
 ghost use Rattle.ffv1_matroska.specs.Colours.{bytes_found, colour_field, colour_in, colour_of};
 
+use crate::idents::{
+    CHROMA_SITING_HORZ, CHROMA_SITING_VERT, COLOUR, MATRIX_COEFFICIENTS, PRIMARIES, RANGE,
+    TRANSFER_CHARACTERISTICS,
+};
 use ffv1_ebml::{find, number};
 use ffv1_reads::Colour;
-
-const COLOUR: u32 = 0x55B0;
-
-const MATRIX_COEFFICIENTS: u32 = 0x55B1;
-
-const CHROMA_SITING_HORZ: u32 = 0x55B7;
-
-const CHROMA_SITING_VERT: u32 = 0x55B8;
-
-const RANGE: u32 = 0x55B9;
-
-const TRANSFER_CHARACTERISTICS: u32 = 0x55BA;
-
-const PRIMARIES: u32 = 0x55BB;
 
 /// The content of the first element with this ID, and no bytes if there is none, or an element
 /// before it can't be read.

@@ -4,6 +4,7 @@ ghost use Rattle.std.specs.Prelude.{◌≡◌, ◌<◌, ◌≤◌, ℕ, List, []
 ghost use Rattle.std.specs.Prelude.{OnErr, OnSome, length};
 ghost use Rattle.std.specs.Vec.{vec_capacity};
 ghost use Rattle.ffv1_wire.specs.Passage.{passage};
+ghost use Rattle.ffv1_matroska.specs.Blocks.{IsFrameSize};
 ghost use Rattle.ffv1_matroska.specs.Files.{frame_found, frame_read};
 ghost use Rattle.ffv1_reads.specs.Ends.{AnswersOrNone};
 ghost use Rattle.ffv1_reads.specs.Room.{HasRoom};
@@ -34,7 +35,7 @@ fn find_frame<R: ByteIn>(
 ) -> Result<Option<(u64, Place)>, FileFault>
     ensures answer { AnswersOrNone (λ (p : Option (ℕ × Place)). p) (frame_found track place)
         (passage R.remaining R.failures input.old input.new) result }
-    ensures sized { IfOk result (λ o. IfSome o (λ p. (0 < p.0) × (p.0 ≤ 1073741824))) }
+    ensures sized { IfOk result (λ o. IfSome o (λ p. IsFrameSize p.0)) }
     ensures less { IfOk result (λ o. IfSome o (λ p. amount p.1 < amount place)) }
     ensures from { FindsFrom track place (passage R.remaining R.failures input.old input.new) result
         here.new }
@@ -69,8 +70,7 @@ pub(crate) fn read_frame<R: ByteIn, A: Allocator>(
 ) -> Result<Option<Place>, FileFault>
     ensures answer { AnswersOrNone (λ (after : Option Place). next_with frame.new.items after)
         (frame_read track place) (passage R.remaining R.failures input.old input.new) result }
-    ensures sized { IfOk result
-        (λ o. OnSome o ((0 < length frame.new.items) × (length frame.new.items ≤ 1073741824))) }
+    ensures sized { IfOk result (λ o. OnSome o (IsFrameSize (length frame.new.items))) }
     ensures none { IfOk result (λ after. after ≡ None → frame.new.items ≡ []) }
     ensures less { IfOk result (λ o. IfSome o (λ after. amount after < amount place)) }
     ensures err { OnErr result (Leaves track place (R.remaining input.old) frame.new.items) }

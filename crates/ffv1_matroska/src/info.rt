@@ -14,14 +14,10 @@ ghost use Rattle.ffv1_matroska.specs.Scales.{scale_of, scale_told, scale_with};
 ghost use Rattle.ffv1_matroska.specs.WrittenIdents.{timestamp_scale};
 
 use crate::beginning::pass_element;
-use crate::segment::CRC_32;
+use crate::idents::{CRC_32, INFO, TIMESTAMP_SCALE};
 use ffv1_ebml::{Element, Sum, find, next_element, number, pass_summed, take_summed};
 use ffv1_reads::{FileFault, pass, take};
 use ffv1_wire::ByteIn;
-
-const INFO: u32 = 0x1549_A966;
-
-const TIMESTAMP_SCALE: u32 = 0x2A_D7B1;
 
 /// How many nanoseconds a tick has if nothing is said.
 pub(crate) const DEFAULT_SCALE: u64 = 1_000_000;

@@ -21,10 +21,11 @@ ghost use Rattle.ffv1_matroska.specs.Tracks.{Track};
 ghost use Rattle.ffv1_matroska.specs.declared.place.Place.{Place};
 ghost use Rattle.ffv1_matroska.specs.declared.track.Numbers.{Numbers};
 
-use crate::beginning::{TRACKS, pass_element, read_beginning, read_tracks};
+use crate::beginning::{pass_element, read_beginning, read_tracks};
+use crate::idents::{CLUSTER, TRACKS};
 use crate::opening::{begin_segment, enter_segment, read_ebml};
 use crate::place::{Place, passed, segment_at};
-use crate::segment::{CLUSTER, is_filler, is_loose, next_header};
+use crate::segment::{is_filler, is_loose, next_header};
 use crate::track::Numbers;
 use ffv1_ebml::Element;
 use ffv1_reads::{FileFault, pass};
@@ -173,7 +174,7 @@ fn reopen<R: ByteIn, A: Allocator>(
 }
 
 /// Begins an input again. `Read` if that failed.
-fn begin_again<R: AgainIn>(input: &mut R, start: &R::Start) -> Result<(), FileFault>
+pub(crate) fn begin_again<R: AgainIn>(input: &mut R, start: &R::Start) -> Result<(), FileFault>
     ensures done { OnOk result (R.remaining input.new ≡ R.whole start.now) }
     ensures counted { OnOk result (R.failures input.new ≡ R.failures input.old) }
     ensures fault { IfErr result (λ f. f ≡ fault.Read) }

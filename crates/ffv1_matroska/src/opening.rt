@@ -17,6 +17,7 @@ ghost use Rattle.ffv1_matroska.specs.Opening.{root_read, segment_after, segment_
 ghost use Rattle.ffv1_matroska.specs.Opening.{segment_entered, top_size, void_read};
 ghost use Rattle.ffv1_matroska.specs.Sizes.{size_with};
 
+use crate::idents::{DOC_TYPE, EBML, READ_VERSION, SEGMENT, TYPE_READ_VERSION};
 use crate::place::Place;
 use crate::track::content_at;
 use ffv1_ebml::{Sum, judge, next_data, number, text};
@@ -27,17 +28,11 @@ use std::alloc::Allocator;
 /// The most bytes of the header of EBML and of Tracks.
 pub(crate) const LIMIT: u64 = ffv1_reads::LIMIT as u64;
 
-pub(crate) const EBML: u32 = 0x1A45_DFA3;
+/// The ID of a Void, which has one byte.
+const VOID: u8 = crate::idents::VOID as u8;
 
-const SEGMENT: u32 = 0x1853_8067;
-
-const VOID: u8 = 0xEC;
-
-const DOC_TYPE: u32 = 0x4282;
-
-const READ_VERSION: u32 = 0x42F7;
-
-const TYPE_READ_VERSION: u32 = 0x4285;
+/// The bytes that a Segment of unknown size counts as.
+pub(crate) const OPEN: u64 = 72_057_594_037_927_935;
 
 /// The number of at most four bytes, big end first.
 fn number_of(bytes: &[u8]) -> u64
@@ -290,7 +285,7 @@ pub(crate) fn begin_segment(size: Option<u64>) -> Place
             sum: Sum::Absent,
         },
         None => Place {
-            segment: 72_057_594_037_927_935,
+            segment: OPEN,
             endless: true,
             loose: false,
             cluster: 0,

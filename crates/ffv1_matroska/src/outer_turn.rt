@@ -18,9 +18,11 @@ ghost use Rattle.ffv1_ebml.specs.Tried.{tried, vint_bytes};
 ghost use Rattle.ffv1_ebml.specs.Vints.{vint_rest};
 
 use crate::course::{Pending, Turn};
+use crate::idents::{CLUSTER, CRC_32};
+use crate::opening::OPEN;
 use crate::place::{Place, cluster_entered, is_sound, segment_at, summed_at};
 use crate::seeking::seek_cluster;
-use crate::segment::{CLUSTER, CRC_32, cued_by, is_filler, is_loose, is_section};
+use crate::segment::{cued_by, is_filler, is_loose, is_section};
 use crate::track::TrackNumbers;
 use crate::turn::{lost, pass_turn, read_child, read_cluster, read_group, read_grouped};
 use ffv1_ebml::{
@@ -38,9 +40,6 @@ pub(crate) fn turn_of(turn: Result<Turn, FileFault>) -> Result<Option<Turn>, Fil
         Err(fault) => Err(fault),
     }
 }
-
-/// The bytes that a Segment of unknown size counts as.
-const OPEN: u64 = 72057594037927935;
 
 /// The content of an element whose CRC-32 is stated in its first element, after the header of that.
 fn judge_section<R: ByteIn>(input: &mut R, left: u64, place: Place) -> Result<Turn, FileFault>

@@ -95,7 +95,7 @@ pub fn rate_of(duration: u64) -> (u32, u32)
     if duration == 0 {
         return (0, 0);
     }
-    if let Some(frames) = frames_in(1_000_000_000, duration) {
+    if let Some(frames) = frames_in(SECOND, duration) {
         return (frames as u32, 1);
     }
     if let Some(frames) = frames_in(1_001_000_000, duration) {

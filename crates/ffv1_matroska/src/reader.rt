@@ -12,6 +12,7 @@ ghost use Rattle.ffv1_reads.specs.Room.{HasRoom, RoomRead};
 ghost use Rattle.ffv1_reads.specs.declared.fault.FileFault.{FileFault};
 ghost use Rattle.ffv1_reads.specs.declared.fault.FileFault.TheVariants as fault;
 ghost use Rattle.ffv1_matroska.specs.Again.{AnswersAgain, RoomTwice, TwiceOpened};
+ghost use Rattle.ffv1_matroska.specs.Blocks.{IsFrameSize};
 ghost use Rattle.ffv1_matroska.specs.Files.{frame_read};
 ghost use Rattle.ffv1_matroska.specs.Internal.{opened_kept};
 ghost use Rattle.ffv1_reads.specs.Items.{ItemAnswers};
@@ -357,8 +358,7 @@ impl<A: Allocator> MatroskaReader<A> {
             (frame_read self.old.track.numbers self.old.place)
             (passage R.remaining R.failures input.old input.new) result }
         ensures stands { StandsAfter self.old result self.new }
-        ensures sized { IfOk result (λ more. more ≡ true → (0 < length frame.new.items)
-            × (length frame.new.items ≤ 1073741824)) }
+        ensures sized { IfOk result (λ more. more ≡ true → IsFrameSize (length frame.new.items)) }
         ensures end { IfOk result (λ more. more ≡ false → (frame.new.items ≡ [])
             × (self.new.place ≡ ended)) }
         ensures less { IfOk result

@@ -39,13 +39,14 @@ ghost use Rattle.ffv1_matroska.specs.Tracks.{Track};
 ghost use Rattle.ffv1_matroska.specs.declared.place.Place.{Place};
 ghost use Rattle.ffv1_matroska.specs.declared.track.Numbers.{Numbers};
 
-use crate::beginning::{TRACKS, in_cluster, keep_tracks, push_bytes};
+use crate::beginning::{in_cluster, keep_tracks, push_bytes};
+use crate::idents::{CLUSTER, EBML, TRACKS};
 use crate::info::pass_scaled;
 use crate::opening::{
-    EBML, begin_segment, enter_segment, judge_header, keep_content, read_ident, read_top_size,
+    begin_segment, enter_segment, judge_header, keep_content, read_ident, read_top_size,
 };
 use crate::place::{Place, ended, passed, segment_at};
-use crate::segment::{CLUSTER, is_filler, is_section, next_header};
+use crate::segment::{is_filler, is_section, next_header};
 use crate::told::{ToldFault, ToldFaults, tell, tell_pending};
 use crate::track::{Numbers, read_track};
 use ffv1_ebml::{Element, first_child, judge};
@@ -112,7 +113,7 @@ pub(crate) struct Noted {
 /// are counted if there is no fault; if there is one, `other` is that of the CRC-32, if that is not
 /// the sum. If that is none, plain reading is refused alike.
 #[tactic(auto, unfolding(crate::specs::Salvaged::ebml_salvaged))]
-fn salvage_ebml<R: ByteIn, A: Allocator>(
+pub(crate) fn salvage_ebml<R: ByteIn, A: Allocator>(
     first: Option<u8>,
     input: &mut R,
     content: &mut Vec<u8, A>,
@@ -148,7 +149,7 @@ fn salvage_ebml<R: ByteIn, A: Allocator>(
 /// Reads Tracks as `read_tracks` does, and answers `Checksum` too if their CRC-32 is not the sum.
 /// If there is a fault, `other` is that; if that is none, plain reading is refused alike.
 #[tactic(auto, unfolding(crate::specs::Salvaged::tracks_salvaged))]
-fn salvage_tracks<R: ByteIn, A: Allocator>(
+pub(crate) fn salvage_tracks<R: ByteIn, A: Allocator>(
     input: &mut R,
     size: Option<u64>,
     content: &mut Vec<u8, A>,
@@ -221,7 +222,7 @@ fn salvage_content<R: ByteIn>(
 ///
 /// `BadElement` if its size is unknown, and then as `pass_content`.
 #[tactic(auto, unfolding(crate::specs::Salvaged::element_salvaged))]
-fn salvage_element<R: ByteIn>(
+pub(crate) fn salvage_element<R: ByteIn>(
     input: &mut R,
     ident: u32,
     size: Option<u64>,
@@ -325,6 +326,7 @@ fn salvage_segment<R: ByteIn, A: Allocator>(
         (R.remaining input.old) (R.remaining input.new) faults.new.items) }
     ensures stopped { IfErr result (λ f. SalvageStopsFrom here.old (R.remaining input.old)
         (R.remaining input.new) f here.new) }
+    ensures held { most_told ≤ vec_capacity faults.new }
     ensures sooner { faults.new.items ≡ [] → faults.old.items ≡ [] }
     ensures opens { faults.new.items ≡ [] → AnswersOrFaults fault.NoTracks
         (λ (p : Track × Place). p.1 ≡ ended)
@@ -388,6 +390,7 @@ pub(crate) fn salvage_opening<R: ByteIn, A: Allocator>(
     ensures data { OnOk result (Known (bytes_with first (R.remaining input.old))
         (R.remaining input.new) (λ text rest. told.new.data ≡ offset_after 0 (data_at text))) }
     ensures offset { OnOk result (noted.new.offset ≡ offset_after told.new.data told.new.begun) }
+    ensures held { most_told ≤ vec_capacity told.new.faults }
     ensures told { IfErr result (λ f. TellsRead (bytes_with first (R.remaining input.old))
         (R.remaining input.new) told.new.data told.new.faults.items) }
     ensures stopped { IfErr result (λ f. FileStops (bytes_with first (R.remaining input.old))

@@ -43,7 +43,8 @@ impl<A: Allocator + Copy> MatroskaReader<A> {
     /// that were told before, and the one that is told of the element at fault, if it has one. So
     /// it is if a read failed, `Read`, or if memory was refused, `OutOfMemory`, of an element that
     /// was not read whole: of that it may be told that it may not stand there. `data` is 0 if the
-    /// Segment was not entered. `told` has room for sixteen; what it had before is dropped.
+    /// Segment was not entered. `told` has room for sixteen, which it keeps; what it had before is
+    /// dropped.
     pub fn open_salvaged<R: ByteIn>(
         alloc: A,
         first: Option<u8>,
@@ -64,6 +65,7 @@ impl<A: Allocator + Copy> MatroskaReader<A> {
         ensures offset { IfOk result (λ r. r.offset ≡ offset_after told.new.data told.new.begun) }
         ensures end { IfOk result EndsThere }
         ensures uncued { IfOk result (λ r. r.cued ≡ false) }
+        ensures held { most_told ≤ vec_capacity told.new.faults }
         ensures told { IfErr result (λ f. TellsRead (bytes_with first (R.remaining input.old))
             (R.remaining input.new) told.new.data told.new.faults.items) }
         ensures stopped { IfErr result (λ f. FileStops (bytes_with first (R.remaining input.old))

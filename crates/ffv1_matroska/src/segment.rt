@@ -8,6 +8,7 @@ ghost use Rattle.ffv1_ebml.specs.declared.element.Element.{Element};
 ghost use Rattle.ffv1_reads.specs.Reads.{Answers};
 ghost use Rattle.ffv1_matroska.specs.Internal.{bytes_of};
 ghost use Rattle.ffv1_reads.specs.Ends.{AnswersOrNone};
+ghost use Rattle.ffv1_matroska.specs.Blocks.{HasFrameSize};
 ghost use Rattle.ffv1_matroska.specs.Cues.{CuedStep, cued_by};
 ghost use Rattle.ffv1_matroska.specs.Places.{amount};
 ghost use Rattle.ffv1_matroska.specs.Segments.{block_sought};
@@ -20,6 +21,11 @@ ghost use Rattle.ffv1_matroska.specs.declared.place.Step.{Step};
 ghost use Rattle.std.specs.Prelude.{Bool};
 
 use crate::block::{pass_on, read_block};
+use crate::idents::{
+    ATTACHMENTS, BLOCK, BLOCK_GROUP, CHAPTERS, CLUSTER, CRC_32, CUES, EBML, ENCRYPTED_BLOCK, INFO,
+    POSITION, PREV_SIZE, SEEK_HEAD, SEGMENT, SILENT_TRACKS, SIMPLE_BLOCK, TAGS, TIMESTAMP, TRACKS,
+    VOID,
+};
 use crate::place::{
     Place, Step, closed, cluster_at, cluster_entered, group_at, segment_at, summed_at,
 };
@@ -31,33 +37,19 @@ use ffv1_ebml::{
 use ffv1_reads::{FileFault, take};
 use ffv1_wire::ByteIn;
 
-pub(crate) const CLUSTER: u32 = 0x1F43_B675;
-
-const CUES: u32 = 0x1C53_BB6B;
-
-pub(crate) const SIMPLE_BLOCK: u32 = 0xA3;
-
-pub(crate) const BLOCK_GROUP: u32 = 0xA0;
-
-pub(crate) const BLOCK: u32 = 0xA1;
-
-const TIMESTAMP: u32 = 0xE7;
-
-pub(crate) const CRC_32: u32 = 0xBF;
-
 /// The IDs of elements that stand only outside of Clusters: SeekHead, Info, Tracks, Cues,
 /// Attachments, Chapters, Tags, Cluster, EBML and Segment.
 pub(crate) const OUTSIDE: [u32; 10] = [
-    0x114D_9B74,
-    0x1549_A966,
-    0x1654_AE6B,
-    0x1C53_BB6B,
-    0x1941_A469,
-    0x1043_A770,
-    0x1254_C367,
-    0x1F43_B675,
-    0x1A45_DFA3,
-    0x1853_8067,
+    SEEK_HEAD,
+    INFO,
+    TRACKS,
+    CUES,
+    ATTACHMENTS,
+    CHAPTERS,
+    TAGS,
+    CLUSTER,
+    EBML,
+    SEGMENT,
 ];
 
 /// Whether an element of a Segment is one whose CRC-32 is judged: SeekHead, Info, Tracks, Cues,
@@ -66,13 +58,13 @@ pub(crate) const OUTSIDE: [u32; 10] = [
 pub(crate) fn is_section(ident: u32) -> bool
     ensures { result ≡ is_section ident }
 {
-    ident == 0x114D_9B74
-        || ident == 0x1549_A966
-        || ident == 0x1654_AE6B
-        || ident == 0x1C53_BB6B
-        || ident == 0x1941_A469
-        || ident == 0x1043_A770
-        || ident == 0x1254_C367
+    ident == SEEK_HEAD
+        || ident == INFO
+        || ident == TRACKS
+        || ident == CUES
+        || ident == ATTACHMENTS
+        || ident == CHAPTERS
+        || ident == TAGS
 }
 
 /// Whether it is Void or CRC-32.
@@ -80,7 +72,7 @@ pub(crate) fn is_section(ident: u32) -> bool
 pub(crate) fn is_filler(ident: u32) -> bool
     ensures { result ≡ is_filler ident }
 {
-    ident == 0xEC || ident == 0xBF
+    ident == VOID || ident == CRC_32
 }
 
 /// Whether it is one of a Cluster: SimpleBlock, BlockGroup, Timestamp, Position, PrevSize,
@@ -91,11 +83,11 @@ fn is_of_cluster(ident: u32) -> bool
 {
     ident == SIMPLE_BLOCK
         || ident == BLOCK_GROUP
-        || ident == 0xE7
-        || ident == 0xA7
-        || ident == 0xAB
-        || ident == 0x5854
-        || ident == 0xAF
+        || ident == TIMESTAMP
+        || ident == POSITION
+        || ident == PREV_SIZE
+        || ident == SILENT_TRACKS
+        || ident == ENCRYPTED_BLOCK
 }
 
 /// Whether it is one that a Cluster has beside blocks, of so many bytes: Timestamp, Position or
@@ -104,10 +96,10 @@ fn is_of_cluster(ident: u32) -> bool
 pub(crate) fn is_beside(ident: u32, size: u64) -> bool
     ensures { result ≡ is_beside ident size }
 {
-    if ident == 0xE7 || ident == 0xA7 || ident == 0xAB {
+    if ident == TIMESTAMP || ident == POSITION || ident == PREV_SIZE {
         return size <= 8;
     }
-    ident == 0x5854 || ident == 0xAF || is_filler(ident)
+    ident == SILENT_TRACKS || ident == ENCRYPTED_BLOCK || is_filler(ident)
 }
 
 /// Whether it is one of a Cluster of unknown size, in which the place is.
@@ -128,8 +120,7 @@ fn group_child<R: ByteIn>(
     ensures answer { Answers (λ (s : Option Step). s)
         (group_child track element.ident place element.size)
         (passage R.remaining R.failures input.old input.new) result }
-    ensures sized { IfOk result (λ o. IfSome o (λ s. IfSome s.frame
-        (λ n. (0 < n) × (n ≤ 1073741824)))) }
+    ensures sized { IfOk result HasFrameSize }
     ensures same { IfOk result (λ o. IfSome o (λ s. amount s.place ≡ amount place)) }
 {
     let Some(size) = element.size else {
@@ -151,8 +142,7 @@ fn read_group<R: ByteIn>(
     requires { 0 < place.group }
     ensures answer { Answers (λ (s : Option Step). s) (group_read track place)
         (passage R.remaining R.failures input.old input.new) result }
-    ensures sized { IfOk result (λ o. IfSome o (λ s. IfSome s.frame
-        (λ n. (0 < n) × (n ≤ 1073741824)))) }
+    ensures sized { IfOk result HasFrameSize }
     ensures less { IfOk result (λ o. IfSome o (λ s. amount s.place < amount place)) }
 {
     let mut sum = place.sum;
@@ -171,8 +161,7 @@ fn seek_block<R: ByteIn>(
 ) -> Result<Option<Step>, FileFault>
     ensures answer { Answers (λ (s : Option Step). s) (block_sought start.group track start)
         (passage R.remaining R.failures input.old input.new) result }
-    ensures sized { IfOk result (λ o. IfSome o (λ s. IfSome s.frame
-        (λ n. (0 < n) × (n ≤ 1073741824)))) }
+    ensures sized { IfOk result HasFrameSize }
     ensures most { IfOk result (λ o. IfSome o (λ s. amount s.place ≤ amount start)) }
 {
     let mut place = start;
@@ -204,8 +193,7 @@ fn cluster_child<R: ByteIn>(
     ensures answer { Answers (λ (s : Option Step). s)
         (cluster_child track element.0 element.1 place)
         (passage R.remaining R.failures input.old input.new) result }
-    ensures sized { IfOk result (λ o. IfSome o (λ s. IfSome s.frame
-        (λ n. (0 < n) × (n ≤ 1073741824)))) }
+    ensures sized { IfOk result HasFrameSize }
     ensures most { IfOk result (λ o. IfSome o
         (λ s. amount s.place ≤ amount place + element.1)) }
 {
@@ -229,8 +217,7 @@ fn cluster_child<R: ByteIn>(
 fn read_crc<R: ByteIn>(input: &mut R, place: Place) -> Result<Option<Step>, FileFault>
     ensures answer { Answers (λ (s : Option Step). s) (crc_read place)
         (passage R.remaining R.failures input.old input.new) result }
-    ensures sized { IfOk result (λ o. IfSome o (λ s. IfSome s.frame
-        (λ n. (0 < n) × (n ≤ 1073741824)))) }
+    ensures sized { IfOk result HasFrameSize }
     ensures same { IfOk result (λ o. IfSome o (λ s. amount s.place ≡ amount place)) }
 {
     let mut stated = [0u8; 4];
@@ -255,8 +242,7 @@ fn first_child<R: ByteIn>(
     ensures answer { Answers (λ (s : Option Step). s)
         (first_child track element.0 element.1 place)
         (passage R.remaining R.failures input.old input.new) result }
-    ensures sized { IfOk result (λ o. IfSome o (λ s. IfSome s.frame
-        (λ n. (0 < n) × (n ≤ 1073741824)))) }
+    ensures sized { IfOk result HasFrameSize }
     ensures most { IfOk result (λ o. IfSome o
         (λ s. amount s.place ≤ amount place + element.1)) }
 {
@@ -278,8 +264,7 @@ fn known_child<R: ByteIn>(
     ensures answer { Answers (λ (s : Option Step). s)
         (known_child track element.ident place element.size)
         (passage R.remaining R.failures input.old input.new) result }
-    ensures sized { IfOk result (λ o. IfSome o (λ s. IfSome s.frame
-        (λ n. (0 < n) × (n ≤ 1073741824)))) }
+    ensures sized { IfOk result HasFrameSize }
     ensures most { IfOk result (λ o. IfSome o
         (λ s. amount s.place ≤ amount place + bytes_of element.size)) }
 {
@@ -303,8 +288,7 @@ fn read_cluster<R: ByteIn>(
     requires alone { place.group ≡ 0 }
     ensures answer { Answers (λ (s : Option Step). s) (cluster_read track place)
         (passage R.remaining R.failures input.old input.new) result }
-    ensures sized { IfOk result (λ o. IfSome o (λ s. IfSome s.frame
-        (λ n. (0 < n) × (n ≤ 1073741824)))) }
+    ensures sized { IfOk result HasFrameSize }
     ensures less { IfOk result (λ o. IfSome o (λ s. amount s.place < amount place)) }
 {
     let mut sum = place.sum;
@@ -326,8 +310,7 @@ pub(crate) fn pass_other<R: ByteIn>(
     requires group { place.group ≡ 0 }
     ensures answer { Answers (λ (s : Option Step). s) (other_read ident size place)
         (passage R.remaining R.failures input.old input.new) result }
-    ensures sized { IfOk result (λ o. IfSome o (λ s. IfSome s.frame
-        (λ n. (0 < n) × (n ≤ 1073741824)))) }
+    ensures sized { IfOk result HasFrameSize }
     ensures same { IfOk result (λ o. IfSome o (λ s. amount s.place ≡ amount place)) }
 {
     if is_section(ident) {
@@ -357,8 +340,7 @@ fn sized_child<R: ByteIn>(
     ensures answer { Answers (λ (s : Option Step). s)
         (segment_child track element.0 place (Some element.1))
         (passage R.remaining R.failures input.old input.new) result }
-    ensures sized { IfOk result (λ o. IfSome o (λ s. IfSome s.frame
-        (λ n. (0 < n) × (n ≤ 1073741824)))) }
+    ensures sized { IfOk result HasFrameSize }
     ensures most { IfOk result (λ o. IfSome o
         (λ s. amount s.place ≤ amount place + element.1)) }
 {
@@ -391,8 +373,7 @@ fn segment_child<R: ByteIn>(
     ensures answer { Answers (λ (s : Option Step). s)
         (segment_child track element.ident place element.size)
         (passage R.remaining R.failures input.old input.new) result }
-    ensures sized { IfOk result (λ o. IfSome o (λ s. IfSome s.frame
-        (λ n. (0 < n) × (n ≤ 1073741824)))) }
+    ensures sized { IfOk result HasFrameSize }
     ensures most { IfOk result (λ o. IfSome o
         (λ s. amount s.place ≤ amount place + bytes_of element.size)) }
 {
@@ -455,8 +436,7 @@ fn read_segment<R: ByteIn>(
 ) -> Result<Option<Step>, FileFault>
     ensures answer { AnswersOrNone (λ (s : Option Step). s) (segment_read track place)
         (passage R.remaining R.failures input.old input.new) result }
-    ensures sized { IfOk result (λ o. IfSome o (λ s. IfSome s.frame
-        (λ n. (0 < n) × (n ≤ 1073741824)))) }
+    ensures sized { IfOk result HasFrameSize }
     ensures less { IfOk result (λ o. IfSome o (λ s. amount s.place < amount place)) }
     ensures cued { place.group ≡ 0 → place.cluster ≡ 0 → IfOk result (λ o. IfSome o
         (λ s. CuedStep track (place, cued.old) (R.remaining input.old) (R.remaining input.new) s
@@ -481,8 +461,7 @@ pub(crate) fn step<R: ByteIn>(
 ) -> Result<Option<Step>, FileFault>
     ensures answer { AnswersOrNone (λ (s : Option Step). s) (step_read track place)
         (passage R.remaining R.failures input.old input.new) result }
-    ensures sized { IfOk result (λ o. IfSome o (λ s. IfSome s.frame
-        (λ n. (0 < n) × (n ≤ 1073741824)))) }
+    ensures sized { IfOk result HasFrameSize }
     ensures less { IfOk result (λ o. IfSome o (λ s. amount s.place < amount place)) }
     ensures cued { IfOk result (λ o. IfSome o (λ s. CuedStep track (place, cued.old)
         (R.remaining input.old) (R.remaining input.new) s cued.new)) }

@@ -1,8 +1,9 @@
 //! When frames come, beside what is read.
 
-ghost use Rattle.std.specs.Prelude.{◌≡◌, ◌<◌, ◌≤◌, Option, IfOk, IfSome};
+ghost use Rattle.std.specs.Prelude.{◌≡◌, ◌≤◌, Option, IfOk, IfSome};
 ghost use Rattle.ffv1_wire.specs.Passage.{passage};
 ghost use Rattle.ffv1_reads.specs.Reads.{Answers};
+ghost use Rattle.ffv1_matroska.specs.Blocks.{HasFrameSize};
 ghost use Rattle.ffv1_matroska.specs.Places.{amount};
 ghost use Rattle.ffv1_matroska.specs.Segments.{timestamp_read};
 ghost use Rattle.ffv1_matroska.specs.Times.{first_off, is_away, is_off, moment, timed_at, timed_by};
@@ -140,8 +141,7 @@ pub(crate) fn read_timestamp<R: ByteIn>(
     requires { size ≤ 8 }
     ensures answer { Answers (λ (s : Option Step). s) (timestamp_read size place)
         (passage R.remaining R.failures input.old input.new) result }
-    ensures sized { IfOk result (λ o. IfSome o (λ s. IfSome s.frame
-        (λ n. (0 < n) × (n ≤ 1073741824)))) }
+    ensures sized { IfOk result HasFrameSize }
     ensures same { IfOk result (λ o. IfSome o (λ s. amount s.place ≡ amount place)) }
 {
     let mut sum = place.sum;

@@ -86,7 +86,8 @@ pub(crate) fn tell_pending<A: Allocator>(
     position: Option<u64>,
 )
     requires room { most_told ≤ vec_capacity faults.old }
-    ensures { faults.new.items ≡ told_too faults.old.items other position }
+    ensures too { faults.new.items ≡ told_too faults.old.items other position }
+    ensures capacity { vec_capacity faults.new ≡ vec_capacity faults.old }
 {
     match tell(faults, other, position) {
         Ok(()) => {}

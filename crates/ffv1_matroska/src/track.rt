@@ -13,30 +13,14 @@ ghost use Rattle.ffv1_matroska.specs.Tracks.{record_of, track_at, track_in, trac
 ghost use Rattle.ffv1_matroska.specs.Blocks.{bit_of, is_unknown};
 
 use crate::colour::colour_in;
+use crate::idents::{
+    CODEC_ID, CODEC_PRIVATE, CONTENT_ENCODINGS, DEFAULT_DURATION, PIXEL_HEIGHT, PIXEL_WIDTH,
+    TRACK_ENTRY, TRACK_NUMBER, TRACK_TYPE, VIDEO,
+};
 use crate::rate::rate_of;
 use byteorder::{ByteOrder, LittleEndian};
 use ffv1_ebml::{Child, find, first_child, judge, number, text};
 use ffv1_reads::{Colour, FileFault, is_ffv1};
-
-const TRACK_ENTRY: u32 = 0xAE;
-
-const TRACK_NUMBER: u32 = 0xD7;
-
-const TRACK_TYPE: u32 = 0x83;
-
-const CODEC_ID: u32 = 0x86;
-
-const CODEC_PRIVATE: u32 = 0x63A2;
-
-const CONTENT_ENCODINGS: u32 = 0x6D80;
-
-const DEFAULT_DURATION: u32 = 0x23_E383;
-
-const VIDEO: u32 = 0xE0;
-
-const PIXEL_WIDTH: u32 = 0xB0;
-
-const PIXEL_HEIGHT: u32 = 0xBA;
 
 /// The numbers of tracks, by which blocks are told apart, and what else reading goes by.
 #[derive(Clone, Copy)]

@@ -14,8 +14,9 @@ ghost use Rattle.std.specs.Prelude.{false};
 ghost use Rattle.ffv1_matroska.specs.declared.course.Turn.{Turn};
 
 use crate::course::{Pending, Turn};
+use crate::idents::{BLOCK, BLOCK_GROUP, CRC_32, SIMPLE_BLOCK};
 use crate::place::{Place, cluster_at, group_at, segment_at, summed_at};
-use crate::segment::{BLOCK, BLOCK_GROUP, CRC_32, OUTSIDE, SIMPLE_BLOCK, is_beside};
+use crate::segment::{OUTSIDE, is_beside};
 use crate::track::{TrackNumbers, is_unknown};
 use ffv1_ebml::{Header, Sum, data_of, pass_summed, take_summed, try_header, try_vint};
 use ffv1_reads::{FRAME_LIMIT, FileFault, take};

@@ -1,9 +1,9 @@
 //! What the program says of each fault. `man/faults` writes this file from the tables of
 //! `docs/FAULTS.md`.
 
-/// Of each fault, those of the engine in the order of its type and then those of the program: its
-/// number and name, when it comes, and what to do, a line each. If more lines say that, what was
-/// met says which.
+/// Of each fault, those of the engine by their numbers and then those of the program: its number
+/// and name, when it comes, and what to do, a line each. If more lines say that, what was met says
+/// which.
 pub static ROWS: [&str; 70] = [
     "1 StateTable\n  A state transition table leads a state out of its range.\n  Not read. Use \
      another program, such as FFmpeg.",
@@ -176,3 +176,21 @@ pub static ROWS: [&str; 70] = [
      MD5 of its stream of video, and then the line is its last one, or 0.\n  Write it anew: \
      ffmpeg -i TAPE -map 0:v:0 -pix_fmt FORMAT -f framemd5 LIST.",
 ];
+
+/// The numbers of the faults of a configuration or its record, in the order of its type.
+pub static RECORD: [u32; 22] = [
+    1, 2, 3, 4, 5, 6, 10, 11, 12, 13, 14, 15, 16, 17, 18, 19, 20, 21, 22, 23, 24, 25,
+];
+
+/// The numbers of the faults of a frame, in the order of its type.
+pub static CODEC: [u32; 22] = [
+    2, 3, 4, 7, 8, 9, 27, 28, 29, 30, 31, 32, 33, 34, 35, 36, 37, 38, 39, 40, 41, 42,
+];
+
+/// The numbers of the faults of a file, in the order of its type.
+pub static FILE: [u32; 17] = [
+    2, 50, 51, 52, 53, 54, 55, 56, 57, 80, 81, 82, 83, 84, 85, 86, 88,
+];
+
+/// The numbers of the faults of the text of a video, in the order of its type.
+pub static TEXT: [u32; 10] = [2, 56, 57, 60, 61, 62, 63, 64, 65, 71];

@@ -2,9 +2,10 @@
 
 ghost use Rattle.std.specs.Prelude.{◌≡◌, ◌≤◌, [], ◌∷◌, IfOk};
 
-use crate::advice::ROWS;
+use crate::advice::{CODEC, FILE, RECORD, ROWS, TEXT};
 use crate::met::{Beginning, Met};
 use crate::refusal::Refusal;
+use ffv1_reads::FileFault;
 use ffv1_video::Fault;
 use ffv1_words::{Topic, is_hyphen};
 use std::io;
@@ -31,11 +32,29 @@ impl<'a> Paths<'a> {
 /// The greatest number that a fault has is at most this.
 const LAST: u32 = 99;
 
-/// What is known of a fault.
-fn row_of(fault: Fault) -> &'static str {
-    match ROWS.get(fault as usize) {
-        Some(row) => row,
-        None => "",
+/// The number in this place of a table.
+fn number_at(numbers: &[u32], place: usize) -> u32 {
+    match numbers.get(place) {
+        Some(number) => *number,
+        None => 0,
+    }
+}
+
+/// The number of a fault.
+fn number_of(fault: Fault) -> u32 {
+    match fault {
+        Fault::OutOfMemory => 2,
+        Fault::Read => 56,
+        Fault::Write => 57,
+        Fault::NoFrames => 70,
+        Fault::FormatChanged => 71,
+        Fault::NoY4mName => 72,
+        Fault::NoPpm => 73,
+        Fault::NotSame => 87,
+        Fault::Record(refused) => number_at(&RECORD, refused as usize),
+        Fault::Codec(refused) => number_at(&CODEC, refused as usize),
+        Fault::File(refused) => number_at(&FILE, refused as usize),
+        Fault::Text(refused) => number_at(&TEXT, refused as usize),
     }
 }
 
@@ -59,6 +78,11 @@ fn row_numbered(number: u32) -> Option<&'static str> {
         }
     }
     None
+}
+
+/// What is known of a fault.
+fn row_of(fault: Fault) -> &'static str {
+    row_numbered(number_of(fault)).unwrap_or("")
 }
 
 /// What is known of a refusal that has a number.
@@ -116,8 +140,8 @@ fn advice_place(fault: Fault, met: &Met) -> usize {
     match fault {
         Fault::Read => place_of_read(met.code()),
         Fault::Write => place_of_write(met.code()),
-        Fault::NotAvi => place_of_file(met.beginning()),
-        Fault::Header => place_of_video(met.beginning()),
+        Fault::File(FileFault::NotAvi) => place_of_file(met.beginning()),
+        Fault::Text(ffv1_y4m::Fault::Header) => place_of_video(met.beginning()),
         _ => 0,
     }
 }

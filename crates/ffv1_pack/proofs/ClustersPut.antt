@@ -153,7 +153,7 @@ ends_or (Some text) (Some rest) a r w ps f (left, reads, ends) = (left, reads, i
 or_far : (old new : Option (List ℕ)) (a : Accepted) (r : VideoReading) (w : Writer) (ps : List Planes) (p : Planes) → (HasLongSlice a p (said_for r.head) → ⊥) →
     length (frame_of a p (said_for r.head)) ≤ most_frame a.profile → last_place < end_place w.head w.details (frames_for a r.head ps) + cluster_bytes + length (frame_of a p (said_for r.head)) →
     Known old new (λ text rest. (left : List ℕ) × ReadsPictures r.ppm r.most r.head true text ps left × (picture_next r.ppm r.most r.head (at_first ps) left ≡ Ok (Some p, rest))) →
-    Known old new (λ text rest. (left : List ℕ) × ReadsPictures r.ppm r.most r.head true text ps left × EndsPutting a r w fault.TooLarge ps left rest)
+    Known old new (λ text rest. (left : List ℕ) × ReadsPictures r.ppm r.most r.head true text ps left × EndsPutting a r w (fault.File file_fault.TooLarge) ps left rest)
 or_far None new a r w ps p short few far k = tt
 or_far (Some text) None a r w ps p short few far k = k
 or_far (Some text) (Some rest) a r w ps p short few far (left, reads, next) = (left, reads, inr (inr (p, next, short, few, far, refl)))
@@ -161,7 +161,7 @@ or_far (Some text) (Some rest) a r w ps p short few far (left, reads, next) = (l
 or_long : (old new : Option (List ℕ)) (a : Accepted) (r : VideoReading) (w : Writer) (ps : List Planes) (p : Planes) → (HasLongSlice a p (said_for r.head) → ⊥) →
     most_frame a.profile < length (frame_of a p (said_for r.head)) →
     Known old new (λ text rest. (left : List ℕ) × ReadsPictures r.ppm r.most r.head true text ps left × (picture_next r.ppm r.most r.head (at_first ps) left ≡ Ok (Some p, rest))) →
-    Known old new (λ text rest. (left : List ℕ) × ReadsPictures r.ppm r.most r.head true text ps left × EndsPutting a r w fault.ChunkTooLong ps left rest)
+    Known old new (λ text rest. (left : List ℕ) × ReadsPictures r.ppm r.most r.head true text ps left × EndsPutting a r w (fault.File file_fault.ChunkTooLong) ps left rest)
 or_long None new a r w ps p short long k = tt
 or_long (Some text) None a r w ps p short long k = k
 or_long (Some text) (Some rest) a r w ps p short long (left, reads, next) = (left, reads, inr (inl (p, next, short, long, refl)))
@@ -232,11 +232,11 @@ module _ (i o : Passage) (a : Accepted) (r s : VideoReading) (w v : Writer) (fra
       more_frames_are = ap (λ fs. fs ++ (frame ∷ [])) e.are ∙ ap (λ b. frames_for a r.head e.pictures ++ (b ∷ [])) frame_is ∙ sym (all_frames a r.head e.pictures one.0)
 
       -- its frame is too long
-      pub put_long : most_frame a.profile < length frame → StopsPutting a r w (joined i q) o fault.ChunkTooLong
+      pub put_long : most_frame a.profile < length frame → StopsPutting a r w (joined i q) o (fault.File file_fault.ChunkTooLong)
       put_long long = (
         put.kept,
         one.1.kept ∙ (counts ∙ e.kept),
-        puts_some (EndsPutting a r w fault.ChunkTooLong) q.new q.after
+        puts_some (EndsPutting a r w (fault.File file_fault.ChunkTooLong)) q.new q.after
             (or_long i.old q.new a r w e.pictures one.0 short (subst (λ b. most_frame a.profile < length b) frame_is long) (known_after i q a r s frames e joins counts t one.0 one.1)),
       )
 

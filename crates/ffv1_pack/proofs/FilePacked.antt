@@ -23,7 +23,7 @@ use Rattle.ffv1_pack.specs.Internal.Pack.{EncodesVideo, EndsVideo}
 use Rattle.ffv1_pack.specs.Packing.{AllShort, AreReadableIn, IsFor, bytes_in, packed_file, packed_frames, packed_head, said_for}
 use Rattle.ffv1_video.specs.Video.{Video}
 
-too_large : (profile : Profile) (old new : Option (List ℕ)) (choice : Choice) (v : Video) (a : Accepted) → IsFor profile choice v.ppm v.head a → AllShort a v.head v.pictures → AreReadableIn (record_profile profile) (packed_frames v a) → 0 < length v.pictures → most < riff_size (packed_head choice v a) (packed_frames v a) → EndsVideo (greatest_depth profile) old new v → FaultsPacked profile choice old new fault.TooLarge
+too_large : (profile : Profile) (old new : Option (List ℕ)) (choice : Choice) (v : Video) (a : Accepted) → IsFor profile choice v.ppm v.head a → AllShort a v.head v.pictures → AreReadableIn (record_profile profile) (packed_frames v a) → 0 < length v.pictures → most < riff_size (packed_head choice v a) (packed_frames v a) → EndsVideo (greatest_depth profile) old new v → FaultsPacked profile choice old new (fault.File avi.TooLarge)
 too_large profile None new choice v a for short readable some large e = tt
 too_large profile (Some text) None choice v a for short readable some large e = e
 too_large profile (Some text) (Some rest) choice v a for short readable some large (left, begins, end) = inr (inr (record {

@@ -94,7 +94,7 @@ not_accepted profile choice p r f h (inr (g, i, e)) =
     subst (λ x. LacksMatroska profile choice p x) (sym e) (subst (λ c. LacksMatroskaBy profile c choice p (of_record g)) (sym (content_check (record_profile profile) (greatest_depth profile) (configuration_for (choice_for profile choice r.head) r.ppm r.head) g i)) (h.kept, rejected_before profile p.old p.new choice r g h.known i))
 
 untimed_before : (profile : Profile) (old new : Option (List ℕ)) (choice : Choice) (r : VideoReading) (a : Accepted) → HeadKnown (greatest_depth profile) old new r.ppm r.head → IsFor profile (choice_for profile choice r.head) r.ppm r.head a →
-    (IsTimed (rate_in (head_for choice r.ppm r.head a.configuration)) → ⊥) → FaultsBefore profile choice old new fault.Rate
+    (IsTimed (rate_in (head_for choice r.ppm r.head a.configuration)) → ⊥) → FaultsBefore profile choice old new (fault.File file_fault.Rate)
 untimed_before profile None new choice r a k for untimed = tt
 untimed_before profile (Some text) None choice r a k for untimed = k
 untimed_before profile (Some text) (Some rest) choice r a k for untimed = inr (inr (record {
@@ -107,7 +107,7 @@ untimed_before profile (Some text) (Some rest) choice r a k for untimed = inr (i
 }))
 
 pub untimed : (profile : Profile) (choice : Choice) (p : Passage) (r : VideoReading) (a : Accepted) → HeadRead (greatest_depth profile) p r → IsFor profile (choice_for profile choice r.head) r.ppm r.head a →
-    (IsTimed (rate_in (head_for choice r.ppm r.head a.configuration)) → ⊥) → LacksMatroska profile choice p fault.Rate
+    (IsTimed (rate_in (head_for choice r.ppm r.head a.configuration)) → ⊥) → LacksMatroska profile choice p (fault.File file_fault.Rate)
 untimed profile choice p r a h for refused = (h.kept, untimed_before profile p.old p.new choice r a h.known for refused)
 
 -- a writer that is not made

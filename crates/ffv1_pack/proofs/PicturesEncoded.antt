@@ -9,6 +9,7 @@ use Rattle.ffv1_codec.specs.Picture.{Planes}
 use Rattle.ffv1_codec.specs.SliceList.{Said}
 use Rattle.ffv1_avi.specs.Written.{frames_of}
 use Rattle.ffv1_video.specs.declared.fault.Fault.{Fault}
+use Rattle.ffv1_frame.specs.declared.fault.CodecFault.TheVariants as codec_fault
 use Rattle.ffv1_video.specs.declared.fault.Fault.TheVariants as fault
 use Rattle.ffv1_pack.specs.Internal.Encoding.{EncodesOne, StopsBy, StopsNext}
 use Rattle.ffv1_video.specs.Faults.{Cause, cause_of}
@@ -47,7 +48,7 @@ next_stops p a r f n = next_stops_by (cause_of f) p a r f n
 
 -- or no frame of it
 pub frame_stops : (p : Passage) (a : Accepted) (r s : VideoReading) (planes picture : Planes) (info : Said) (f : Fault) → NextRead p r (Some planes) s → picture ≡ planes → info ≡ said_for r.head
-    → (f ≡ fault.OutOfMemory) ⊎ ((f ≡ fault.SliceTooLong) × HasLongSlice a picture info) → StopsNext p a r f
+    → (f ≡ fault.OutOfMemory) ⊎ ((f ≡ fault.Codec codec_fault.SliceTooLong) × HasLongSlice a picture info) → StopsNext p a r f
 frame_stops p a r s planes picture info f read same said (inl e) = subst (StopsNext p a r) (sym e) (inr (planes, s, read))
 frame_stops p a r s planes picture info f read same said (inr (e, long)) = subst (StopsNext p a r) (sym e) (inr (record {
   planes = planes;

@@ -9,6 +9,7 @@ use Rattle.ffv1_codec.specs.Picture.{Planes}
 use Rattle.ffv1_reads.specs.Known.{Known}
 use Rattle.ffv1_video.specs.Video.{SaidHead}
 use Rattle.ffv1_video.specs.declared.fault.Fault.{Fault}
+use Rattle.ffv1_reads.specs.declared.fault.FileFault.TheVariants as file_fault
 use Rattle.ffv1_video.specs.declared.fault.Fault.TheVariants as fault
 use Rattle.ffv1_pack.specs.Internal.Encoding.{Encoded, EncodesAll, EncodesOne, EncodesUpTo, EndsAt, EndsKnown, EndsOne, IsTooLong, PicturesKnown, ReadsOne, StopsBy, StopsEncoding, StopsEncodingBy, StopsNext}
 use Rattle.ffv1_video.specs.Faults.{Cause, cause_of}
@@ -141,10 +142,10 @@ module _ (p q : Passage) (a : Accepted) (r s : VideoReading) (frames : List (Lis
     encoding_stops f n = stops_by (cause_of f) f n
 
     -- or too long a frame
-    pub long_stops : (t : VideoReading) (frame : List ℕ) → EncodesOne q a s t (Some frame) → IsLongIn a.profile frame → StopsEncoding (joined p q) a r fault.ChunkTooLong
+    pub long_stops : (t : VideoReading) (frame : List ℕ) → EncodesOne q a s t (Some frame) → IsLongIn a.profile frame → StopsEncoding (joined p q) a r (fault.File file_fault.ChunkTooLong)
     long_stops t frame one long =
         let is_long = subst (λ z. IsLongIn a.profile z) (frame_next t frame one) long in
         let short = short_next t frame one in (
           one.1.kept ∙ (counts ∙ e.kept),
-          up_to (EndsOne a r fault.ChunkTooLong) (known_map p.old q.new _ (Ended fault.ChunkTooLong) (λ text rest is. (is.0, is.1, inr (one.0, is.2, short, is_long, refl))) (known_after t one.0 one.1)),
+          up_to (EndsOne a r (fault.File file_fault.ChunkTooLong)) (known_map p.old q.new _ (Ended (fault.File file_fault.ChunkTooLong)) (λ text rest is. (is.0, is.1, inr (one.0, is.2, short, is_long, refl))) (known_after t one.0 one.1)),
         )

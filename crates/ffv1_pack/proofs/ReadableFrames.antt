@@ -5,6 +5,7 @@ use Rattle.ffv1_record.specs.declared.config.Profile.{Profile as RecordProfile}
 use Rattle.ffv1_record.specs.declared.config.Profile.TheVariants as record_profiles
 use Rattle.ffv1_pack.specs.Pack.{IsPackFault, is_pack_fault}
 use Rattle.ffv1_video.specs.declared.fault.Fault.{Fault}
+use Rattle.ffv1_reads.specs.declared.fault.FileFault.TheVariants as file_fault
 use Rattle.ffv1_video.specs.declared.fault.Fault.TheVariants as fault
 use Rattle.ffv1_pack.specs.Packing.{AreReadable, AreReadableIn, IsLongIn, most_frame}
 use Rattle.ffv1_video.specs.Profiles.{record_profile}
@@ -40,6 +41,6 @@ wide_is Strict e = absurd (cc)
 wide_is Wide e = refl
 
 -- so the fault of a frame that is too long is one of packing
-pub own_in : (profile : Profile) (f : Fault) → (is_pack_fault f ≡ true) ⊎ ((record_profile profile ≡ record_profiles.Wide) × (f ≡ fault.ChunkTooLong)) → IsPackFault profile f
+pub own_in : (profile : Profile) (f : Fault) → (is_pack_fault f ≡ true) ⊎ ((record_profile profile ≡ record_profiles.Wide) × (f ≡ fault.File file_fault.ChunkTooLong)) → IsPackFault profile f
 own_in profile f (inl own) = inl own
 own_in profile f (inr (wide, long)) = inr (wide_is profile wide, inr long)

@@ -9,6 +9,7 @@ use Rattle.ffv1_codec.specs.Picture.{Planes}
 use Rattle.ffv1_reads.specs.Known.{Known}
 use Rattle.ffv1_y4m.specs.Reads.{Wants}
 use Rattle.ffv1_video.specs.declared.fault.Fault.{Fault}
+use Rattle.ffv1_reads.specs.declared.fault.FileFault.TheVariants as file_fault
 use Rattle.ffv1_video.specs.declared.fault.Fault.TheVariants as fault
 use Rattle.ffv1_pack.specs.Internal.Encoding.{AllKnown, PicturesKnown}
 use Rattle.ffv1_video.specs.Faults.{Cause, cause_of}
@@ -120,7 +121,7 @@ module _ (p o : Passage) (r s : VideoReading) (ps : List Planes) (count : ℕ) (
 
   -- the last one that has a number was written
   pub lines_full : (t : VideoReading) (planes : Planes) → NextRead q s (Some planes) t → z.after ≡ z.before → Appends z.old z.new (picture_md5 s count planes) → count + 1 ≡ 2 ^ 64 →
-      LinesStop r (joined p q) (joined o z) fault.TooLarge
+      LinesStop r (joined p q) (joined o z) (fault.File file_fault.TooLarge)
   lines_full t planes read written writes full =
       let now = lined_more planes written writes in
       let many : length (ps ++ (planes ∷ [])) ≡ most_pictures = sym (longer planes) ∙ full in (
@@ -128,7 +129,7 @@ module _ (p o : Passage) (r s : VideoReading) (ps : List Planes) (count : ℕ) (
         record {
           pictures = ps ++ (planes ∷ []);
           taken = known_map p.old q.new (λ text rest. ReadsPictures r.ppm r.most r.head true text (ps ++ (planes ∷ [])) rest)
-              (λ text rest. (left : List ℕ) × ReadsPictures r.ppm r.most r.head true text (ps ++ (planes ∷ [])) left × EndsLines most_pictures r fault.TooLarge (ps ++ (planes ∷ [])) left rest)
+              (λ text rest. (left : List ℕ) × ReadsPictures r.ppm r.most r.head true text (ps ++ (planes ∷ [])) left × EndsLines most_pictures r (fault.File file_fault.TooLarge) (ps ++ (planes ∷ [])) left rest)
               (λ text rest reads. (rest, reads, inr (many, refl, refl))) (known_next p q r s ps e joins counts t planes read);
           written = now.written;
           writes = now.writes;

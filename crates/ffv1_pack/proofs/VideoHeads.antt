@@ -157,13 +157,7 @@ module _ {X : Type 0} (most : ℕ) (ppm : Bool) (reading : Reading X) (view : X 
   refused takes old mid new before after first fault.OutOfMemory h says r = absurd r.1.2
   refused takes old mid new before after first fault.Read h says r = (r.0, wants_whole takes old mid new first h says r.1)
   refused takes old mid new before after first fault.Write h says r = absurd r
-  refused takes old mid new before after first fault.Header h says r = (r.0, lacks old mid new first _ h says r.1)
-  refused takes old mid new before after first fault.Tag h says r = (r.0, lacks old mid new first _ h says r.1)
-  refused takes old mid new before after first fault.Unsupported h says r = (r.0, lacks old mid new first _ h says r.1)
-  refused takes old mid new before after first fault.FrameLine h says r = (r.0, lacks old mid new first _ h says r.1)
-  refused takes old mid new before after first fault.FrameTruncated h says r = (r.0, lacks old mid new first _ h says r.1)
-  refused takes old mid new before after first fault.SampleTooLarge h says r = (r.0, lacks old mid new first _ h says r.1)
-  refused takes old mid new before after first fault.FormatChanged h says r = (r.0, lacks old mid new first _ h says r.1)
+  refused takes old mid new before after first f h says r = (r.0, lacks old mid new first _ h says r.1)
 
 -- of YUV4MPEG2
 pub header_known : (most : ℕ) (old mid new : Option (List ℕ)) (first : Option ℕ) (h : VideoHead) (depth : ℕ) → GivesByte old mid first → FirstSays false first →

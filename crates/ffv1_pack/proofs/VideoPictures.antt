@@ -46,13 +46,7 @@ module _ (ppm : Bool) (most : ℕ) (h : SaidHead) (begun : Bool) where
   refused p fault.OutOfMemory a = a
   refused p fault.Read a = a
   refused p fault.Write a = absurd a
-  refused p fault.Header a = (a.0, stops_known None p.old p.new fault.Header a.1)
-  refused p fault.Tag a = (a.0, stops_known None p.old p.new fault.Tag a.1)
-  refused p fault.Unsupported a = (a.0, stops_known None p.old p.new fault.Unsupported a.1)
-  refused p fault.FrameLine a = (a.0, stops_known None p.old p.new fault.FrameLine a.1)
-  refused p fault.FrameTruncated a = (a.0, stops_known None p.old p.new fault.FrameTruncated a.1)
-  refused p fault.SampleTooLarge a = (a.0, stops_known None p.old p.new fault.SampleTooLarge a.1)
-  refused p fault.FormatChanged a = (a.0, stops_known None p.old p.new fault.FormatChanged a.1)
+  refused p f a = (a.0, stops_known None p.old p.new f a.1)
 
   pub next_refused : {X : Type 0} (view : X → Option Planes) (failed : Option Y4mFault) (p : Passage) (f : Y4mFault) → failed ≡ None →
       NextAnswers failed view (picture_next ppm most h begun) (GrowsInNext ppm most h begun) p (Err f) → NextRefused p (reading ppm most h begun failed) (of_y4m f)

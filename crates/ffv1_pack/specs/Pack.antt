@@ -16,11 +16,14 @@ use Rattle.ffv1_reads.specs.Known.{Known}
 use Rattle.ffv1_video.specs.declared.profile.Profile.{Profile}
 use Rattle.ffv1_video.specs.declared.profile.Profile.TheVariants.{Wide}
 use Rattle.ffv1_video.specs.declared.fault.Fault.{Fault}
+use Rattle.ffv1_record.specs.declared.fault.RecordFault.TheVariants as record_fault
+use Rattle.ffv1_frame.specs.declared.fault.CodecFault.TheVariants as codec_fault
+use Rattle.ffv1_reads.specs.declared.fault.FileFault.TheVariants as file_fault
 use Rattle.ffv1_video.specs.declared.fault.Fault.TheVariants as fault
 use Rattle.ffv1_words.specs.declared.order.Choice.{Choice}
 use Rattle.ffv1_pack.specs.declared.packing.Packed.{Packed}
 use Rattle.ffv1_video.specs.Colours.{loses_colour}
-use Rattle.ffv1_video.specs.Faults.{Cause, cause_of, of_y4m, of_record}
+use Rattle.ffv1_video.specs.Faults.{Cause, cause_of, is_text_fault, of_y4m, of_record}
 use Rattle.ffv1_video.specs.Faults.Cause.{Reading, Writing, Memory, Content}
 use Rattle.ffv1_video.specs.Output.{Silent}
 use Rattle.ffv1_video.specs.Video.{Video, Begins, ReadsVideo, at_first, is_ppm, picture_next}
@@ -86,10 +89,10 @@ pub record IsRejected (profile : Profile) (choice : Choice) (text rest : List �
 -- be read
 abbrev pub LacksFrame : Profile → Video → Accepted → Planes → Fault → Type 0
 LacksFrame profile v a p f =
-    (HasLongSlice a p (said_for v.head) × (f ≡ fault.SliceTooLong))
+    (HasLongSlice a p (said_for v.head) × (f ≡ fault.Codec codec_fault.SliceTooLong))
     ⊎ ((HasLongSlice a p (said_for v.head) → ⊥)
     × IsLongIn (record_profile profile) (frame_of a p (said_for v.head))
-    × (f ≡ fault.ChunkTooLong))
+    × (f ≡ fault.File file_fault.ChunkTooLong))
 
 -- the next picture of a text in a profile, after those of a video
 abbrev pub next_in : Profile → Video → TextReading (Option Planes)
@@ -105,7 +108,7 @@ EndsBehind profile choice v a left rest f =
     × (((v.pictures ≡ []) × (f ≡ fault.NoFrames))
     ⊎ ((0 < length v.pictures)
     × (most_bytes < riff_size (packed_head choice v a) (packed_frames v a))
-    × (f ≡ fault.TooLarge))))
+    × (f ≡ fault.File file_fault.TooLarge))))
 
 -- its first pictures are encoded, and then packing ends
 pub record Ends (profile : Profile) (choice : Choice) (text rest : List ℕ) (f : Fault)
@@ -195,23 +198,19 @@ RefusesPack profile choice input output f = RefusesBy profile (cause_of f) choic
 -- the faults that packing has
 abbrev pub is_pack_fault : Fault → Bool
 is_pack_fault fault.OutOfMemory = true
-is_pack_fault fault.Grid = true
-is_pack_fault fault.ChromaEdge = true
-is_pack_fault fault.SliceTooLong = true
-is_pack_fault fault.TooLarge = true
 is_pack_fault fault.Read = true
 is_pack_fault fault.Write = true
-is_pack_fault fault.Header = true
-is_pack_fault fault.Tag = true
-is_pack_fault fault.Unsupported = true
-is_pack_fault fault.FrameLine = true
-is_pack_fault fault.FrameTruncated = true
-is_pack_fault fault.SampleTooLarge = true
 is_pack_fault fault.NoFrames = true
 is_pack_fault fault.FormatChanged = true
+is_pack_fault (fault.Record record_fault.Grid) = true
+is_pack_fault (fault.Record record_fault.ChromaEdge) = true
+is_pack_fault (fault.Codec codec_fault.SliceTooLong) = true
+is_pack_fault (fault.File file_fault.TooLarge) = true
+is_pack_fault (fault.Text f) = is_text_fault f
 is_pack_fault f = false
 
 -- with those of `Wide`: of a depth that is read and not accepted, and of a frame that is too long
 abbrev pub IsPackFault : Profile → Fault → Type 0
 IsPackFault profile f = (is_pack_fault f ≡ true)
-    ⊎ ((profile ≡ Wide) × ((f ≡ fault.Depth) ⊎ (f ≡ fault.ChunkTooLong)))
+    ⊎ ((profile ≡ Wide)
+    × ((f ≡ fault.Record record_fault.Depth) ⊎ (f ≡ fault.File file_fault.ChunkTooLong)))

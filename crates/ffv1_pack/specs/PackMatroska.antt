@@ -28,6 +28,9 @@ use Rattle.ffv1_matroska.specs.declared.track_entry.CodecId.TheVariants as codec
 use Rattle.ffv1_video.specs.declared.profile.Profile.{Profile}
 use Rattle.ffv1_video.specs.declared.profile.Profile.TheVariants.{Wide}
 use Rattle.ffv1_video.specs.declared.fault.Fault.{Fault}
+use Rattle.ffv1_record.specs.declared.fault.RecordFault.TheVariants as record_fault
+use Rattle.ffv1_frame.specs.declared.fault.CodecFault.TheVariants as codec_fault
+use Rattle.ffv1_reads.specs.declared.fault.FileFault.TheVariants as file_fault
 use Rattle.ffv1_video.specs.declared.fault.Fault.TheVariants as fault
 use Rattle.ffv1_pack.specs.declared.matroska_packing.PackedMatroska.{PackedMatroska}
 use Rattle.ffv1_video.specs.Faults.{Cause, cause_of, of_record, of_y4m}
@@ -144,7 +147,7 @@ pub record IsUntimed (profile : Profile) (choice : Choice) (text rest : List ℕ
   pub accepted : Accepted
   pub for : IsFor profile (choice_for profile choice head) (is_ppm text) head accepted
   pub untimed : IsTimed (rate_in (head_for choice (is_ppm text) head accepted.configuration)) → ⊥
-  pub is : f ≡ fault.Rate
+  pub is : f ≡ fault.File file_fault.Rate
 
 -- a text, if it is known, has a head, whose configuration is accepted in a profile, and whose rate
 -- whole nanoseconds say
@@ -165,15 +168,15 @@ FaultsBefore profile choice old new f = Known old new (λ text rest.
 -- or its Cluster would end too far
 abbrev pub LacksCluster : Profile → Choice → Video → Accepted → Planes → Fault → Type 0
 LacksCluster profile choice v a p f =
-    (HasLongSlice a p (said_for v.head) × (f ≡ fault.SliceTooLong))
+    (HasLongSlice a p (said_for v.head) × (f ≡ fault.Codec codec_fault.SliceTooLong))
     ⊎ ((HasLongSlice a p (said_for v.head) → ⊥)
     × (most_frame (record_profile profile) < length (frame_of a p (said_for v.head)))
-    × (f ≡ fault.ChunkTooLong))
+    × (f ≡ fault.File file_fault.ChunkTooLong))
     ⊎ ((HasLongSlice a p (said_for v.head) → ⊥)
     × (length (frame_of a p (said_for v.head)) ≤ most_frame (record_profile profile))
     × (last_place
     < clusters_end choice v a + cluster_bytes + length (frame_of a p (said_for v.head)))
-    × (f ≡ fault.TooLarge))
+    × (f ≡ fault.File file_fault.TooLarge))
 
 -- why packing ends after the pictures of a video: the next one has a fault, or no Cluster; or there
 -- is no more, and there was none
@@ -283,11 +286,11 @@ RefusesMatroska profile choice input output f =
 
 -- the faults that it has
 abbrev pub is_matroska_pack_fault : Fault → Bool
-is_matroska_pack_fault fault.Rate = true
-is_matroska_pack_fault fault.ChunkTooLong = true
+is_matroska_pack_fault (fault.File file_fault.Rate) = true
+is_matroska_pack_fault (fault.File file_fault.ChunkTooLong) = true
 is_matroska_pack_fault f = is_pack_fault f
 
 -- with the one of a depth that is read and not accepted
 abbrev pub IsMatroskaPackFault : Profile → Fault → Type 0
 IsMatroskaPackFault profile f =
-    (is_matroska_pack_fault f ≡ true) ⊎ ((profile ≡ Wide) × (f ≡ fault.Depth))
+    (is_matroska_pack_fault f ≡ true) ⊎ ((profile ≡ Wide) × (f ≡ fault.Record record_fault.Depth))

@@ -7,8 +7,9 @@ use Rattle.ffv1_y4m.specs.Sequence.{Outcome}
 use Rattle.ffv1_y4m.specs.declared.head.VideoHead.{VideoHead}
 use Rattle.ffv1_reads.specs.Known.{Known}
 use Rattle.ffv1_video.specs.declared.fault.Fault.{Fault}
+use Rattle.ffv1_y4m.specs.declared.fault.Fault.TheVariants as y4m_fault
 use Rattle.ffv1_video.specs.declared.fault.Fault.TheVariants as fault
-use Rattle.ffv1_video.specs.Faults.{of_y4m}
+use Rattle.ffv1_video.specs.Faults.{is_text_fault, of_y4m}
 
 -- a mono picture: its sizes, and its samples row by row
 pub record Mono : Type 0 where
@@ -42,7 +43,7 @@ mono_in head (Some (samples ∷ more)) rest =
 -- the first picture after a header, which is judged whole before it
 abbrev pub picture_behind : ℕ → VideoHead → List ℕ → Result (Mono × List ℕ) (Fault × List ℕ)
 picture_behind depth head text =
-    if head.chroma_planes then Err (fault.Unsupported, text)
+    if head.chroma_planes then Err (fault.Text y4m_fault.Unsupported, text)
     else and_then (picture_read depth head text) (λ read. mono_in head read.0 read.1)
 
 -- the first picture of a text
@@ -62,11 +63,6 @@ FaultsMono old new f = Known old new (λ text rest. mono_of text ≡ Err (f, res
 abbrev pub is_mono_fault : Fault → Bool
 is_mono_fault fault.OutOfMemory = true
 is_mono_fault fault.Read = true
-is_mono_fault fault.Header = true
-is_mono_fault fault.Tag = true
-is_mono_fault fault.Unsupported = true
-is_mono_fault fault.FrameLine = true
-is_mono_fault fault.FrameTruncated = true
-is_mono_fault fault.SampleTooLarge = true
 is_mono_fault fault.NoFrames = true
+is_mono_fault (fault.Text f) = is_text_fault f
 is_mono_fault f = false

@@ -9,6 +9,7 @@ use Rattle.ffv1_reads.specs.Known.{Known}
 use Rattle.ffv1_y4m.specs.Reads.{Wants}
 use Rattle.ffv1_y4m.specs.declared.fault.Fault.{Fault as Y4mFault}
 use Rattle.ffv1_video.specs.declared.fault.Fault.{Fault}
+use Rattle.ffv1_reads.specs.declared.fault.FileFault.TheVariants as file_fault
 use Rattle.ffv1_video.specs.declared.fault.Fault.TheVariants as fault
 use Rattle.ffv1_video.specs.Faults.{Cause, cause_of, of_y4m}
 use Rattle.ffv1_video.specs.Faults.Cause.{Reading, Writing, Memory, Content}
@@ -41,7 +42,7 @@ EndsText most v left rest f =
     × (f ≡ of_y4m g))
     ⊎ ((picture_next v.ppm most v.head (at_first v.pictures) left ≡ Ok (None, rest))
     × (v.pictures ≡ []) × (f ≡ fault.NoFrames))
-    ⊎ ((length v.pictures ≡ most_pictures) × (left ≡ rest) × (f ≡ fault.TooLarge))
+    ⊎ ((length v.pictures ≡ most_pictures) × (left ≡ rest) × (f ≡ fault.File file_fault.TooLarge))
 
 module _ (most : ℕ) (input output : Passage) where
   -- the video was read, which has a picture, and the text of its pictures was written

@@ -8,6 +8,7 @@ ghost use Rattle.ffv1_record.specs.Configuration.{at_depth, configuration_of, wi
 ghost use Rattle.ffv1_record.specs.declared.fault.RecordFault.{RecordFault};
 ghost use Rattle.ffv1_reads.specs.Head.{head_of};
 ghost use Rattle.ffv1_avi.specs.Written.{frames_of};
+ghost use Rattle.ffv1_reads.specs.declared.fault.FileFault.TheVariants as file_fault;
 ghost use Rattle.ffv1_video.specs.declared.fault.Fault.TheVariants as fault;
 ghost use Rattle.ffv1_video.specs.Faults.{of_record};
 ghost use Rattle.ffv1_pack.specs.Internal.Encoding.{EncodesAll, EncodesOne, StopsEncoding};
@@ -25,7 +26,7 @@ use crate::video::VideoReader;
 use ffv1_codec::{Info, Picture};
 use ffv1_plane::QuantSet;
 use ffv1_range::laws as range_laws;
-use ffv1_reads::{FRAME_LIMIT, FileHead, LIMIT};
+use ffv1_reads::{FRAME_LIMIT, FileFault, FileHead, LIMIT};
 use ffv1_record::{
     Checked, Coder, Colour, Config, Profile as RecordProfile, Sets, laws as record_laws,
     write_record,
@@ -265,13 +266,14 @@ pub(crate) fn encode_pictures<R: ByteIn, A: Allocator + Copy>(
     ensures err { IfErr result (StopsEncoding (passage R.remaining R.failures input.old input.new)
         encoder.old.accepted (reading_of reader.old)) }
     ensures own { IfErr result (λ f. (is_pack_fault f ≡ true)
-        ⊎ ((encoder.old.accepted.profile ≡ record_profiles.Wide) × (f ≡ fault.ChunkTooLong))) }
+        ⊎ ((encoder.old.accepted.profile ≡ record_profiles.Wide)
+        × (f ≡ fault.File file_fault.ChunkTooLong))) }
 {
     let profile = encoder.config().profile();
     let mut planes = Vec::new(alloc);
     while let Some(frame) = encode_picture(alloc, reader, input, encoder, &mut planes)? {
         if is_long_in(profile, frame.as_slice()) {
-            return Err(Fault::ChunkTooLong);
+            return Err(Fault::File(FileFault::ChunkTooLong));
         }
         frames.push(frame)?;
     }

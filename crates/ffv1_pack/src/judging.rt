@@ -6,6 +6,7 @@ ghost use Rattle.ffv1_record.specs.Configuration.{Configuration};
 ghost use Rattle.ffv1_record.specs.declared.fault.RecordFault.{RecordFault};
 ghost use Rattle.ffv1_matroska.specs.Rates.{IsTimed};
 ghost use Rattle.ffv1_matroska.specs.Writers.{rate_in};
+ghost use Rattle.ffv1_reads.specs.declared.fault.FileFault.TheVariants as file_fault;
 ghost use Rattle.ffv1_video.specs.declared.fault.Fault.TheVariants as fault;
 ghost use Rattle.ffv1_video.specs.Faults.{of_record};
 ghost use Rattle.ffv1_video.specs.Profiles.{greatest_depth, record_profile};
@@ -17,6 +18,7 @@ use crate::encoding::config_with;
 use crate::video::VideoReader;
 use ffv1_matroska::{duration_of, rate_of};
 use ffv1_range::laws as range_laws;
+use ffv1_reads::FileFault;
 use ffv1_record::Sets;
 use ffv1_video::{Fault, Profile};
 use ffv1_words::Choice;
@@ -68,7 +70,7 @@ pub(crate) fn judge_rate<A: Allocator + Copy>(
 ) -> Result<(), Fault>
     ensures ok { OnOk result ((c : Configuration) → IsTimed (rate_in (head_for choice.now
         (reading_of reader.now).ppm (reading_of reader.now).head c))) }
-    ensures err { IfErr result (λ f. (f ≡ fault.Rate)
+    ensures err { IfErr result (λ f. (f ≡ fault.File file_fault.Rate)
         × ((c : Configuration) → IsTimed (rate_in (head_for choice.now
         (reading_of reader.now).ppm (reading_of reader.now).head c)) → ⊥)) }
 {
@@ -77,7 +79,7 @@ pub(crate) fn judge_rate<A: Allocator + Copy>(
     let rate = if ppm { choice.rate } else { head.rate };
     let scale = if ppm { choice.scale } else { head.scale };
     if rate_of(duration_of(rate, scale)) != (rate, scale) {
-        return Err(Fault::Rate);
+        return Err(Fault::File(FileFault::Rate));
     }
     Ok(())
 }

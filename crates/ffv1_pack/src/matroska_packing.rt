@@ -20,6 +20,7 @@ use crate::judging::{judge, judge_rate};
 use crate::verifying::VerifyingEncoder;
 use crate::video::VideoReader;
 use ffv1_matroska::{CodecId, MatroskaWriter, TrackEntry, written_laws};
+use ffv1_reads::FileFault;
 use ffv1_video::{Fault, Profile};
 use ffv1_wire::{ByteIn, ByteOut, PatchOut};
 use ffv1_words::{Choice, CodecIdChoice};
@@ -155,7 +156,7 @@ fn put_pictures<R: ByteIn, W: ByteOut, A: Allocator + Copy>(
     while let Some(frame) = encode_picture(alloc, reader, input, encoder, &mut planes)? {
         let size = frame.as_slice().len();
         if size > most {
-            return Err(Fault::ChunkTooLong);
+            return Err(Fault::File(FileFault::ChunkTooLong));
         }
         writer.put(output, frame.as_slice())?;
         packed.frames += 1;

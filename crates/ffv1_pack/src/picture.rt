@@ -40,7 +40,7 @@ pub(crate) fn read_mono<R: ByteIn, A: Allocator + Copy>(
     let mut reader = Y4mReader::open(alloc, None, input)?;
     let head = *reader.head();
     if head.chroma_planes {
-        return Err(Fault::Unsupported);
+        return Err(Fault::Text(ffv1_y4m::Fault::Unsupported));
     }
     let mut planes = Vec::new(alloc);
     if !reader.next(input, &mut planes)? {

@@ -10,6 +10,7 @@ ghost use Rattle.ffv1_pack.specs.Internal.TextMd5.{WritesLines};
 ghost use Rattle.ffv1_pack.specs.Internal.VideoReads.{IsHeadOf, reading_of};
 
 use crate::video::VideoReader;
+use ffv1_reads::FileFault;
 use ffv1_video::md5_lines::put_picture;
 use ffv1_video::{Fault, Profile};
 use ffv1_wire::{ByteIn, ByteOut, write_all};
@@ -65,7 +66,7 @@ fn write_lines<R: ByteIn, W: ByteOut, A: Allocator + Copy>(
     let mut count = 0u64;
     while write_next(reader, input, output, &mut planes, &mut text, count)? {
         if count == u64::MAX {
-            return Err(Fault::TooLarge);
+            return Err(Fault::File(FileFault::TooLarge));
         }
         count += 1;
     }

@@ -4,6 +4,7 @@ ghost use Rattle.std.specs.Prelude.{◌≡◌, ◌⊎◌, ◌↔◌, true, false
 ghost use Rattle.ffv1_record.specs.Accepted.{Accepted, is_rice};
 ghost use Rattle.ffv1_codec.specs.Frame.{CodesPicture, HasLongSlice, frame_of};
 ghost use Rattle.ffv1_codec.specs.Picture.{AreOf, Fits, planes_of};
+ghost use Rattle.ffv1_frame.specs.declared.fault.CodecFault.TheVariants as codec_fault;
 ghost use Rattle.ffv1_video.specs.declared.fault.Fault.TheVariants as fault;
 ghost use Rattle.ffv1_video.specs.KeptLines.{IsKeptFor};
 ghost use Rattle.ffv1_pack.specs.Internal.Verifying.{IsBackFor};
@@ -181,7 +182,8 @@ impl<A: Allocator + Copy> VerifyingEncoder<A> {
             bytes.items ≡ frame_of self.old.accepted picture.now info) }
         ensures few { OnOk result (HasLongSlice self.old.accepted picture.now info → ⊥) }
         ensures refused { IfErr result (λ f. (f ≡ fault.OutOfMemory)
-            ⊎ ((f ≡ fault.SliceTooLong) × HasLongSlice self.old.accepted picture.now info)) }
+            ⊎ ((f ≡ fault.Codec codec_fault.SliceTooLong)
+            × HasLongSlice self.old.accepted picture.now info)) }
     {
         let frame = self.encoder.encode(picture, info)?;
         if !comes_back(&mut self.back, frame.as_slice(), picture, info) {

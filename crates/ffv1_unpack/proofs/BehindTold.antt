@@ -58,7 +58,7 @@ module _ (r : Standing) (course : Course) (cued : Bool) (input : Passage) where
 
   module _ (o1 o2 : Option (List ℕ)) (om oa : ℕ) (another : (output : Passage) → AnotherBehind r course cued input output) where
     -- its line was written
-    pub another_told : (old new : JudgedCounts) → WritesFrame (told_line r.end file_fault.Another) (between o1 o2 om oa) (Ok tt) → new ≡ told_counted old fault.Another → BehindAnswers r course cued input (between o1 o2 om oa) old new (Ok no_notes)
+    pub another_told : (old new : JudgedCounts) → WritesFrame (told_line r.end file_fault.Another) (between o1 o2 om oa) (Ok tt) → new ≡ told_counted old (fault.File file_fault.Another) → BehindAnswers r course cued input (between o1 o2 om oa) old new (Ok no_notes)
     another_told old new h is = inr (another (between o1 o2 om oa), refl, h.0, h.1, is)
 
     -- or not

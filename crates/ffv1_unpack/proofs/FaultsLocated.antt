@@ -12,28 +12,8 @@ use Rattle.ffv1_video.specs.Faults.Cause.{Reading, Memory, Content}
 use Rattle.ffv1_unpack.specs.Located.{LocatedFault, WritesLine, located_text}
 
 record_other : (r : RecordFault) → is_file_fault (of_record r) ≡ false
-record_other record_fault.StateTable = refl
 record_other record_fault.OutOfMemory = refl
-record_other record_fault.BadStart = refl
-record_other record_fault.SymbolTooLong = refl
-record_other record_fault.Runs = refl
-record_other record_fault.Contexts = refl
-record_other record_fault.Size = refl
-record_other record_fault.Grid = refl
-record_other record_fault.ChromaEdge = refl
-record_other record_fault.Subsampling = refl
-record_other record_fault.Sets = refl
-record_other record_fault.Short = refl
-record_other record_fault.Parity = refl
-record_other record_fault.Version = refl
-record_other record_fault.MicroVersion = refl
-record_other record_fault.Coder = refl
-record_other record_fault.ColourSpace = refl
-record_other record_fault.Depth = refl
-record_other record_fault.CodedStates = refl
-record_other record_fault.Ec = refl
-record_other record_fault.Intra = refl
-record_other record_fault.ExtraPlane = refl
+record_other r = refl
 
 other_located : (scope : Scope) (p : Passage) (f : Fault) (offset : ℕ) → is_file_fault f ≡ false → LocatedFault scope p f offset
 other_located scope p f offset other own = absurd (let no : false ≡ true = sym other ∙ own in cc)
@@ -46,74 +26,10 @@ pub memory_located : (scope : Scope) (p : Passage) (f : Fault) (offset : ℕ) �
 memory_located scope p f offset is = other_located scope p f offset (ap is_file_fault is)
 
 memory_other : (f : Fault) → cause_of f ≡ Memory → is_file_fault f ≡ false
-memory_other fault.StateTable h = refl
 memory_other fault.OutOfMemory h = refl
-memory_other fault.BadStart h = refl
-memory_other fault.SymbolTooLong h = refl
-memory_other fault.Runs h = refl
-memory_other fault.Contexts h = refl
-memory_other fault.Colour h = refl
-memory_other fault.Overread h = refl
-memory_other fault.Ending h = refl
-memory_other fault.BitsEnd h = refl
-memory_other fault.BadCode h = refl
-memory_other fault.Padding h = refl
-memory_other fault.Size h = refl
-memory_other fault.Grid h = refl
-memory_other fault.ChromaEdge h = refl
-memory_other fault.Subsampling h = refl
-memory_other fault.Sets h = refl
-memory_other fault.Short h = refl
-memory_other fault.Parity h = refl
-memory_other fault.Version h = refl
-memory_other fault.MicroVersion h = refl
-memory_other fault.Coder h = refl
-memory_other fault.ColourSpace h = refl
-memory_other fault.Depth h = refl
-memory_other fault.CodedStates h = refl
-memory_other fault.Ec h = refl
-memory_other fault.Intra h = refl
-memory_other fault.ExtraPlane h = refl
-memory_other fault.NotKey h = refl
-memory_other fault.Place h = refl
-memory_other fault.SetIndex h = refl
-memory_other fault.Structure h = refl
-memory_other fault.Aspect h = refl
-memory_other fault.Footer h = refl
-memory_other fault.Leftover h = refl
-memory_other fault.SliceParity h = refl
-memory_other fault.SliceStatus h = refl
-memory_other fault.Overlap h = refl
-memory_other fault.SliceTooLong h = refl
-memory_other fault.InfoDiffers h = refl
-memory_other fault.Sink h = refl
-memory_other fault.NotAvi h = absurd (let no : Content ≡ Memory = h in cc)
-memory_other fault.NoFfv1 h = absurd (let no : Content ≡ Memory = h in cc)
-memory_other fault.Truncated h = absurd (let no : Content ≡ Memory = h in cc)
-memory_other fault.ChunkTooLong h = absurd (let no : Content ≡ Memory = h in cc)
-memory_other fault.EmptyFrame h = absurd (let no : Content ≡ Memory = h in cc)
-memory_other fault.TooLarge h = refl
 memory_other fault.Read h = absurd (let no : Reading ≡ Memory = h in cc)
-memory_other fault.Write h = refl
-memory_other fault.NotSame h = refl
-memory_other fault.Header h = refl
-memory_other fault.Tag h = refl
-memory_other fault.Unsupported h = refl
-memory_other fault.FrameLine h = refl
-memory_other fault.FrameTruncated h = refl
-memory_other fault.SampleTooLarge h = refl
-memory_other fault.NoFrames h = refl
-memory_other fault.FormatChanged h = refl
-memory_other fault.NoY4mName h = refl
-memory_other fault.NoPpm h = refl
-memory_other fault.NotMatroska h = absurd (let no : Content ≡ Memory = h in cc)
-memory_other fault.BadElement h = absurd (let no : Content ≡ Memory = h in cc)
-memory_other fault.NoTracks h = absurd (let no : Content ≡ Memory = h in cc)
-memory_other fault.Encoded h = absurd (let no : Content ≡ Memory = h in cc)
-memory_other fault.Laced h = absurd (let no : Content ≡ Memory = h in cc)
-memory_other fault.Checksum h = absurd (let no : Content ≡ Memory = h in cc)
-memory_other fault.Rate h = refl
-memory_other fault.Another h = absurd (let no : Content ≡ Memory = h in cc)
+memory_other (fault.File f) h = absurd (let no : Content ≡ Memory = h in cc)
+memory_other f h = refl
 
 -- if the fault is none of the file's own, or the byte is not asked for, there is no line
 other_text : (byte : Bool) (i : ℕ) (f : Fault) (offset : ℕ) → is_file_fault f ≡ false → located_text byte i f offset ≡ []

@@ -1,5 +1,5 @@
 -- A file that may be damaged is opened, and something is told of it, or nothing.
-use Rattle.std.proofs.Common.{◌≡◌, ◌⊎◌, refl, ℕ, Bool, false, true, Option, Err, List, [], inl, inr, ap, sym, subst, ◌∙◌}
+use Rattle.std.proofs.Common.{◌≡◌, ◌⊎◌, refl, ℕ, Bool, false, true, Err, inl, inr, ap, sym, subst, ◌∙◌}
 use Rattle.ffv1_wire.specs.Passage.{Passage}
 use Rattle.ffv1_record.specs.Reading.{IsRefused, ReachesSets}
 use Rattle.ffv1_record.specs.declared.fault.RecordFault.{RecordFault}
@@ -9,10 +9,13 @@ use Rattle.ffv1_reads.specs.Reads.{Met}
 use Rattle.ffv1_reads.specs.declared.fault.FileFault.{FileFault}
 use Rattle.ffv1_reads.specs.declared.fault.FileFault.TheVariants as file_fault
 use Rattle.ffv1_matroska.specs.Salvaged.{may_be_told}
-use Rattle.ffv1_matroska.specs.declared.told.ToldFault.{ToldFault}
-use Rattle.ffv1_files.specs.Again.{OpensAs, StopsOpening}
-use Rattle.ffv1_files.specs.Files.{once_read}
-use Rattle.ffv1_files.specs.Salvaged.{RefusedPlainly, SomeTold, StopsTelling}
+use Rattle.ffv1_files.specs.Again.{StopsOpening, lacks_tracks}
+use Rattle.ffv1_files.specs.Files.{once_read, open_read}
+use Rattle.ffv1_files.specs.Salvaged.{EndsTelling, RefusedPlainly}
+use Rattle.ffv1_files.specs.Ways.{tells}
+use Rattle.ffv1_files.specs.declared.way.Way.{Way}
+use Rattle.ffv1_files.specs.declared.way.Way.TheVariants as way
+use Rattle.ffv1_reads.specs.Known.{Known}
 use Rattle.ffv1_files.specs.declared.container.Scope.TheVariants.{Whole}
 use Rattle.ffv1_video.specs.declared.profile.Profile.{Profile}
 use Rattle.ffv1_video.specs.declared.profile.Profile.TheVariants as profile
@@ -25,11 +28,11 @@ use Rattle.ffv1_unpack.specs.Containers.{is_profile_fault}
 use Rattle.ffv1_unpack.specs.Located.{LocatedFault}
 use Rattle.ffv1_unpack.specs.Opens.{LacksOpening, is_opening_fault}
 use Rattle.ffv1_unpack.specs.Play.{FaultsOpening, LacksRecord}
-use Rattle.ffv1_unpack.specs.ToldItems.{HasToldFault, HeadLacks, IsReadAgainOrTold, IsTried, LacksTelling, is_told}
+use Rattle.ffv1_unpack.specs.ToldItems.{HasToldFault, HeadLacks, IsReadAgainTelling, IsTried, LacksTelling, is_told}
 use Rattle.ffv1_unpack.proofs.FaultsLocated.{memory_located}
 use Rattle.ffv1_unpack.proofs.OwnFaults.{record_opens}
 use Rattle.ffv1_unpack.proofs.ReadAgain.{file_again, memory_again}
-use Rattle.ffv1_unpack.proofs.ToldChecks.{either_told, told_content}
+use Rattle.ffv1_unpack.proofs.ToldChecks.{either_way, told_content}
 use Rattle.ffv1_unpack.proofs.UnpackedTold.{opening_untold, tried_untold}
 
 -- which faults may be told
@@ -44,7 +47,7 @@ told_may file_fault.BadElement is = refl
 told_may f is = absurd (cc (is))
 
 -- a file that is refused plainly has such a fault
-pub has_told : (p : Passage) → RefusedPlainly p.old → HasToldFault profile.Wide p
+has_told : (p : Passage) → RefusedPlainly (once_read Whole) p.old → HasToldFault profile.Wide p
 has_told p h = (
   h.left,
   of_avi h.refusal,
@@ -54,14 +57,37 @@ has_told p h = (
       (λ file rest met. inl (inr (inr (h.refusal, met, refl)))) h.known,
 )
 
+-- and so has one that is refused when it is read again
+has_told_again : (p : Passage) → RefusedPlainly (open_read Whole) p.old → HasToldFault profile.Wide p
+has_told_again p h = (
+  h.left,
+  of_avi h.refusal,
+  told_may h.refusal h.told,
+  known_map p.old h.left (λ file rest. open_read Whole file ≡ Err (Met h.refusal rest))
+      (λ file rest. FaultsOpening profile.Wide file rest (of_avi h.refusal) ⊎ LacksRecord profile.Wide file rest (of_avi h.refusal))
+      (λ file rest met. inl (inl (inr (h.refusal, met, refl)))) h.known,
+)
+
+pub tells_has : (p : Passage) (w : Way) → (w ≡ way.Telling → RefusedPlainly (once_read Whole) p.old) → (w ≡ way.TellingLate → RefusedPlainly (open_read Whole) p.old) → tells w ≡ true → HasToldFault profile.Wide p
+tells_has p way.Plainly once late telling = absurd (let no : false ≡ true = telling in cc)
+tells_has p way.Telling once late telling = has_told p (once refl)
+tells_has p way.TellingLate once late telling = has_told_again p (late refl)
+
 -- ---- the file is refused
 
-module _ (p : Passage) (begins : Bool) (start : ℕ) (ts : List ToldFault) (f : FileFault) (offset : ℕ) where
-  pub file_again_told : (ts ≡ [] → StopsOpening begins Whole p f) → (SomeTold ts → StopsTelling p start ts f offset) → IsReadAgainOrTold profile.Wide begins p (of_avi f)
-  file_again_told plain told = elim (either_told ts) [
-    | inl none ↦ inl (file_again profile.Wide begins p f (plain none))
-    | inr some ↦ inr (record { start = start; faults = ts; some = some; offset = offset; lacks = inl (f, refl, told some) })
-  ]
+pub file_again_told : (p : Passage) (begins : Bool) (w : Way) (f : FileFault) → (w ≡ way.Plainly → StopsOpening begins Whole p f) → (tells w ≡ true → begins ≡ true → lacks_tracks f ≡ true → Known p.old p.new (EndsTelling f)) → IsReadAgainTelling profile.Wide begins p (of_avi f)
+file_again_told p begins w f plain told = elim (either_way w) [
+  | inl plainly ↦ inl (file_again profile.Wide begins p f (plain plainly))
+  | inr telling ↦ by f (told telling)
+]
+  where
+    on_begins : (b : Bool) → (b ≡ true → Known p.old p.new (EndsTelling file_fault.NoTracks)) → IsReadAgainTelling profile.Wide b p (of_avi file_fault.NoTracks)
+    on_begins true h = inr (refl, h refl)
+    on_begins false h = inl (λ able. absurd (let no : false ≡ true = able in cc))
+
+    by : (g : FileFault) → (begins ≡ true → lacks_tracks g ≡ true → Known p.old p.new (EndsTelling g)) → IsReadAgainTelling profile.Wide begins p (of_avi g)
+    by file_fault.NoTracks h = on_begins begins (λ able. h able refl)
+    by g h = inl tt
 
 pub file_tried : (p : Passage) (f : FileFault) → (may_be_told f ≡ true → IsTried p (of_avi f)) → IsTried p (of_avi f)
 file_tried p f tried told = tried (may_told f told) told
@@ -106,10 +132,10 @@ module _ (profile : Profile) (p : Passage) (begins : Bool) (f g : Fault) (how : 
     | inr other ↦ subst (λ z. (is_opening_fault z ≡ true) ⊎ (is_profile_fault profile z ≡ true)) (sym other.1) own
   ]
 
-  pub untold_again : IsReadAgainOrTold profile begins p f → IsReadAgainOrTold profile begins p g
+  pub untold_again : IsReadAgainTelling profile begins p f → IsReadAgainTelling profile begins p g
   untold_again again = elim how [
     | inl told ↦ inl (memory_again profile begins p g told.1)
-    | inr other ↦ subst (IsReadAgainOrTold profile begins p) (sym other.1) again
+    | inr other ↦ subst (IsReadAgainTelling profile begins p) (sym other.1) again
   ]
 
   pub untold_tried : IsTried p g

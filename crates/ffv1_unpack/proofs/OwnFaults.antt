@@ -41,28 +41,8 @@ use Rattle.ffv1_unpack.specs.Internal.Told.{IsToldFault, WritesFrame}
 use Rattle.ffv1_unpack.proofs.FirstMovis.{reads_alone}
 
 pub record_opens : (r : RecordFault) → is_opening_fault (of_record r) ≡ true
-record_opens record_fault.StateTable = refl
 record_opens record_fault.OutOfMemory = refl
-record_opens record_fault.BadStart = refl
-record_opens record_fault.SymbolTooLong = refl
-record_opens record_fault.Runs = refl
-record_opens record_fault.Contexts = refl
-record_opens record_fault.Size = refl
-record_opens record_fault.Grid = refl
-record_opens record_fault.ChromaEdge = refl
-record_opens record_fault.Subsampling = refl
-record_opens record_fault.Sets = refl
-record_opens record_fault.Short = refl
-record_opens record_fault.Parity = refl
-record_opens record_fault.Version = refl
-record_opens record_fault.MicroVersion = refl
-record_opens record_fault.Coder = refl
-record_opens record_fault.ColourSpace = refl
-record_opens record_fault.Depth = refl
-record_opens record_fault.CodedStates = refl
-record_opens record_fault.Ec = refl
-record_opens record_fault.Intra = refl
-record_opens record_fault.ExtraPlane = refl
+record_opens r = refl
 
 -- those of the reader of files
 pub file_opens : (profile : Profile) (f : FileFault) → files.is_opening_fault (scope_in profile) f ≡ true → (is_opening_fault (of_avi f) ≡ true) ⊎ (is_profile_fault profile (of_avi f) ≡ true)
@@ -71,29 +51,14 @@ file_opens profile avi_fault.NotAvi own = inl refl
 file_opens profile avi_fault.NoFfv1 own = inl refl
 file_opens profile avi_fault.Truncated own = inl refl
 file_opens profile avi_fault.ChunkTooLong own = inl refl
-file_opens Strict avi_fault.EmptyFrame own = absurd (let no : false ≡ true = own in cc)
-file_opens Wide avi_fault.EmptyFrame own = absurd (let no : false ≡ true = own in cc)
-file_opens Strict avi_fault.TooLarge own = absurd (let no : false ≡ true = own in cc)
-file_opens Wide avi_fault.TooLarge own = absurd (let no : false ≡ true = own in cc)
 file_opens profile avi_fault.Read own = inl refl
-file_opens Strict avi_fault.Write own = absurd (let no : false ≡ true = own in cc)
-file_opens Wide avi_fault.Write own = absurd (let no : false ≡ true = own in cc)
-file_opens Strict avi_fault.NotMatroska own = absurd (let no : false ≡ true = own in cc)
 file_opens Wide avi_fault.NotMatroska own = inr refl
-file_opens Strict avi_fault.BadElement own = absurd (let no : false ≡ true = own in cc)
 file_opens Wide avi_fault.BadElement own = inr refl
-file_opens Strict avi_fault.NoTracks own = absurd (let no : false ≡ true = own in cc)
 file_opens Wide avi_fault.NoTracks own = inr refl
-file_opens Strict avi_fault.Encoded own = absurd (let no : false ≡ true = own in cc)
 file_opens Wide avi_fault.Encoded own = inr refl
-file_opens Strict avi_fault.Laced own = absurd (let no : false ≡ true = own in cc)
-file_opens Wide avi_fault.Laced own = absurd (let no : false ≡ true = own in cc)
-file_opens Strict avi_fault.Checksum own = absurd (let no : false ≡ true = own in cc)
 file_opens Wide avi_fault.Checksum own = inr refl
-file_opens Strict avi_fault.Rate own = absurd (let no : false ≡ true = own in cc)
-file_opens Wide avi_fault.Rate own = absurd (let no : false ≡ true = own in cc)
-file_opens Strict avi_fault.Another own = absurd (let no : false ≡ true = own in cc)
-file_opens Wide avi_fault.Another own = absurd (let no : false ≡ true = own in cc)
+file_opens Strict f own = absurd (let no : false ≡ true = own in cc)
+file_opens Wide f own = absurd (let no : false ≡ true = own in cc)
 
 -- another file behind an AVI is met only if all of the file is read
 only_whole : (scope : Scope) (text left : Option (List ℕ)) (head : Head) (place : AviPlace) (offset : ℕ) → PlaceReached scope text left head (InAvi place) offset → reads_on (extent_of place) ≡ true → scope ≡ Whole
@@ -104,32 +69,16 @@ frame_told : (r : Standing) (left : Option (List ℕ)) (place : Place) (f : File
     (is_telling_fault (of_avi f) ≡ true) ⊎ told_at r left place (of_avi f)
 frame_told r left place avi_fault.OutOfMemory whole own = inl refl
 frame_told r left place avi_fault.NotAvi whole own = inl refl
-frame_told r left (InAvi place) avi_fault.NoFfv1 whole own = absurd (let no : false ≡ true = own in cc)
-frame_told r left (InMatroska segment track place) avi_fault.NoFfv1 whole own = absurd (let no : false ≡ true = own in cc)
 frame_told r left place avi_fault.Truncated whole own = inl refl
 frame_told r left place avi_fault.ChunkTooLong whole own = inl refl
 frame_told r left place avi_fault.EmptyFrame whole own = inl refl
-frame_told r left (InAvi place) avi_fault.TooLarge whole own = absurd (let no : false ≡ true = own in cc)
-frame_told r left (InMatroska segment track place) avi_fault.TooLarge whole own = absurd (let no : false ≡ true = own in cc)
 frame_told r left place avi_fault.Read whole own = inl refl
-frame_told r left (InAvi place) avi_fault.Write whole own = absurd (let no : false ≡ true = own in cc)
-frame_told r left (InMatroska segment track place) avi_fault.Write whole own = absurd (let no : false ≡ true = own in cc)
-frame_told r left (InAvi place) avi_fault.NotMatroska whole own = absurd (let no : false ≡ true = own in cc)
-frame_told r left (InMatroska segment track place) avi_fault.NotMatroska whole own = absurd (let no : false ≡ true = own in cc)
-frame_told r left (InAvi place) avi_fault.BadElement whole own = absurd (let no : false ≡ true = own in cc)
 frame_told r left (InMatroska segment track place) avi_fault.BadElement whole own = inr refl
-frame_told r left (InAvi place) avi_fault.NoTracks whole own = absurd (let no : false ≡ true = own in cc)
-frame_told r left (InMatroska segment track place) avi_fault.NoTracks whole own = absurd (let no : false ≡ true = own in cc)
-frame_told r left (InAvi place) avi_fault.Encoded whole own = absurd (let no : false ≡ true = own in cc)
-frame_told r left (InMatroska segment track place) avi_fault.Encoded whole own = absurd (let no : false ≡ true = own in cc)
-frame_told r left (InAvi place) avi_fault.Laced whole own = absurd (let no : false ≡ true = own in cc)
 frame_told r left (InMatroska segment track place) avi_fault.Laced whole own = inr refl
-frame_told r left (InAvi place) avi_fault.Checksum whole own = absurd (let no : false ≡ true = own in cc)
 frame_told r left (InMatroska segment track place) avi_fault.Checksum whole own = inr refl
-frame_told r left (InAvi place) avi_fault.Rate whole own = absurd (let no : false ≡ true = own in cc)
-frame_told r left (InMatroska segment track place) avi_fault.Rate whole own = absurd (let no : false ≡ true = own in cc)
 frame_told r left (InAvi place) avi_fault.Another whole own = inr (refl, λ scope text stands. only_whole scope text left r.head place r.offset (whole scope text stands) own)
-frame_told r left (InMatroska segment track place) avi_fault.Another whole own = absurd (let no : false ≡ true = own in cc)
+frame_told r left (InAvi place) f whole own = absurd (let no : false ≡ true = own in cc)
+frame_told r left (InMatroska segment track place) f whole own = absurd (let no : false ≡ true = own in cc)
 
 pub frame_tells : (r : Standing) (left : Option (List ℕ)) (f : FileFault) → files.is_frame_fault r.place f ≡ true → IsToldFault r left (of_avi f)
 frame_tells r left f own = frame_told r left r.place f (λ scope text stands. stands.reached.whole) own
@@ -188,10 +137,10 @@ within_of Wide place avi = tt
 
 -- those of a Segment are those of Matroska
 pub segment_matroska : (f : Fault) → is_segment_fault f ≡ true → is_matroska_fault f ≡ true
-segment_matroska fault.BadElement own = refl
-segment_matroska fault.Laced own = refl
-segment_matroska fault.Checksum own = refl
-segment_matroska fault.Another own = refl
+segment_matroska (fault.File avi_fault.BadElement) own = refl
+segment_matroska (fault.File avi_fault.Laced) own = refl
+segment_matroska (fault.File avi_fault.Checksum) own = refl
+segment_matroska (fault.File avi_fault.Another) own = refl
 segment_matroska f own = absurd (let no : false ≡ true = own in cc)
 
 -- those of a container are those of a profile that reads it
@@ -254,27 +203,9 @@ opening_unpacks profile f h = elim h [
 
 pub payload_tells : (g : CodecFault) → is_decode_fault g ≡ true → g ≢ codec_fault.Sink → is_telling_fault (of_codec g) ≡ true
 payload_tells codec_fault.OutOfMemory decode own = refl
-payload_tells codec_fault.BadStart decode own = refl
-payload_tells codec_fault.SymbolTooLong decode own = refl
-payload_tells codec_fault.Colour decode own = refl
-payload_tells codec_fault.Overread decode own = refl
-payload_tells codec_fault.Ending decode own = refl
-payload_tells codec_fault.BitsEnd decode own = refl
-payload_tells codec_fault.BadCode decode own = refl
-payload_tells codec_fault.Padding decode own = refl
-payload_tells codec_fault.NotKey decode own = refl
-payload_tells codec_fault.Place decode own = refl
-payload_tells codec_fault.SetIndex decode own = refl
-payload_tells codec_fault.Structure decode own = refl
-payload_tells codec_fault.Aspect decode own = refl
-payload_tells codec_fault.Footer decode own = refl
-payload_tells codec_fault.Leftover decode own = refl
-payload_tells codec_fault.SliceParity decode own = refl
-payload_tells codec_fault.SliceStatus decode own = refl
-payload_tells codec_fault.Overlap decode own = refl
 payload_tells codec_fault.SliceTooLong decode own = absurd (let no : false ≡ true = decode in cc)
-payload_tells codec_fault.InfoDiffers decode own = refl
 payload_tells codec_fault.Sink decode own = absurd (own refl)
+payload_tells g decode own = refl
 
 either_left : (a b : Bool) → a ≡ true → (a || b) ≡ true
 either_left true b h = refl
@@ -309,3 +240,9 @@ line_shows cost line p f h = elim h [
     is_own : (cost : Bool) → is_show_fault cost fault.Write ≡ true
     is_own false = refl
     is_own true = refl
+
+pub line_checks : (profile : Profile) (line : List ℕ) (p : Passage) (f : Fault) → WritesFrame line p (Err f) → IsCheckFault profile f
+line_checks profile line p f h = elim h [
+  | inl write ↦ inr (inl (subst (λ z. is_telling_fault z ≡ true) (sym write.0) refl))
+  | inr none ↦ inr (inl (subst (λ z. is_telling_fault z ≡ true) (sym none.0) refl))
+]

@@ -53,7 +53,7 @@ module _ (old reader : Standing) (i0 i1 i2 : Option (List ℕ)) (ib im ia : ℕ)
       (h.0 ∙ ap one_more over.0, known_map i0 i2 (EndsThen BehindReadFails old.place) (NextReadFails old.place) (λ text rest fails. inr fails) (ends_then BehindReadFails h.1))
   stops_behind (InMatroska segment track place) file_fault.Another own h =
       let stops = file_stops (notes_of reader) any_value (between i1 i2 im ia) file_fault.Another h in
-      (stops.0 ∙ over.0, known_map i0 i2 (EndsThen (BehindHasFault fault.Another) old.place) (NextHasFault fault.Another old.place) (λ text rest faulty. inr faulty) (ends_then (BehindHasFault fault.Another) stops.1))
+      (stops.0 ∙ over.0, known_map i0 i2 (EndsThen (BehindHasFault (fault.File file_fault.Another)) old.place) (NextHasFault (fault.File file_fault.Another) old.place) (λ text rest faulty. inr faulty) (ends_then (BehindHasFault (fault.File file_fault.Another)) stops.1))
   stops_behind (InMatroska segment track place) f own h = absurd (let no : false ≡ true = own in cc)
 
   pub behind_stops : (f : FileFault) → is_behind_fault reader.place f ≡ true → StopsReading any_value (notes_of reader) (between i1 i2 im ia) f → StopsFrom old.place (between i0 i2 ib ia) (of_avi f)

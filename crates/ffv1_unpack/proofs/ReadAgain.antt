@@ -31,20 +31,20 @@ use Rattle.ffv1_unpack.proofs.OwnFaults.{record_opens}
 use Rattle.ffv1_unpack.proofs.ItemsJudged.{line_own}
 
 -- the faults of reading on do not say it
-opening_none : (f : Fault) → is_opening_fault f ≡ true → f ≡ fault.NoTracks → ⊥
+opening_none : (f : Fault) → is_opening_fault f ≡ true → f ≡ fault.File file_fault.NoTracks → ⊥
 opening_none f own is = absurd (let no : false ≡ true = subst (λ z. is_opening_fault z ≡ true) is own in cc)
 
-telling_none : (f : Fault) → is_telling_fault f ≡ true → f ≡ fault.NoTracks → ⊥
+telling_none : (f : Fault) → is_telling_fault f ≡ true → f ≡ fault.File file_fault.NoTracks → ⊥
 telling_none f own is = absurd (let no : false ≡ true = subst (λ z. is_telling_fault z ≡ true) is own in cc)
 
-told_none : (r : Standing) (left : Option (List ℕ)) (place : Place) → told_at r left place fault.NoTracks → ⊥
+told_none : (r : Standing) (left : Option (List ℕ)) (place : Place) → told_at r left place (fault.File file_fault.NoTracks) → ⊥
 told_none r left (InAvi place) (is, whole) = absurd (cc)
 told_none r left (InMatroska segment track place) other = absurd (let no : false ≡ true = other in cc)
 
-container_none : (r : Standing) (left : Option (List ℕ)) (f : Fault) → IsContainerFault r left f → f ≡ fault.NoTracks → ⊥
+container_none : (r : Standing) (left : Option (List ℕ)) (f : Fault) → IsContainerFault r left f → f ≡ fault.File file_fault.NoTracks → ⊥
 container_none r left f own is = told_none r left r.place (subst (IsContainerFault r left) is own)
 
-unpack_none : IsUnpackFault fault.NoTracks → ⊥
+unpack_none : IsUnpackFault (fault.File file_fault.NoTracks) → ⊥
 unpack_none (inl own) = absurd (let no : false ≡ true = own in cc)
 unpack_none (inr (inl own)) = absurd (let no : false ≡ true = own in cc)
 unpack_none (inr (inr (inl is))) = absurd (cc)
@@ -54,8 +54,8 @@ unpack_none (inr (inr (inr (inr (inr is))))) = absurd (cc)
 
 module _ (profile : Profile) (begins : Bool) (p : Passage) where
   -- of another fault it says nothing
-  pub other_again : (f : Fault) → (f ≡ fault.NoTracks → ⊥) → IsReadAgain profile begins p f
-  other_again fault.NoTracks other = absurd (other refl)
+  pub other_again : (f : Fault) → (f ≡ fault.File file_fault.NoTracks → ⊥) → IsReadAgain profile begins p f
+  other_again (fault.File file_fault.NoTracks) other = absurd (other refl)
   other_again f other = tt
 
   -- a file that was read once, or again
@@ -64,7 +64,7 @@ module _ (profile : Profile) (begins : Bool) (p : Passage) where
   once f able = tt
 
   again : (f : FileFault) → scope_in profile ≡ Whole → StopsAgain p f → IsReadAgain profile begins p (of_avi f)
-  again file_fault.NoTracks is (same, h) = λ on. known_map p.old p.new (λ file rest. files.FaultsRead (open_read Whole) file rest file_fault.NoTracks) (λ file rest. FaultsRead (open_read (scope_in profile)) file rest fault.NoTracks) (λ file rest k. again_faults profile file_fault.NoTracks file rest is k) h
+  again file_fault.NoTracks is (same, h) = λ on. known_map p.old p.new (λ file rest. files.FaultsRead (open_read Whole) file rest file_fault.NoTracks) (λ file rest. FaultsRead (open_read (scope_in profile)) file rest (fault.File file_fault.NoTracks)) (λ file rest k. again_faults profile file_fault.NoTracks file rest is k) h
   again f is h = tt
 
   pub file_again : (f : FileFault) → StopsOpening begins (scope_in profile) p f → IsReadAgain profile begins p (of_avi f)

@@ -1,5 +1,5 @@
 -- A file of which something is told before its first frame is checked, or is refused.
-use Rattle.std.proofs.Common.{◌≡◌, ◌⊎◌, refl, ℕ, Bool, false, true, Option, Result, Ok, Err, IfErr, IfOk, List, [], ◌∷◌, ◌++◌, inl, inr, ap, sym, subst, ◌∙◌, append-nil, arith}
+use Rattle.std.proofs.Common.{◌≡◌, ◌⊎◌, refl, ℕ, Bool, false, true, Option, Result, Ok, Err, IfErr, IfOk, List, [], ◌∷◌, ◌++◌, inl, inr, ap, sym, subst, ◌∙◌, arith}
 use Rattle.std.proofs.KnownBytes.{Appends-trans}
 use Rattle.std.specs.Io.KnownBytes.{Appends}
 use Rattle.ffv1_wire.specs.Failures.{one_more}
@@ -9,8 +9,12 @@ use Rattle.ffv1_files.specs.Items.{course_by, course_of}
 use Rattle.ffv1_files.specs.Places.{InAvi, InMatroska, Place, container_of}
 use Rattle.ffv1_files.specs.Readers.{Standing}
 use Rattle.ffv1_files.specs.Salvaged.{SomeTold}
+use Rattle.ffv1_files.specs.Ways.{tells}
+use Rattle.ffv1_files.specs.declared.way.Way.{Way}
+use Rattle.ffv1_files.specs.declared.way.Way.TheVariants as way
 use Rattle.ffv1_video.specs.declared.profile.Profile.{Profile}
 use Rattle.ffv1_video.specs.declared.fault.Fault.{Fault}
+use Rattle.ffv1_reads.specs.declared.fault.FileFault.TheVariants as file_fault
 use Rattle.ffv1_video.specs.declared.fault.Fault.TheVariants as fault
 use Rattle.ffv1_video.specs.Output.{Silent}
 use Rattle.ffv1_video.specs.Profiles.{byte_told, scope_in}
@@ -21,7 +25,7 @@ use Rattle.ffv1_unpack.specs.Located.{LocatedFault, WritesLine, located_text}
 use Rattle.ffv1_unpack.specs.Opens.{IsReadAgain, LacksOpening}
 use Rattle.ffv1_unpack.specs.Play.{LacksStream}
 use Rattle.ffv1_unpack.specs.Told.{is_telling_fault}
-use Rattle.ffv1_unpack.specs.ToldItems.{IsReadAgainOrTold, IsTried, LacksTelling, ToldLacks, ToldWrites, is_told, told_lines}
+use Rattle.ffv1_unpack.specs.ToldItems.{HasToldFault, IsReadAgainTelling, IsTried, LacksTelling, ToldLacks, ToldWrites, is_told}
 use Rattle.ffv1_unpack.specs.Internal.Containers.{is_segment, told_at}
 use Rattle.ffv1_unpack.specs.Internal.Plainly.{is_plain}
 use Rattle.ffv1_unpack.specs.Internal.Told.{IsToldFault}
@@ -42,8 +46,8 @@ err_so P Q (Err e) so h = so e h
 
 -- such a fault is one of the file's content
 pub told_content : (profile : Profile) (p : Passage) (f : Fault) → is_told f ≡ true → LacksOpening profile p f → (p.after ≡ p.before) × LacksStream profile p.old p.new f
-told_content profile p fault.Checksum is h = h
-told_content profile p fault.BadElement is h = h
+told_content profile p (fault.File file_fault.Checksum) is h = h
+told_content profile p (fault.File file_fault.BadElement) is h = h
 told_content profile p f is h = absurd (cc)
 
 -- ---- it is refused before its first frame
@@ -51,6 +55,24 @@ told_content profile p f is h = absurd (cc)
 pub either_told : (ts : List ToldFault) → (ts ≡ []) ⊎ SomeTold ts
 either_told [] = inl refl
 either_told (t ∷ ts) = inr (λ none. absurd (cc (none)))
+
+pub either_way : (w : Way) → (w ≡ way.Plainly) ⊎ (tells w ≡ true)
+either_way way.Plainly = inl refl
+either_way way.Telling = inr refl
+either_way way.TellingLate = inr refl
+
+-- what the call says of that
+pub way_plain : (w : Way) (b : Bool) → b ≡ tells w → b ≡ false → w ≡ way.Plainly
+way_plain w b is none = elim (either_way w) [
+  | inl plainly ↦ plainly
+  | inr telling ↦ absurd (let no : false ≡ true = sym none ∙ is ∙ telling in cc)
+]
+
+pub way_tells : (w : Way) (b : Bool) → b ≡ tells w → b ≡ true → tells w ≡ true
+way_tells w b is so = sym is ∙ so
+
+pub not_plain : {P : Type 0} → tells way.Plainly ≡ true → P
+not_plain telling = absurd (let no : false ≡ true = telling in cc)
 
 -- no line of a byte
 no_line : (byte : Bool) (offset : ℕ) → located_text byte 0 fault.OutOfMemory offset ≡ []
@@ -69,6 +91,11 @@ pub line_after : (o0 o1 o2 : Option (List ℕ)) (ob om oa : ℕ) (lines last : L
 line_after o0 o1 o2 ob om oa lines last same first (inl (kept, next)) = inl (kept ∙ same, Appends-trans o0 o1 o2 lines last first next)
 line_after o0 o1 o2 ob om oa lines last same first (inr (failed, k, few, next)) = inr (failed ∙ ap one_more same, k, few, Appends-trans o0 o1 o2 lines _ first next)
 
+-- what is told was written, if anything is, and the line of the byte
+pub writes_told : (byte : Bool) (output : Passage) (start : ℕ) (ts : List ToldFault) (f : Fault) (offset : ℕ) (g : Fault) → (ts ≡ [] → (g ≡ f) × WritesLine [] (located_text byte 0 f offset) output) → (SomeTold ts → ToldWrites byte output start ts f offset g) → ToldWrites byte output start ts f offset g
+writes_told byte output start [] f offset g plain writes = inl (plain refl)
+writes_told byte output start (t ∷ ts) f offset g plain writes = writes (λ none. absurd (cc (none)))
+
 module _ (profile : Profile) (place : Bool) (i0 i1 o0 o1 : Option (List ℕ)) (ib im ob om : ℕ) (start : ℕ) (ts : List ToldFault) (f : Fault) (offset : ℕ) (byte : Bool) (g : Fault) where
   abbrev input : Passage
   input = between i0 i1 ib im
@@ -85,15 +112,17 @@ module _ (profile : Profile) (place : Bool) (i0 i1 o0 o1 : Option (List ℕ)) (i
       let silent = memory_silent (byte_told profile place) offset f output is writes in
       subst (AllStops profile place input output) (sym is) (inr (inr (inl (has, inr (inr (silent, kept))))))
 
-  pub check_refused : byte ≡ byte_told profile place → (ts ≡ [] → LacksOpening profile input f ⊎ LacksTelling profile input f) → (ts ≡ [] → LocatedFault (scope_in profile) input f offset) → (SomeTold ts → ToldLacks profile input start ts f offset) →
-      (ts ≡ [] → (g ≡ f) × WritesLine [] (located_text byte 0 f offset) output) → (SomeTold ts → ToldWrites byte output start ts f offset g) → AllStops profile place input output g
-  check_refused tells lacks located told plain writes = elim (either_told ts) [
-    | inl none ↦ subst (AllStops profile place input output) (sym (plain none).0)
-        (plainly_refused (lacks none) (located none) (subst (λ b. WritesLine [] (located_text b 0 f offset) output) tells (plain none).1))
-    | inr some ↦ inr (inr (inr (record {
+  pub check_refused : (w : Way) → byte ≡ byte_told profile place → (w ≡ way.Plainly → ts ≡ []) → (w ≡ way.Plainly → LacksOpening profile input f ⊎ LacksTelling profile input f) → (w ≡ way.Plainly → LocatedFault (scope_in profile) input f offset) →
+      (tells w ≡ true → HasToldFault profile input) → (tells w ≡ true → ToldLacks profile input start ts f offset) → (ts ≡ [] → (g ≡ f) × WritesLine [] (located_text byte 0 f offset) output) → (SomeTold ts → ToldWrites byte output start ts f offset g) → AllStops profile place input output g
+  check_refused w byted nothing lacks located has told plain writes = elim (either_way w) [
+    | inl is ↦
+        let line = plain (nothing is) in
+        subst (AllStops profile place input output) (sym line.0)
+        (plainly_refused (lacks is) (located is) (subst (λ b. WritesLine [] (located_text b 0 f offset) output) byted line.1))
+    | inr telling ↦ inr (inr (inr (record {
       refusal = f;
-      refused = record { start = start; faults = ts; some = some; offset = offset; lacks = told some };
-      writes = subst (λ b. ToldWrites b output start ts f offset g) tells (writes some);
+      refused = record { start = start; faults = ts; plainly = has telling; offset = offset; lacks = told telling };
+      writes = subst (λ b. ToldWrites b output start ts f offset g) byted (writes_told byte output start ts f offset g plain writes);
     })))
   ]
 
@@ -105,17 +134,17 @@ module _ (profile : Profile) (f g : Fault) (own : (g ≡ f) ⊎ (is_telling_faul
     | inr telling ↦ inr (inl telling)
   ]
 
-  pub refused_again : (begins : Bool) (p : Passage) → IsReadAgainOrTold profile begins p f → IsReadAgainOrTold profile begins p g
+  pub refused_again : (begins : Bool) (p : Passage) → IsReadAgainTelling profile begins p f → IsReadAgainTelling profile begins p g
   refused_again begins p again = elim own [
-    | inl same ↦ subst (IsReadAgainOrTold profile begins p) (sym same) again
+    | inl same ↦ subst (IsReadAgainTelling profile begins p) (sym same) again
     | inr telling ↦ inl (telling_again profile begins p g telling)
   ]
 
 -- ---- that it was tried
 
 no_telling : {P : Type 0} (f : Fault) → is_telling_fault f ≡ true → is_told f ≡ true → P
-no_telling fault.Checksum telling told = absurd (cc (telling))
-no_telling fault.BadElement telling told = absurd (cc (telling))
+no_telling (fault.File file_fault.Checksum) telling told = absurd (cc (telling))
+no_telling (fault.File file_fault.BadElement) telling told = absurd (cc (telling))
 no_telling f telling told = absurd (cc (told))
 
 module _ (p : Passage) where

@@ -1,17 +1,20 @@
 -- A file of which something is told before its first frame is unpacked, or is refused.
 use Rattle.std.proofs.Common.{◌≡◌, ◌⊎◌, refl, ℕ, Bool, false, true, Option, List, [], inl, inr, ap, sym, subst, ◌∙◌}
-use Rattle.ffv1_wire.specs.Passage.{Passage, between}
+use Rattle.ffv1_wire.specs.Passage.{Passage}
 use Rattle.ffv1_record.specs.Configuration.{Configuration}
 use Rattle.ffv1_matroska.specs.declared.told.ToldFault.{ToldFault}
 use Rattle.ffv1_files.specs.Places.{InAvi, InMatroska, Place, container_of}
 use Rattle.ffv1_files.specs.Readers.{Standing}
 use Rattle.ffv1_files.specs.Salvaged.{SomeTold}
+use Rattle.ffv1_files.specs.Ways.{tells}
+use Rattle.ffv1_files.specs.declared.way.Way.{Way}
+use Rattle.ffv1_files.specs.declared.way.Way.TheVariants as way
 use Rattle.ffv1_video.specs.declared.profile.Profile.{Profile}
 use Rattle.ffv1_video.specs.declared.profile.Profile.TheVariants as profile
 use Rattle.ffv1_video.specs.declared.fault.Fault.{Fault}
+use Rattle.ffv1_reads.specs.declared.fault.FileFault.TheVariants as file_fault
 use Rattle.ffv1_video.specs.declared.fault.Fault.TheVariants as fault
 use Rattle.ffv1_video.specs.Output.{Silent}
-use Rattle.ffv1_unpack.specs.Containers.{is_profile_fault}
 use Rattle.ffv1_unpack.specs.Located.{WritesLine, located_text}
 use Rattle.ffv1_unpack.specs.Opens.{IsReadAgain, LacksOpening, is_opening_fault}
 use Rattle.ffv1_unpack.specs.Told.{is_telling_fault}
@@ -24,18 +27,18 @@ use Rattle.ffv1_unpack.specs.Internal.Told.{IsToldFault}
 use Rattle.ffv1_unpack.specs.Internal.Unpack.{IsWritingFault}
 use Rattle.ffv1_unpack.proofs.OwnFaults.{segment_matroska}
 use Rattle.ffv1_unpack.proofs.ReadAgain.{other_again, unpack_again}
-use Rattle.ffv1_unpack.proofs.ToldChecks.{either_told, nothing_written}
+use Rattle.ffv1_unpack.proofs.ToldChecks.{either_way, nothing_written, writes_told}
 
 -- ---- which faults are not told before the frames
 
 pub opening_untold : (f : Fault) → is_opening_fault f ≡ true → is_told f ≡ false
-opening_untold fault.Checksum own = absurd (cc (own))
-opening_untold fault.BadElement own = absurd (cc (own))
+opening_untold (fault.File file_fault.Checksum) own = absurd (cc (own))
+opening_untold (fault.File file_fault.BadElement) own = absurd (cc (own))
 opening_untold f own = refl
 
 pub telling_untold : (f : Fault) → is_telling_fault f ≡ true → is_told f ≡ false
-telling_untold fault.Checksum own = absurd (cc (own))
-telling_untold fault.BadElement own = absurd (cc (own))
+telling_untold (fault.File file_fault.Checksum) own = absurd (cc (own))
+telling_untold (fault.File file_fault.BadElement) own = absurd (cc (own))
 telling_untold f own = refl
 
 pub unpack_untold : (f : Fault) → IsUnpackFault f → is_told f ≡ false
@@ -75,7 +78,7 @@ pub own_told : (p : Profile) (g : Fault) → p ≡ profile.Wide → IsUnpackFaul
 own_told p g wide (inl unpack) = inl unpack
 own_told p g wide (inr segment) = subst (λ z. IsUnpackFaultIn z g) (sym wide) (inr (segment_matroska g segment))
 
-no_tracks : (g : Fault) → is_segment_fault g ≡ true → g ≡ fault.NoTracks → ⊥
+no_tracks : (g : Fault) → is_segment_fault g ≡ true → g ≡ fault.File file_fault.NoTracks → ⊥
 no_tracks g segment same = absurd (let no : false ≡ true = subst (λ z. is_segment_fault z ≡ true) same segment in cc)
 
 pub reads_again : (profile : Profile) (begins : Bool) (p : Passage) (g : Fault) → IsUnpackFault g ⊎ (is_segment_fault g ≡ true) → IsReadAgain profile begins p g
@@ -90,15 +93,17 @@ module _ (p : Profile) (input lines output : Passage) (silent : Silent output) (
   plainly_refused none (inr (inl (has, is, kept))) = subst (UnpackAllStops p input lines output) (sym is) (inr (inl (has, inr (inr (inr (inl ((none, kept), silent)))))))
   plainly_refused none (inr (inr (has, lacks))) = inr (inl (has, inr (inr (inr (inr (lacks, none, silent))))))
 
-  pub unpack_refused : (ts ≡ [] → LacksUnpacking p input f ⊎ LacksTelling p input f ⊎ (HasToldFault p input × ToldLacksText p input f)) → (SomeTold ts → (offset : ℕ) × ToldLacks p input start ts f offset) →
+  pub unpack_refused : (w : Way) → (w ≡ way.Plainly → ts ≡ []) → (w ≡ way.Plainly → LacksUnpacking p input f ⊎ LacksTelling p input f ⊎ (HasToldFault p input × ToldLacksText p input f)) → (tells w ≡ true → HasToldFault p input) → (tells w ≡ true → (offset : ℕ) × ToldLacks p input start ts f offset) →
       (ts ≡ [] → (g ≡ f) × WritesLine [] (located_text false 0 f 0) lines) → (SomeTold ts → ToldWrites false lines start ts f 0 g) → UnpackAllStops p input lines output g
-  unpack_refused lacks told plain writes = elim (either_told ts) [
-    | inl none ↦ subst (UnpackAllStops p input lines output) (sym (plain none).0) (plainly_refused (nothing_written lines (plain none).1) (lacks none))
-    | inr some ↦ inr (inr (
+  unpack_refused w nothing lacks has told plain writes = elim (either_way w) [
+    | inl is ↦
+        let line = plain (nothing is) in
+        subst (UnpackAllStops p input lines output) (sym line.0) (plainly_refused (nothing_written lines line.1) (lacks is))
+    | inr telling ↦ inr (inr (
       record {
         refusal = f;
-        refused = record { start = start; faults = ts; some = some; offset = (told some).0; lacks = (told some).1 };
-        writes = writes some;
+        refused = record { start = start; faults = ts; plainly = has telling; offset = (told telling).0; lacks = (told telling).1 };
+        writes = writes_told false lines start ts f 0 g plain writes;
       },
       silent,
     ))

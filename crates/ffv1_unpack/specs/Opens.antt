@@ -16,8 +16,9 @@ use Rattle.ffv1_reads.specs.Known.{Known}
 use Rattle.ffv1_video.specs.declared.profile.Profile.{Profile}
 use Rattle.ffv1_video.specs.Profiles.{greatest_depth, record_profile, scope_in}
 use Rattle.ffv1_video.specs.declared.fault.Fault.{Fault}
+use Rattle.ffv1_reads.specs.declared.fault.FileFault.TheVariants as file_fault
 use Rattle.ffv1_video.specs.declared.fault.Fault.TheVariants as fault
-use Rattle.ffv1_video.specs.Faults.{Cause, cause_of}
+use Rattle.ffv1_video.specs.Faults.{Cause, cause_of, is_record_fault}
 use Rattle.ffv1_video.specs.Faults.Cause.{Reading, Writing, Memory, Content}
 use Rattle.ffv1_unpack.specs.Stream.{IsStream, Stream}
 use Rattle.ffv1_unpack.specs.Play.{FaultsRead, LacksStream}
@@ -83,38 +84,19 @@ LacksOpening profile p f = LacksOpeningBy profile p f (cause_of f)
 -- that a file lacks Tracks is, if its input can begin again, its fault as it is read again, and not
 -- that of one reading alone; of any other fault this says nothing
 abbrev pub IsReadAgain : Profile → Bool → Passage → Fault → Type 0
-IsReadAgain profile begins p fault.NoTracks = begins ≡ true → Known p.old p.new
-    (λ file rest. FaultsRead (open_read (scope_in profile)) file rest fault.NoTracks)
+IsReadAgain profile begins p (fault.File file_fault.NoTracks) = begins ≡ true → Known p.old p.new
+    (λ file rest.
+    FaultsRead (open_read (scope_in profile)) file rest (fault.File file_fault.NoTracks))
 IsReadAgain profile begins p f = ⊤
 
 -- the faults that opening has, whatever the file: those of its chunks before the first frame, and
 -- those of its record
 abbrev pub is_opening_fault : Fault → Bool
 is_opening_fault fault.OutOfMemory = true
-is_opening_fault fault.NotAvi = true
-is_opening_fault fault.NoFfv1 = true
-is_opening_fault fault.Truncated = true
-is_opening_fault fault.ChunkTooLong = true
 is_opening_fault fault.Read = true
-is_opening_fault fault.StateTable = true
-is_opening_fault fault.BadStart = true
-is_opening_fault fault.SymbolTooLong = true
-is_opening_fault fault.Runs = true
-is_opening_fault fault.Contexts = true
-is_opening_fault fault.Size = true
-is_opening_fault fault.Grid = true
-is_opening_fault fault.ChromaEdge = true
-is_opening_fault fault.Subsampling = true
-is_opening_fault fault.Sets = true
-is_opening_fault fault.Short = true
-is_opening_fault fault.Parity = true
-is_opening_fault fault.Version = true
-is_opening_fault fault.MicroVersion = true
-is_opening_fault fault.Coder = true
-is_opening_fault fault.ColourSpace = true
-is_opening_fault fault.Depth = true
-is_opening_fault fault.CodedStates = true
-is_opening_fault fault.Ec = true
-is_opening_fault fault.Intra = true
-is_opening_fault fault.ExtraPlane = true
+is_opening_fault (fault.Record f) = is_record_fault f
+is_opening_fault (fault.File file_fault.NotAvi) = true
+is_opening_fault (fault.File file_fault.NoFfv1) = true
+is_opening_fault (fault.File file_fault.Truncated) = true
+is_opening_fault (fault.File file_fault.ChunkTooLong) = true
 is_opening_fault f = false

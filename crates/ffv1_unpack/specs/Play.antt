@@ -16,6 +16,7 @@ use Rattle.ffv1_reads.specs.Known.{Known}
 use Rattle.ffv1_video.specs.declared.profile.Profile.{Profile}
 use Rattle.ffv1_video.specs.Profiles.{greatest_depth, record_profile, scope_in}
 use Rattle.ffv1_video.specs.declared.fault.Fault.{Fault}
+use Rattle.ffv1_reads.specs.declared.fault.FileFault.TheVariants as file_fault
 use Rattle.ffv1_video.specs.declared.fault.Fault.TheVariants as fault
 use Rattle.ffv1_video.specs.Faults.{of_avi, of_codec, of_record}
 use Rattle.ffv1_unpack.specs.Stream.{AreFrames, Frame, IsRefusedPayload, IsStream}
@@ -25,7 +26,8 @@ use Rattle.ffv1_unpack.specs.Stream.{Stream}
 -- truncated
 abbrev pub FaultsRead : {X : Type 0} → Reading X → List ℕ → List ℕ → Fault → Type 0
 FaultsRead reading text rest f =
-    ((w : Want) × (reading text ≡ Err (Short w)) × (rest ≡ []) × (f ≡ fault.Truncated))
+    ((w : Want) × (reading text ≡ Err (Short w)) × (rest ≡ [])
+    × (f ≡ fault.File file_fault.Truncated))
     ⊎ ((g : FileFault) × (reading text ≡ Err (Met g rest)) × (f ≡ of_avi g))
 
 -- a file with a head whose record is refused

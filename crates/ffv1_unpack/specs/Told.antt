@@ -8,9 +8,11 @@ use Rattle.ffv1_record.specs.Accepted.{Accepted}
 use Rattle.ffv1_frame.specs.declared.fault.FrameFault.{FrameFault}
 use Rattle.ffv1_files.specs.Places.{Place}
 use Rattle.ffv1_video.specs.declared.fault.Fault.{Fault}
+use Rattle.ffv1_frame.specs.declared.fault.CodecFault.TheVariants as codec_fault
+use Rattle.ffv1_reads.specs.declared.fault.FileFault.TheVariants as file_fault
 use Rattle.ffv1_video.specs.declared.fault.Fault.TheVariants as fault
 use Rattle.ffv1_unpack.specs.declared.frame_line.FrameLine.{FrameLine}
-use Rattle.ffv1_video.specs.Faults.{cause_of, of_codec}
+use Rattle.ffv1_video.specs.Faults.{cause_of, is_codec_fault, of_codec}
 use Rattle.ffv1_video.specs.Faults.Cause.{Content}
 use Rattle.ffv1_unpack.specs.Stream.{Frame, IsFrame, IsRefusedPayload, frame_payload}
 use Rattle.ffv1_unpack.specs.Plays.{GoesThen, NextIsPayload}
@@ -50,27 +52,11 @@ abbrev pub is_telling_fault : Fault → Bool
 is_telling_fault fault.OutOfMemory = true
 is_telling_fault fault.Read = true
 is_telling_fault fault.Write = true
-is_telling_fault fault.NotAvi = true
-is_telling_fault fault.Truncated = true
-is_telling_fault fault.ChunkTooLong = true
-is_telling_fault fault.EmptyFrame = true
-is_telling_fault fault.BadStart = true
-is_telling_fault fault.SymbolTooLong = true
-is_telling_fault fault.Colour = true
-is_telling_fault fault.Overread = true
-is_telling_fault fault.Ending = true
-is_telling_fault fault.BitsEnd = true
-is_telling_fault fault.BadCode = true
-is_telling_fault fault.Padding = true
-is_telling_fault fault.NotKey = true
-is_telling_fault fault.Place = true
-is_telling_fault fault.SetIndex = true
-is_telling_fault fault.Structure = true
-is_telling_fault fault.Aspect = true
-is_telling_fault fault.Footer = true
-is_telling_fault fault.Leftover = true
-is_telling_fault fault.SliceParity = true
-is_telling_fault fault.SliceStatus = true
-is_telling_fault fault.Overlap = true
-is_telling_fault fault.InfoDiffers = true
+is_telling_fault (fault.File file_fault.NotAvi) = true
+is_telling_fault (fault.File file_fault.Truncated) = true
+is_telling_fault (fault.File file_fault.ChunkTooLong) = true
+is_telling_fault (fault.File file_fault.EmptyFrame) = true
+is_telling_fault (fault.Codec codec_fault.SliceTooLong) = false
+is_telling_fault (fault.Codec codec_fault.Sink) = false
+is_telling_fault (fault.Codec f) = is_codec_fault f
 is_telling_fault f = false

@@ -10,17 +10,19 @@ use Rattle.ffv1_record.specs.declared.fault.RecordFault.{RecordFault}
 use Rattle.ffv1_reads.specs.Head.{Head}
 use Rattle.ffv1_reads.specs.Known.{Known}
 use Rattle.ffv1_reads.specs.declared.fault.FileFault.{FileFault}
+use Rattle.ffv1_reads.specs.declared.fault.FileFault.TheVariants as file_fault
 use Rattle.ffv1_reads.specs.Items.{Given}
 use Rattle.ffv1_matroska.specs.declared.told.ToldFault.{ToldFault}
 use Rattle.ffv1_files.specs.Behind.{EndsThere}
 use Rattle.ffv1_files.specs.Items.{course_by, course_of}
 use Rattle.ffv1_files.specs.Places.{Place}
 use Rattle.ffv1_files.specs.Readers.{Standing}
-use Rattle.ffv1_files.specs.Salvaged.{EndsTelling, IsSalvaged, SomeTold, StopsTelling, given_told}
+use Rattle.ffv1_files.specs.Salvaged.{EndsTelling, IsSalvaged, StopsTelling, given_told}
 use Rattle.ffv1_files.specs.Salvaged.{told_offset}
 use Rattle.ffv1_files.specs.declared.notes.Notes.{Notes}
 use Rattle.ffv1_video.specs.declared.profile.Profile.{Profile}
 use Rattle.ffv1_video.specs.declared.fault.Fault.{Fault}
+use Rattle.ffv1_reads.specs.declared.fault.FileFault.TheVariants as file_fault
 use Rattle.ffv1_video.specs.declared.fault.Fault.TheVariants as fault
 use Rattle.ffv1_video.specs.Faults.{Cause, cause_of, of_avi, of_record}
 use Rattle.ffv1_video.specs.Faults.Cause.{Reading, Writing, Memory, Content}
@@ -69,8 +71,8 @@ told_lines start (t ∷ ts) =
 
 -- a fault that a file has plainly, and that may be told
 abbrev pub is_told : Fault → Bool
-is_told fault.Checksum = true
-is_told fault.BadElement = true
+is_told (fault.File file_fault.Checksum) = true
+is_told (fault.File file_fault.BadElement) = true
 is_told f = false
 
 -- a file was opened so, with these faults
@@ -124,11 +126,11 @@ ToldLacks profile input start faults f offset =
     ((g : FileFault) × (f ≡ of_avi g) × StopsTelling input start faults g offset)
     ⊎ ToldLacksStream profile input start faults f
 
--- some fault is told, and then this one refuses the file
+-- it has a fault plainly that may be told, these are told, if any, and then this one refuses it
 pub record ToldRefused (profile : Profile) (input : Passage) (f : Fault) : Type 0 where
   pub start : ℕ
   pub faults : List ToldFault
-  pub some : SomeTold faults
+  pub plainly : HasToldFault profile input
   pub offset : ℕ
   pub lacks : ToldLacks profile input start faults f offset
 
@@ -192,13 +194,14 @@ module _ (profile : Profile) (place : Bool) (input output : Passage) where
       (HasToldFault profile input × AgainFault f)
       ⊎ ToldStops profile (byte_told profile place) input output f
 
--- that a file lacks Tracks is its fault as it is read again, if its input can begin again; or the
--- fault of one reading, if something is told before
-abbrev pub IsReadAgainOrTold : Profile → Bool → Passage → Fault → Type 0
-IsReadAgainOrTold profile begins p f = IsReadAgain profile begins p f ⊎ ToldRefused profile p f
+-- that a file lacks Tracks is its fault as it is read again, plainly or with what is told, if its
+-- input can begin again; of any other fault this says nothing
+abbrev pub IsReadAgainTelling : Profile → Bool → Passage → Fault → Type 0
+IsReadAgainTelling profile begins p f =
+    IsReadAgain profile begins p f
+    ⊎ ((f ≡ of_avi file_fault.NoTracks) × Known p.old p.new (EndsTelling file_fault.NoTracks))
 
--- a fault that may be told is an answer only if the reading that tells is refused with it, or if
--- the file lacks Tracks where they are looked for first, and has it where it is read again; of any
+-- a fault that may be told is an answer only if a reading that tells is refused with it; of any
 -- other fault this says nothing
 abbrev pub IsTried : Passage → Fault → Type 0
 IsTried p f =

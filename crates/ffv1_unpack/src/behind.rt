@@ -62,7 +62,7 @@ pub(crate) fn tell_behind<R: ByteIn, W: ByteOut, A: Allocator + Copy>(
             }
             let mut text = Vec::new(alloc);
             write_told(output, &mut text, player.reader.end(), FileFault::Another)?;
-            counts.tell(Fault::Another);
+            counts.tell(Fault::File(FileFault::Another));
             Ok(Notes::NONE)
         }
     }

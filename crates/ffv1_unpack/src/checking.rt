@@ -12,7 +12,7 @@ ghost use Rattle.ffv1_unpack.specs.Internal.Opens.{OpensRange};
 ghost use Rattle.ffv1_unpack.specs.Located.{Stands};
 ghost use Rattle.ffv1_unpack.specs.Opens.{IsReadAgain};
 ghost use Rattle.ffv1_unpack.specs.Judged.{counts_line};
-ghost use Rattle.ffv1_unpack.specs.ToldItems.{IsReadAgainOrTold, IsTried};
+ghost use Rattle.ffv1_unpack.specs.ToldItems.{IsReadAgainTelling, IsTried};
 ghost use Rattle.ffv1_unpack.specs.Internal.Told.{WritesFrame};
 
 use crate::frame_line::{FrameLine, put_count, put_counts};
@@ -24,7 +24,7 @@ use crate::plainly::is_plain;
 use crate::player::{Player, open_player_located};
 use crate::telling::{Places, Telling, tell_byte, tell_frames};
 use crate::told_first::{judge_told, refused_at, tell_refused};
-use ffv1_files::{Notes, laws as files_laws};
+use ffv1_files::{Notes, Way, laws as files_laws};
 use ffv1_video::{Fault, Profile};
 use ffv1_wire::{AgainIn, ByteOut, write_all};
 use ffv1_words::FrameRange;
@@ -231,9 +231,13 @@ pub(crate) fn write_counts<W: ByteOut, A: Allocator + Copy>(
 /// size that may not stand in a Segment, `BadElement`, are told first, at most sixteen, and each is
 /// one fault. If a fault ends that before the first frame, the lines of what is told are written,
 /// and it is the answer. So these two are an answer only if they can't be told: the seventeenth
-/// fault, and an element of unknown size; or if the file is read again. It is, from its beginning,
-/// as `check` does, if nothing is told, the first Cluster comes before any Tracks, and the input
-/// can begin again.
+/// fault, and an element of unknown size.
+///
+/// If the first Cluster comes before any Tracks, and the input can begin again, the file is read
+/// from its beginning again, as `check` does. If Tracks stand behind the first Cluster of a damaged
+/// file, it is read twice so: up to these Tracks, whatever would be told on the way, and then with
+/// their track, and only what comes before the first Cluster is told first. `NoTracks` is the
+/// answer if there are none at all, at the first Cluster.
 ///
 /// Answers the first fault of either kind, and None if there is none, and what is noted of the end,
 /// as `check` does. If another file begins after it, that is told, too: the line of a fault with
@@ -263,17 +267,18 @@ pub fn check_all<R: AgainIn, W: ByteOut, A: Allocator + Copy>(
         (passage R.remaining R.failures input.old input.new)
         (passage W.contents W.failures output.old output.new)) }
     ensures own { IfErr result (IsCheckFault profile) }
-    ensures again { IfErr result (IsReadAgainOrTold profile (R.begins input.old)
+    ensures again { IfErr result (IsReadAgainTelling profile (R.begins input.old)
         (passage R.remaining R.failures input.old input.new)) }
     ensures tried { IfErr result (IsTried (passage R.remaining R.failures input.old input.new)) }
 {
     let byte = profile.tells_byte(place);
     let mut offset = 0u64;
     let mut told = none_told(alloc);
-    match open_telling(alloc, profile, input, &mut offset, &mut told) {
+    let mut way = Way::Plainly;
+    match open_telling(alloc, profile, input, &mut offset, &mut told, &mut way) {
         Err(fault) => Err(tell_refused(alloc, output, &told, refused_at(fault, offset, byte))),
         Ok(mut player) => {
-            if !told.faults.is_empty() {
+            if way.tells() {
                 return judge_told(alloc, &mut player, &told, input, output, place);
             }
             if is_plain(player.reader.course()) {

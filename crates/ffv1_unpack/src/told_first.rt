@@ -28,6 +28,7 @@ use crate::judging_items::{judge_items, push_told};
 use crate::player::Player;
 use crate::telling::tell_byte;
 use ffv1_files::{Notes, ToldFault, ToldFaults};
+use ffv1_reads::FileFault;
 use ffv1_video::{Fault, Profile};
 use ffv1_wire::{ByteIn, ByteOut, write_all};
 use std::alloc::{AllocError, Allocator};
@@ -37,7 +38,7 @@ pub(crate) fn is_told(fault: Fault) -> bool
     ensures { result ≡ is_told fault }
 {
     match fault {
-        Fault::Checksum | Fault::BadElement => true,
+        Fault::File(FileFault::Checksum) | Fault::File(FileFault::BadElement) => true,
         _ => false,
     }
 }

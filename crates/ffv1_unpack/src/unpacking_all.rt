@@ -25,10 +25,11 @@ ghost use Rattle.ffv1_video.specs.Profiles.{scope_in};
 ghost use Rattle.ffv1_unpack.specs.JudgedItems.{ItemsFrom, JudgedItem};
 ghost use Rattle.ffv1_unpack.specs.Internal.Opens.{OpensStream, stream_of};
 ghost use Rattle.ffv1_unpack.specs.Internal.Unpack.{IsWritingFault};
-ghost use Rattle.ffv1_files.specs.Salvaged.{SomeTold};
+ghost use Rattle.ffv1_files.specs.Ways.{tells};
+ghost use Rattle.ffv1_files.specs.declared.way.Way.TheVariants as ways;
 ghost use Rattle.ffv1_video.specs.declared.profile.Profile.TheVariants.{Wide};
 ghost use Rattle.ffv1_unpack.specs.Internal.OpensTold.{OpensTold};
-ghost use Rattle.ffv1_unpack.specs.ToldItems.{HasToldFault, IsReadAgainOrTold, IsTried};
+ghost use Rattle.ffv1_unpack.specs.ToldItems.{HasToldFault, IsReadAgainTelling, IsTried};
 ghost use Rattle.ffv1_unpack.specs.ToldItems.{LacksTelling, ToldLacks, is_told};
 ghost use Rattle.ffv1_unpack.specs.Unpack.{IsUnpackFault, IsUnpackFaultIn, LacksUnpacking};
 ghost use Rattle.ffv1_unpack.specs.UnpackAll.{AreSalvageCounts, SalvageStopsBy, SalvagesAll};
@@ -47,7 +48,7 @@ use crate::told_first::{refused_at, tell_refused};
 use crate::unpacking::check_text;
 use crate::unpacking_told::salvage_told;
 use ffv1_codec::KeepLines;
-use ffv1_files::{Notes, ToldFaults};
+use ffv1_files::{Notes, ToldFaults, Way};
 use ffv1_record::{Colour, laws as record_laws};
 use ffv1_video::{Fault, Profile};
 use ffv1_wire::{AgainIn, ByteIn, ByteOut};
@@ -61,37 +62,40 @@ fn open_whole<R: AgainIn, A: Allocator + Copy>(
     profile: Profile,
     input: &mut R,
     told: &mut ToldFaults<A>,
+    way: &mut Way,
 ) -> Result<Player<A>, Fault>
     requires none { told.old.faults.items ≡ [] }
-    ensures ok { told.new.faults.items ≡ [] → IfOk result (λ p. OpensStream profile p.reader
+    ensures ok { way.new ≡ ways.Plainly → IfOk result (λ p. OpensStream profile p.reader
         p.decoder.accepted (passage R.remaining R.failures input.old input.new)) }
-    ensures stands { told.new.faults.items ≡ [] → IfOk result (λ p. Stands (scope_in profile)
+    ensures stands { way.new ≡ ways.Plainly → IfOk result (λ p. Stands (scope_in profile)
         (R.remaining input.old) (R.remaining input.new) p.reader) }
     ensures text { IfOk result (λ p. HasText (stream_of p.reader p.decoder.accepted)) }
     ensures uncued { IfOk result (λ p. p.cued ≡ false) }
-    ensures told { SomeTold told.new.faults.items → IfOk result (λ p. OpensTold profile
+    ensures told { tells way.new ≡ true → IfOk result (λ p. OpensTold profile
         (passage R.remaining R.failures input.old input.new) told.new.data told.new.faults.items
         p.reader p.decoder.accepted) }
-    ensures plainly { SomeTold told.new.faults.items → IfOk result (λ p. HasToldFault profile
-        (passage R.remaining R.failures input.old input.new)) }
-    ensures wide { SomeTold told.new.faults.items → profile ≡ Wide }
-    ensures err { told.new.faults.items ≡ [] → IfErr result (λ f.
+    ensures plainly { tells way.new ≡ true → HasToldFault profile
+        (passage R.remaining R.failures input.old input.new) }
+    ensures wide { tells way.new ≡ true → profile ≡ Wide }
+    ensures none { way.new ≡ ways.Plainly → told.new.faults.items ≡ [] }
+    ensures err { way.new ≡ ways.Plainly → IfErr result (λ f.
         LacksUnpacking profile (passage R.remaining R.failures input.old input.new) f
         ⊎ LacksTelling profile (passage R.remaining R.failures input.old input.new) f
         ⊎ (HasToldFault profile (passage R.remaining R.failures input.old input.new)
         × ToldLacksText profile (passage R.remaining R.failures input.old input.new) f)) }
-    ensures refused { SomeTold told.new.faults.items → IfErr result (λ f. (offset : ℕ)
+    ensures refused { tells way.new ≡ true → IfErr result (λ f. (offset : ℕ)
         × ToldLacks profile (passage R.remaining R.failures input.old input.new) told.new.data
         told.new.faults.items f offset) }
     ensures own { IfErr result (IsUnpackFaultIn profile) }
-    ensures again { IfErr result (IsReadAgainOrTold profile (R.begins input.old)
+    ensures again { IfErr result (IsReadAgainTelling profile (R.begins input.old)
         (passage R.remaining R.failures input.old input.new)) }
     ensures tried { IfErr result (IsTried (passage R.remaining R.failures input.old input.new)) }
 {
     let mut offset = 0u64;
-    let player = open_telling(alloc, profile, input, &mut offset, told)?;
+    let player = open_telling(alloc, profile, input, &mut offset, told, way)?;
     if let Err(fault) = check_text(player.reader.head(), player.decoder.config()) {
         told.faults.clear();
+        *way = Way::Plainly;
         return Err(fault);
     }
     Ok(player)
@@ -340,8 +344,8 @@ pub(crate) fn end_all<R: ByteIn, L: ByteOut, A: Allocator + Copy>(
 /// by row, so each payload is decoded twice, first without writing, so that nothing of a refused
 /// picture is written. Beside what `unpack` holds, one payload more is held, the last good one.
 ///
-/// A Matroska file is read once up to its first frame, as `check_all` does: the faults that are
-/// told there have their lines before all others, and each is one fault more. If a fault ends that
+/// A Matroska file is opened as `check_all` opens it: the faults that are told before its first
+/// frame have their lines before all others, and each is one fault more. If a fault ends that
 /// before the first frame, the lines of what is told are written, and it is the answer. If the
 /// pictures have no text, that is the fault, and nothing is told.
 ///
@@ -369,18 +373,19 @@ pub fn unpack_all<R: AgainIn, L: ByteOut, W: ByteOut, A: Allocator + Copy>(
         (passage L.contents L.failures lines.old lines.new)
         (passage W.contents W.failures output result.0)) }
     ensures own { IfErr result.1 (IsUnpackFaultIn profile) }
-    ensures again { IfErr result.1 (IsReadAgainOrTold profile (R.begins input.old)
+    ensures again { IfErr result.1 (IsReadAgainTelling profile (R.begins input.old)
         (passage R.remaining R.failures input.old input.new)) }
     ensures tried { IfErr result.1 (IsTried (passage R.remaining R.failures input.old input.new)) }
 {
     let mut told = none_told(alloc);
-    match open_whole(alloc, profile, input, &mut told) {
+    let mut way = Way::Plainly;
+    match open_whole(alloc, profile, input, &mut told, &mut way) {
         Err(fault) => {
             let fault = tell_refused(alloc, lines, &told, refused_at(fault, 0, false));
             (output, Err(fault))
         }
         Ok(mut player) => {
-            if !told.faults.is_empty() {
+            if way.tells() {
                 return salvage_told(alloc, &mut player, &told, input, lines, output);
             }
             let (output, answer) = salvage_file(alloc, &mut player, input, lines, output);

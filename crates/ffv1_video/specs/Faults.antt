@@ -3,11 +3,10 @@ use Rattle.std.specs.Prelude.{Bool, true, false}
 use Rattle.ffv1_video.specs.declared.fault.Fault.{Fault}
 use Rattle.ffv1_video.specs.declared.fault.Fault.TheVariants as fault
 use Rattle.ffv1_range.specs.declared.fault.Fault.{Fault as RangeFault}
-use Rattle.ffv1_range.specs.declared.fault.Fault.TheVariants as range_fault
 use Rattle.ffv1_plane.specs.declared.fault.Fault.{Fault as PlaneFault}
-use Rattle.ffv1_plane.specs.declared.fault.Fault.TheVariants as plane_fault
 use Rattle.ffv1_record.specs.declared.fault.RecordFault.{RecordFault}
 use Rattle.ffv1_record.specs.declared.fault.RecordFault.TheVariants as record_fault
+use Rattle.ffv1_record.specs.Faults.{of_range as record_of_range, of_plane as record_of_plane}
 use Rattle.ffv1_frame.specs.declared.fault.CodecFault.{CodecFault}
 use Rattle.ffv1_frame.specs.declared.fault.CodecFault.TheVariants as codec_fault
 use Rattle.ffv1_reads.specs.declared.fault.FileFault.{FileFault}
@@ -15,95 +14,32 @@ use Rattle.ffv1_reads.specs.declared.fault.FileFault.TheVariants as avi_fault
 use Rattle.ffv1_y4m.specs.declared.fault.Fault.{Fault as Y4mFault}
 use Rattle.ffv1_y4m.specs.declared.fault.Fault.TheVariants as y4m_fault
 
+abbrev pub of_record : RecordFault → Fault
+of_record record_fault.OutOfMemory = fault.OutOfMemory
+of_record f = fault.Record f
+
 abbrev pub of_range : RangeFault → Fault
-of_range range_fault.StateTable = fault.StateTable
-of_range range_fault.OutOfMemory = fault.OutOfMemory
-of_range range_fault.BadStart = fault.BadStart
-of_range range_fault.SymbolTooLong = fault.SymbolTooLong
+of_range f = of_record (record_of_range f)
 
 abbrev pub of_plane : PlaneFault → Fault
-of_plane plane_fault.OutOfMemory = fault.OutOfMemory
-of_plane plane_fault.Runs = fault.Runs
-of_plane plane_fault.Contexts = fault.Contexts
-
-abbrev pub of_record : RecordFault → Fault
-of_record record_fault.StateTable = fault.StateTable
-of_record record_fault.OutOfMemory = fault.OutOfMemory
-of_record record_fault.BadStart = fault.BadStart
-of_record record_fault.SymbolTooLong = fault.SymbolTooLong
-of_record record_fault.Runs = fault.Runs
-of_record record_fault.Contexts = fault.Contexts
-of_record record_fault.Size = fault.Size
-of_record record_fault.Grid = fault.Grid
-of_record record_fault.ChromaEdge = fault.ChromaEdge
-of_record record_fault.Subsampling = fault.Subsampling
-of_record record_fault.Sets = fault.Sets
-of_record record_fault.Short = fault.Short
-of_record record_fault.Parity = fault.Parity
-of_record record_fault.Version = fault.Version
-of_record record_fault.MicroVersion = fault.MicroVersion
-of_record record_fault.Coder = fault.Coder
-of_record record_fault.ColourSpace = fault.ColourSpace
-of_record record_fault.Depth = fault.Depth
-of_record record_fault.CodedStates = fault.CodedStates
-of_record record_fault.Ec = fault.Ec
-of_record record_fault.Intra = fault.Intra
-of_record record_fault.ExtraPlane = fault.ExtraPlane
+of_plane f = of_record (record_of_plane f)
 
 abbrev pub of_codec : CodecFault → Fault
 of_codec codec_fault.OutOfMemory = fault.OutOfMemory
-of_codec codec_fault.BadStart = fault.BadStart
-of_codec codec_fault.SymbolTooLong = fault.SymbolTooLong
-of_codec codec_fault.Colour = fault.Colour
-of_codec codec_fault.Overread = fault.Overread
-of_codec codec_fault.Ending = fault.Ending
-of_codec codec_fault.BitsEnd = fault.BitsEnd
-of_codec codec_fault.BadCode = fault.BadCode
-of_codec codec_fault.Padding = fault.Padding
-of_codec codec_fault.NotKey = fault.NotKey
-of_codec codec_fault.Place = fault.Place
-of_codec codec_fault.SetIndex = fault.SetIndex
-of_codec codec_fault.Structure = fault.Structure
-of_codec codec_fault.Aspect = fault.Aspect
-of_codec codec_fault.Footer = fault.Footer
-of_codec codec_fault.Leftover = fault.Leftover
-of_codec codec_fault.SliceParity = fault.SliceParity
-of_codec codec_fault.SliceStatus = fault.SliceStatus
-of_codec codec_fault.Overlap = fault.Overlap
-of_codec codec_fault.SliceTooLong = fault.SliceTooLong
-of_codec codec_fault.InfoDiffers = fault.InfoDiffers
-of_codec codec_fault.Sink = fault.Sink
+of_codec f = fault.Codec f
 
 abbrev pub of_avi : FileFault → Fault
 of_avi avi_fault.OutOfMemory = fault.OutOfMemory
-of_avi avi_fault.NotAvi = fault.NotAvi
-of_avi avi_fault.NoFfv1 = fault.NoFfv1
-of_avi avi_fault.Truncated = fault.Truncated
-of_avi avi_fault.ChunkTooLong = fault.ChunkTooLong
-of_avi avi_fault.EmptyFrame = fault.EmptyFrame
-of_avi avi_fault.TooLarge = fault.TooLarge
 of_avi avi_fault.Read = fault.Read
 of_avi avi_fault.Write = fault.Write
-of_avi avi_fault.NotMatroska = fault.NotMatroska
-of_avi avi_fault.BadElement = fault.BadElement
-of_avi avi_fault.NoTracks = fault.NoTracks
-of_avi avi_fault.Encoded = fault.Encoded
-of_avi avi_fault.Laced = fault.Laced
-of_avi avi_fault.Checksum = fault.Checksum
-of_avi avi_fault.Rate = fault.Rate
-of_avi avi_fault.Another = fault.Another
+of_avi f = fault.File f
 
 abbrev pub of_y4m : Y4mFault → Fault
 of_y4m y4m_fault.OutOfMemory = fault.OutOfMemory
 of_y4m y4m_fault.Read = fault.Read
 of_y4m y4m_fault.Write = fault.Write
-of_y4m y4m_fault.Header = fault.Header
-of_y4m y4m_fault.Tag = fault.Tag
-of_y4m y4m_fault.Unsupported = fault.Unsupported
-of_y4m y4m_fault.FrameLine = fault.FrameLine
-of_y4m y4m_fault.FrameTruncated = fault.FrameTruncated
-of_y4m y4m_fault.SampleTooLarge = fault.SampleTooLarge
 of_y4m y4m_fault.FormatChanged = fault.FormatChanged
+of_y4m f = fault.Text f
 
 -- what a fault comes from: a read that failed, a write that failed, memory that was refused, or
 -- what was read
@@ -119,30 +55,52 @@ cause_of fault.Write = Writing
 cause_of fault.OutOfMemory = Memory
 cause_of f = Content
 
+-- ---- the faults of the crates below that have no variant of their own here
+
+abbrev pub is_record_fault : RecordFault → Bool
+is_record_fault record_fault.OutOfMemory = false
+is_record_fault f = true
+
+abbrev pub is_codec_fault : CodecFault → Bool
+is_codec_fault codec_fault.OutOfMemory = false
+is_codec_fault f = true
+
+abbrev pub is_text_fault : Y4mFault → Bool
+is_text_fault y4m_fault.OutOfMemory = false
+is_text_fault y4m_fault.Read = false
+is_text_fault y4m_fault.Write = false
+is_text_fault y4m_fault.FormatChanged = false
+is_text_fault f = true
+
+-- those that are of what a file's chunks or elements say
+abbrev pub is_own_fault : FileFault → Bool
+is_own_fault avi_fault.NotAvi = true
+is_own_fault avi_fault.NoFfv1 = true
+is_own_fault avi_fault.Truncated = true
+is_own_fault avi_fault.ChunkTooLong = true
+is_own_fault avi_fault.EmptyFrame = true
+is_own_fault avi_fault.NotMatroska = true
+is_own_fault avi_fault.BadElement = true
+is_own_fault avi_fault.NoTracks = true
+is_own_fault avi_fault.Encoded = true
+is_own_fault avi_fault.Laced = true
+is_own_fault avi_fault.Checksum = true
+is_own_fault avi_fault.Another = true
+is_own_fault f = false
+
 -- the faults of a file itself: of its chunks or elements, and of a read of them
 abbrev pub is_file_fault : Fault → Bool
-is_file_fault fault.NotAvi = true
-is_file_fault fault.NoFfv1 = true
-is_file_fault fault.Truncated = true
-is_file_fault fault.ChunkTooLong = true
-is_file_fault fault.EmptyFrame = true
 is_file_fault fault.Read = true
-is_file_fault fault.NotMatroska = true
-is_file_fault fault.BadElement = true
-is_file_fault fault.NoTracks = true
-is_file_fault fault.Encoded = true
-is_file_fault fault.Laced = true
-is_file_fault fault.Checksum = true
-is_file_fault fault.Another = true
+is_file_fault (fault.File f) = is_own_fault f
 is_file_fault f = false
 
 -- the faults that a file of Matroska has beside those of AVI
 abbrev pub is_matroska_fault : Fault → Bool
-is_matroska_fault fault.NotMatroska = true
-is_matroska_fault fault.BadElement = true
-is_matroska_fault fault.NoTracks = true
-is_matroska_fault fault.Encoded = true
-is_matroska_fault fault.Laced = true
-is_matroska_fault fault.Checksum = true
-is_matroska_fault fault.Another = true
+is_matroska_fault (fault.File avi_fault.NotMatroska) = true
+is_matroska_fault (fault.File avi_fault.BadElement) = true
+is_matroska_fault (fault.File avi_fault.NoTracks) = true
+is_matroska_fault (fault.File avi_fault.Encoded) = true
+is_matroska_fault (fault.File avi_fault.Laced) = true
+is_matroska_fault (fault.File avi_fault.Checksum) = true
+is_matroska_fault (fault.File avi_fault.Another) = true
 is_matroska_fault f = false

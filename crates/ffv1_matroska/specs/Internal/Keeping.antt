@@ -8,7 +8,7 @@ use Rattle.ffv1_matroska.specs.Writers.{Writing}
 -- of so many Clusters the places of every stride-th are kept
 pub record Kept (count stride : ℕ) (places : List ℕ) : Type 0 where
   pub some : 0 < stride
-  pub few : length places ≤ 8192
+  pub few : length places ≤ most_cues
   pub reach : count ≤ stride * length places
   pub near : stride * length places < count + stride
   pub low : stride ≤ count + 1
@@ -30,7 +30,7 @@ with_place count stride place places =
 -- what holds of a writer whose places have so much room, and its copy of the record so much
 pub record Keeping (w : Writing) (room copy : ℕ) : Type 0 where
   pub kept : Kept w.count w.stride w.places
-  pub room_is : room ≡ 8192
+  pub room_is : room ≡ most_cues
   pub copy_is : copy ≡ length w.head.config_record
   pub counted : 41 * w.count ≤ w.at
   pub begins : 148 ≤ w.at

@@ -6,6 +6,7 @@ ghost use Rattle.ffv1_ebml.specs.Spelled.{ident_bytes, long, number_element};
 ghost use Rattle.ffv1_sum.specs.Sum.{crc_of};
 ghost use Rattle.ffv1_matroska.specs.Written.{checked, crc_element, short_element};
 
+use crate::idents::CRC_32;
 use ffv1_ebml::{long_header, short_header, spelled_number};
 use ffv1_sum::crc32;
 use std::marker::Model;
@@ -14,8 +15,6 @@ use std::marker::Model;
 const ROOM: usize = 512;
 
 /// The ID of CRC-32.
-const CRC_32: u32 = 0xBF;
-
 /// Some bytes, which are seen as a list.
 #[derive(Drop, Debug)]
 pub(crate) struct Bytes {

@@ -4,25 +4,21 @@ ghost use Rattle.std.specs.Prelude.{◌≡◌, ◌<◌, ◌-◌, ◌^◌, ◌++�
 ghost use Rattle.ffv1_wire.specs.Passage.{passage};
 ghost use Rattle.ffv1_reads.specs.Writes.{Writes};
 ghost use Rattle.ffv1_matroska.specs.Written.{cluster_element};
+ghost use Rattle.ffv1_matroska.specs.WrittenPlaces.{content_limit};
 
+use crate::idents::{CLUSTER, SIMPLE_BLOCK, TIMESTAMP};
 use crate::write::bytes::Bytes;
 use crate::write::send::send;
 use ffv1_reads::FileFault;
 use ffv1_sum::more;
 use ffv1_wire::ByteOut;
 
-const CLUSTER: u32 = 0x1F43_B675;
-
-const TIMESTAMP: u32 = 0xE7;
-
-const SIMPLE_BLOCK: u32 = 0xA3;
-
 /// The header of a block: of the track 1, at the Cluster's own time, a key frame.
 const BLOCK: &[u8] = &[0x81, 0, 0, 0x80];
 
 /// A Cluster up to its frame, which ends it.
 fn cluster_front(number: u64, frame: &[u8]) -> Bytes
-    requires { length frame.now < 2 ^ 56 - 512 }
+    requires { length frame.now < content_limit }
     ensures { result ++ frame.now ≡ cluster_element number frame.now }
 {
     let mut content = Bytes::new();
@@ -43,7 +39,7 @@ pub(crate) fn put_cluster<W: ByteOut>(
     number: u64,
     frame: &[u8],
 ) -> Result<(), FileFault>
-    requires { length frame.now < 2 ^ 56 - 512 }
+    requires { length frame.now < content_limit }
     ensures { Writes (passage W.contents W.failures out.old out.new)
         (cluster_element number frame.now) result }
 {

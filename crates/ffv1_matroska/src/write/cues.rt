@@ -5,14 +5,14 @@ ghost use Rattle.ffv1_wire.specs.Passage.{passage};
 ghost use Rattle.ffv1_sum.specs.Sum.{crc_of};
 ghost use Rattle.ffv1_reads.specs.Writes.{Writes};
 ghost use Rattle.ffv1_matroska.specs.Written.{cue_element, cues_element, cues_from};
+ghost use Rattle.ffv1_matroska.specs.WrittenPlaces.{most_cues};
 
+use crate::idents::CUES;
 use crate::write::bytes::Bytes;
 use crate::write::send::send;
 use ffv1_reads::FileFault;
 use ffv1_sum::more;
 use ffv1_wire::ByteOut;
-
-const CUES: u32 = 0x1C53_BB6B;
 
 /// Where the Cluster of a frame begins.
 #[tactic(auto, unfolding(crate::specs::Written::cue_element))]
@@ -46,7 +46,7 @@ fn sum_of_cues(stride: u64, places: &[u64]) -> u32
 
 /// The bytes of Cues.
 pub(crate) fn cues_size(count: usize) -> u64
-    requires { count ≤ 8192 }
+    requires { count ≤ most_cues }
     ensures value { result ≡ 18 + 27 * count }
 {
     18 + 27 * count as u64
@@ -54,7 +54,7 @@ pub(crate) fn cues_size(count: usize) -> u64
 
 /// Cues up to the first of them.
 fn cues_front(stride: u64, places: &[u64]) -> Bytes
-    requires few { length places.now ≤ 8192 }
+    requires few { length places.now ≤ most_cues }
     requires most { stride * length places.now < 2 ^ 63 }
     ensures { result ++ cues_from 0 stride places.now ≡ cues_element stride places.now }
 {
@@ -70,7 +70,7 @@ pub(crate) fn put_cues<W: ByteOut>(
     stride: u64,
     places: &[u64],
 ) -> Result<(), FileFault>
-    requires few { length places.now ≤ 8192 }
+    requires few { length places.now ≤ most_cues }
     requires most { stride * length places.now < 2 ^ 63 }
     ensures { Writes (passage W.contents W.failures out.old out.new)
         (cues_element stride places.now) result }

@@ -8,25 +8,15 @@ ghost use Rattle.ffv1_matroska.specs.Written.{cues_seek, double, duration_elemen
 ghost use Rattle.ffv1_matroska.specs.Written.{exponent_of, info_content, opening, seek_element};
 ghost use Rattle.ffv1_matroska.specs.Written.{seeks, segment_size, tick_of, void_element};
 
+use crate::idents::{
+    CUES, DOC_TYPE, EBML, INFO, READ_VERSION, SEEK_HEAD, SEGMENT, TIMESTAMP_SCALE, TRACKS,
+    TYPE_READ_VERSION, VOID,
+};
 use crate::rate::duration_of;
 use crate::write::bytes::Bytes;
 use ffv1_ebml::unknown_header;
 use ffv1_reads::FileHead;
 use std::alloc::Allocator;
-
-const EBML: u32 = 0x1A45_DFA3;
-
-const SEGMENT: u32 = 0x1853_8067;
-
-const SEEK_HEAD: u32 = 0x114D_9B74;
-
-const INFO: u32 = 0x1549_A966;
-
-const TRACKS: u32 = 0x1654_AE6B;
-
-const CUES: u32 = 0x1C53_BB6B;
-
-const VOID: u32 = 0xEC;
 
 /// The name of the writer.
 const NAME: &[u8] = b"Ravenbillon mkv 1";
@@ -50,12 +40,12 @@ fn ebml_header() -> Bytes
 {
     let mut content = Bytes::new();
     content.number(0x4286, 1, 1); // EBMLVersion
-    content.number(0x42F7, 1, 1); // EBMLReadVersion
+    content.number(READ_VERSION, 1, 1);
     content.number(0x42F2, 1, 4); // EBMLMaxIDLength
     content.number(0x42F3, 1, 8); // EBMLMaxSizeLength
-    content.short(0x4282, b"matroska"); // DocType
+    content.short(DOC_TYPE, b"matroska");
     content.number(0x4287, 1, 4); // DocTypeVersion
-    content.number(0x4285, 1, 2); // DocTypeReadVersion
+    content.number(TYPE_READ_VERSION, 1, 2);
     let mut header = Bytes::new();
     header.short(EBML, content.as_slice());
     header
@@ -159,7 +149,7 @@ fn info_content<A: Allocator>(head: &FileHead<A>, finish: Option<Finish>) -> Byt
     ensures len { length result ≤ 92 }
 {
     let mut all = Bytes::new();
-    all.number(0x2A_D7B1, 8, tick_of(head)); // TimestampScale
+    all.number(TIMESTAMP_SCALE, 8, tick_of(head));
     all.put(duration_element(finish).as_slice());
     all.short(0x4D80, NAME); // MuxingApp
     all.short(0x5741, NAME); // WritingApp

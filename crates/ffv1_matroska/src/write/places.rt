@@ -3,7 +3,7 @@
 ghost use Rattle.std.specs.Prelude.{◌≡◌, ◌≤◌, ◌<◌, ◌+◌, ◌*◌, ◌^◌};
 ghost use Rattle.std.specs.Vec.{vec_capacity};
 ghost use Rattle.ffv1_matroska.specs.Internal.Keeping.{Kept, stride_after, with_place};
-ghost use Rattle.ffv1_matroska.specs.WrittenPlaces.{every};
+ghost use Rattle.ffv1_matroska.specs.WrittenPlaces.{every, most_cues};
 
 use std::alloc::Allocator;
 
@@ -33,11 +33,11 @@ pub(crate) fn keep_place<A: Allocator>(
 ) -> u64
     requires kept { Kept count stride places.old.items }
     requires few { count < 2 ^ 56 }
-    requires room { vec_capacity places.old ≡ 8192 }
+    requires room { vec_capacity places.old ≡ most_cues }
     ensures kept { Kept (count + 1) result places.new.items }
     ensures stride { result ≡ stride_after count stride places.old.items }
     ensures items { places.new.items ≡ with_place count stride at places.old.items }
-    ensures room { vec_capacity places.new ≡ 8192 }
+    ensures room { vec_capacity places.new ≡ most_cues }
 {
     if count != stride * places.len() as u64 {
         return stride;

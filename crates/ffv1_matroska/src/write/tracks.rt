@@ -13,7 +13,13 @@ ghost use Rattle.ffv1_matroska.specs.Written.{colour_content, colour_element, di
 ghost use Rattle.ffv1_matroska.specs.Written.{duration_field, entry_fields, interlaced_of};
 ghost use Rattle.ffv1_matroska.specs.Written.{said_field};
 ghost use Rattle.ffv1_matroska.specs.Written.{order_element, tracks_element, video_content};
+ghost use Rattle.ffv1_matroska.specs.WrittenPlaces.{content_limit};
 
+use crate::idents::{
+    CHROMA_SITING_HORZ, CHROMA_SITING_VERT, CODEC_ID, CODEC_PRIVATE, COLOUR, DEFAULT_DURATION,
+    MATRIX_COEFFICIENTS, PIXEL_HEIGHT, PIXEL_WIDTH, PRIMARIES, RANGE, TRACK_ENTRY, TRACK_NUMBER,
+    TRACK_TYPE, TRACKS, TRANSFER_CHARACTERISTICS, VIDEO,
+};
 use crate::rate::duration_of;
 use crate::track_entry::{CodecId, TrackEntry};
 use crate::write::bytes::Bytes;
@@ -22,14 +28,6 @@ use ffv1_reads::{Colour, FileFault, FileHead};
 use ffv1_sum::more;
 use ffv1_wire::ByteOut;
 use std::alloc::Allocator;
-
-const TRACKS: u32 = 0x1654_AE6B;
-
-const TRACK_ENTRY: u32 = 0xAE;
-
-const CODEC_ID: u32 = 0x86;
-
-const CODEC_PRIVATE: u32 = 0x63A2;
 
 /// Whether pictures are interlaced.
 fn interlaced_of(structure: u8) -> u64
@@ -98,12 +96,12 @@ fn colour_content(colour: Colour) -> Bytes
     ensures len { length result ≤ 36 }
 {
     let mut content = Bytes::new();
-    put_said(&mut content, 0x55B1, 2, colour.matrix); // MatrixCoefficients
-    put_said(&mut content, 0x55B7, 0, colour.siting_across); // ChromaSitingHorz
-    put_said(&mut content, 0x55B8, 0, colour.siting_down); // ChromaSitingVert
-    put_said(&mut content, 0x55B9, 0, colour.range); // Range
-    put_said(&mut content, 0x55BA, 2, colour.transfer); // TransferCharacteristics
-    put_said(&mut content, 0x55BB, 2, colour.primaries); // Primaries
+    put_said(&mut content, MATRIX_COEFFICIENTS, 2, colour.matrix);
+    put_said(&mut content, CHROMA_SITING_HORZ, 0, colour.siting_across);
+    put_said(&mut content, CHROMA_SITING_VERT, 0, colour.siting_down);
+    put_said(&mut content, RANGE, 0, colour.range);
+    put_said(&mut content, TRANSFER_CHARACTERISTICS, 2, colour.transfer);
+    put_said(&mut content, PRIMARIES, 2, colour.primaries);
     content
 }
 
@@ -118,7 +116,7 @@ fn colour_element(colour: Colour) -> Bytes
     if content.len() == 0 {
         return element;
     }
-    element.short(0x55B0, content.as_slice());
+    element.short(COLOUR, content.as_slice());
     element
 }
 
@@ -129,8 +127,8 @@ fn video_content<A: Allocator>(head: &FileHead<A>, details: TrackEntry) -> Bytes
     ensures len { length result ≤ 117 }
 {
     let mut content = Bytes::new();
-    content.number(0xB0, 4, u64::from(head.width)); // PixelWidth
-    content.number(0xBA, 4, u64::from(head.height)); // PixelHeight
+    content.number(PIXEL_WIDTH, 4, u64::from(head.width));
+    content.number(PIXEL_HEIGHT, 4, u64::from(head.height));
     content.number(0x9A, 1, interlaced_of(details.structure)); // FlagInterlaced
     content.put(order_element(details.structure).as_slice());
     content.put(display(head, details).as_slice());
@@ -149,7 +147,7 @@ fn duration_field<A: Allocator>(head: &FileHead<A>) -> Bytes
     if duration == 0 {
         return field;
     }
-    field.number(0x23_E383, 8, duration); // DefaultDuration
+    field.number(DEFAULT_DURATION, 8, duration);
     field
 }
 
@@ -172,14 +170,14 @@ fn entry_fields<A: Allocator>(head: &FileHead<A>, details: TrackEntry) -> Bytes
     ensures len { length result ≤ 200 }
 {
     let mut fields = Bytes::new();
-    fields.number(0xD7, 1, 1); // TrackNumber
+    fields.number(TRACK_NUMBER, 1, 1);
     fields.number(0x73C5, 1, 1); // TrackUID
-    fields.number(0x83, 1, 1); // TrackType: video
+    fields.number(TRACK_TYPE, 1, 1); // video
     fields.number(0x9C, 1, 0); // FlagLacing
     fields.short(0x22_B59C, b"und"); // Language
     put_codec(&mut fields, details.codec_id);
     fields.put(duration_field(head).as_slice());
-    fields.short(0xE0, video_content(head, details).as_slice()); // Video
+    fields.short(VIDEO, video_content(head, details).as_slice());
     fields
 }
 
@@ -264,7 +262,7 @@ pub(crate) fn tracks_front<A: Allocator>(
     details: TrackEntry,
     zeros: &[u8],
 ) -> Bytes
-    requires short { length head.now.config_record.items < 2 ^ 56 - 512 }
+    requires short { length head.now.config_record.items < content_limit }
     requires zeros { zeros.now ≡ private_end details.codec_id (head_of head.now) }
     ensures { result ++ (head.now.config_record.items ++ zeros.now)
         ≡ tracks_element (head_of head.now) details }
@@ -292,7 +290,7 @@ pub(crate) fn put_tracks<W: ByteOut, A: Allocator>(
     head: &FileHead<A>,
     details: TrackEntry,
 ) -> Result<(), FileFault>
-    requires { length head.now.config_record.items < 2 ^ 56 - 512 }
+    requires { length head.now.config_record.items < content_limit }
     ensures { Writes (passage W.contents W.failures out.old out.new)
         (tracks_element (head_of head.now) details) result }
 {

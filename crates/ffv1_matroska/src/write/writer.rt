@@ -6,7 +6,7 @@ ghost use Rattle.ffv1_wire.specs.Passage.{passage};
 ghost use Rattle.ffv1_reads.specs.Head.{head_of};
 ghost use Rattle.ffv1_reads.specs.Writes.{Writes};
 ghost use Rattle.ffv1_reads.specs.declared.fault.FileFault.TheVariants as fault;
-ghost use Rattle.ffv1_matroska.specs.WrittenPlaces.{cluster_bytes, last_place};
+ghost use Rattle.ffv1_matroska.specs.WrittenPlaces.{cluster_bytes, content_limit, last_place};
 ghost use Rattle.ffv1_matroska.specs.Writers.{Asks, Finishes, Makes, Puts, piece};
 
 use crate::beginning::push_bytes;
@@ -97,8 +97,8 @@ fn put_piece<W: ByteOut, A: Allocator>(
     count: u64,
     frame: &[u8],
 ) -> Result<(), FileFault>
-    requires record { count ≡ 0 → length head.now.config_record.items < 2 ^ 56 - 512 }
-    requires frame { length frame.now < 2 ^ 56 - 512 }
+    requires record { count ≡ 0 → length head.now.config_record.items < content_limit }
+    requires frame { length frame.now < content_limit }
     ensures { Writes (passage W.contents W.failures out.old out.new)
         (piece (head_of head.now) details count frame.now) result }
 {

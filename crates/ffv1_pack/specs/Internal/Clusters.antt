@@ -12,6 +12,7 @@ use Rattle.ffv1_matroska.specs.Writers.{Writing as Writer, writing_of}
 use Rattle.ffv1_matroska.specs.Written.{begun_of, end_place}
 use Rattle.ffv1_matroska.specs.WrittenPlaces.{cluster_bytes, last_place}
 use Rattle.ffv1_video.specs.declared.fault.Fault.{Fault}
+use Rattle.ffv1_reads.specs.declared.fault.FileFault.TheVariants as file_fault
 use Rattle.ffv1_video.specs.declared.fault.Fault.TheVariants as fault
 use Rattle.ffv1_pack.specs.declared.matroska_packing.Put.{Put}
 use Rattle.ffv1_pack.specs.Internal.Encoding.{EncodesAll, EndsAt, EndsLong, PicturesKnown}
@@ -76,7 +77,7 @@ EndsFar a r w pictures left rest f =
     × (length (frame_of a p (said_for r.head)) ≤ most_frame a.profile)
     × (last_place < end_place w.head w.details (frames_for a r.head pictures)
     + cluster_bytes + length (frame_of a p (said_for r.head)))
-    × (f ≡ fault.TooLarge)
+    × (f ≡ fault.File file_fault.TooLarge)
 
 -- the next picture has a fault, or no Cluster
 abbrev pub EndsPutting : Accepted → VideoReading → Writer → Fault → List Planes → List ℕ →

@@ -8,6 +8,8 @@ use Rattle.ffv1_codec.specs.Frame.{frame_of, HasLongSlice}
 use Rattle.ffv1_codec.specs.Picture.{Planes}
 use Rattle.ffv1_reads.specs.Known.{Known}
 use Rattle.ffv1_video.specs.declared.fault.Fault.{Fault}
+use Rattle.ffv1_frame.specs.declared.fault.CodecFault.TheVariants as codec_fault
+use Rattle.ffv1_reads.specs.declared.fault.FileFault.TheVariants as file_fault
 use Rattle.ffv1_video.specs.declared.fault.Fault.TheVariants as fault
 use Rattle.ffv1_y4m.specs.declared.fault.Fault.{Fault as Y4mFault}
 use Rattle.ffv1_video.specs.Faults.{Cause, cause_of, of_y4m}
@@ -36,7 +38,7 @@ pub record IsTooLong (p : Passage) (a : Accepted) (r : VideoReading) (f : Fault)
   pub after : VideoReading
   pub read : NextRead p r (Some planes) after
   pub long : HasLongSlice a planes (said_for r.head)
-  pub is : f ≡ fault.SliceTooLong
+  pub is : f ≡ fault.Codec codec_fault.SliceTooLong
 
 -- a picture was read
 abbrev pub ReadsOne : Passage → VideoReading → Type 0
@@ -94,7 +96,7 @@ EndsAt a r pictures left rest f =
     × (f ≡ of_y4m g))
     ⊎ ((q : Planes)
     × (picture_next r.ppm r.most r.head (at_first pictures) left ≡ Ok (Some q, rest))
-    × HasLongSlice a q (said_for r.head) × (f ≡ fault.SliceTooLong))
+    × HasLongSlice a q (said_for r.head) × (f ≡ fault.Codec codec_fault.SliceTooLong))
 
 -- the frame of the picture after some is so long
 abbrev pub EndsLong : (List ℕ → Type 0) → Accepted → VideoReading → List Planes → List ℕ → List ℕ →
@@ -103,7 +105,7 @@ EndsLong IsLong a r pictures left rest f =
     (p : Planes) × (picture_next r.ppm r.most r.head (at_first pictures) left ≡ Ok (Some p, rest))
     × (HasLongSlice a p (said_for r.head) → ⊥)
     × IsLong (frame_of a p (said_for r.head))
-    × (f ≡ fault.ChunkTooLong)
+    × (f ≡ fault.File file_fault.ChunkTooLong)
 
 -- if the text is known, so it ends
 abbrev pub EndsKnown : Option (List ℕ) → Option (List ℕ) → Accepted → VideoReading → List Planes →

@@ -9,6 +9,7 @@ use Rattle.ffv1_codec.specs.Picture.{Planes}
 use Rattle.ffv1_reads.specs.Known.{Known}
 use Rattle.ffv1_y4m.specs.declared.fault.Fault.{Fault as Y4mFault}
 use Rattle.ffv1_video.specs.declared.fault.Fault.{Fault}
+use Rattle.ffv1_reads.specs.declared.fault.FileFault.TheVariants as file_fault
 use Rattle.ffv1_video.specs.declared.fault.Fault.TheVariants as fault
 use Rattle.ffv1_pack.specs.Internal.Encoding.{AllKnown, PicturesKnown, ReadsOne}
 use Rattle.ffv1_video.specs.Faults.{Cause, cause_of, of_y4m}
@@ -57,7 +58,7 @@ abbrev pub EndsLines : ℕ → VideoReading → Fault → List Planes → List �
 EndsLines most r f pictures left rest =
     ((g : Y4mFault) × (picture_next r.ppm r.most r.head (at_first pictures) left ≡ Err (g, rest))
     × (f ≡ of_y4m g))
-    ⊎ ((length pictures ≡ most) × (left ≡ rest) × (f ≡ fault.TooLarge))
+    ⊎ ((length pictures ≡ most) × (left ≡ rest) × (f ≡ fault.File file_fault.TooLarge))
 
 -- the text of pictures with this head
 abbrev pub lines_of : VideoReading → List Planes → List ℕ

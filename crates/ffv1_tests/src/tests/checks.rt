@@ -1,8 +1,10 @@
 //! What `check` writes of files over memory, and its faults.
 
 use super::shows;
+use ffv1_codec::CodecFault;
 use ffv1_doubles::{Scarce, made};
 use ffv1_engine::{Fault, Profile, check};
+use ffv1_reads::FileFault;
 use ffv1_wire::{FromRead, ToWrite};
 use std::alloc::Global;
 use std::process::Abort;
@@ -77,7 +79,14 @@ static PLACE: &[u8] = b"fault frame 0 slice 1 plane 0 line 0 x 0 decisions 11\n"
 #[test]
 fn the_place_of_a_fault(rt: HostRuntime) -> Result<(), Fail> {
     let frames = (2, MISPLACED, 1);
-    comes_to(&rt, rt.alloc(), frames, true, Err(Fault::Place), PLACE)?;
+    comes_to(
+        &rt,
+        rt.alloc(),
+        frames,
+        true,
+        Err(Fault::Codec(CodecFault::Place)),
+        PLACE,
+    )?;
     Ok(())
 }
 
@@ -94,7 +103,7 @@ fn a_place_takes_no_memory(rt: HostRuntime) -> Result<(), Fail> {
             refused = refused.saturating_add(1);
             b"".as_slice()
         } else {
-            assert!(rt; answer == Err(Fault::Place));
+            assert!(rt; answer == Err(Fault::Codec(CodecFault::Place)));
             PLACE
         };
         assert!(rt; output.into_inner().as_slice() == text);
@@ -109,7 +118,7 @@ fn of_cut_file(rt: &impl Abort, alloc: Global, profile: Profile, text: &[u8]) ->
     let mut output = ToWrite::new(Vec::new(alloc));
     let part = file.get(..270).unwrap_or(b"");
     let answer = check(alloc, profile, &mut FromRead::new(part), &mut output, true);
-    assert!(rt; answer == Err(Fault::Truncated));
+    assert!(rt; answer == Err(Fault::File(FileFault::Truncated)));
     assert!(rt; output.into_inner().as_slice() == text);
     Ok(())
 }

@@ -2,10 +2,12 @@
 //! `model/known_answers/infos.py`.
 
 use crate::tests::shows::file_of;
+use ffv1_codec::CodecFault;
 use ffv1_doubles::made;
 use ffv1_engine::{Fault, Profile};
 use ffv1_info::info;
 use ffv1_outline::Form;
+use ffv1_reads::FileFault;
 use ffv1_wire::{FromRead, ToWrite};
 use std::alloc::Global;
 use std::process::Abort;
@@ -100,11 +102,18 @@ fn facts_before_a_fault(rt: HostRuntime) -> Result<(), Fail> {
         alloc,
         &bad,
         text,
-        Err(Fault::NotKey),
+        Err(Fault::Codec(CodecFault::NotKey)),
         &[AVI, ONE, TRACK, HEAD, RECORD],
     );
     let none: &[u8] = b"container           unknown\n";
-    tells(&rt, alloc, b"RIFX", text, Err(Fault::Truncated), &[none]);
+    tells(
+        &rt,
+        alloc,
+        b"RIFX",
+        text,
+        Err(Fault::File(FileFault::Truncated)),
+        &[none],
+    );
     Ok(())
 }
 
@@ -118,9 +127,23 @@ fn facts_of_other_tracks(rt: HostRuntime) {
     let facts: &[u8] = b"container           Matroska\napplication         unknown\n\
         duration            unknown\nframes              unknown\n\
         track 1             audio, unknown, \"eng\"\n";
-    tells(&rt, alloc, sound, text, Err(Fault::NoFfv1), &[facts]);
+    tells(
+        &rt,
+        alloc,
+        sound,
+        text,
+        Err(Fault::File(FileFault::NoFfv1)),
+        &[facts],
+    );
     let webm: &[u8] = b"\x1A\x45\xDF\xA3\x87\x42\x82\x84webm\xEC\x80\x18\x53\x80\x67\x80";
     let facts: &[u8] = b"container           WebM\napplication         unknown\n\
         duration            unknown\nframes              unknown\n";
-    tells(&rt, alloc, webm, text, Err(Fault::NotMatroska), &[facts]);
+    tells(
+        &rt,
+        alloc,
+        webm,
+        text,
+        Err(Fault::File(FileFault::NotMatroska)),
+        &[facts],
+    );
 }

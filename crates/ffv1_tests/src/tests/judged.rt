@@ -1,6 +1,7 @@
 //! What `check_all` writes of files over memory, and its faults.
 
 use super::shows;
+use ffv1_codec::CodecFault;
 use ffv1_doubles::{Scarce, ShortWriter, made};
 use ffv1_engine::{Fault, Notes, Profile, check_all};
 use ffv1_wire::{FromRead, ToWrite};
@@ -45,7 +46,7 @@ frames 2 faults 2
 
 #[test]
 fn frames_after_a_refused_one(rt: HostRuntime) -> Result<(), Fail> {
-    let answer = Ok(Some(Fault::Place));
+    let answer = Ok(Some(Fault::Codec(CodecFault::Place)));
     comes_to(&rt, rt.alloc(), (MISPLACED, 2), true, answer, PLACES)?;
     Ok(())
 }
@@ -82,7 +83,7 @@ fn refused_memory_ends_it(rt: HostRuntime) -> Result<(), Fail> {
             refused = refused.saturating_add(1);
             assert!(rt; PLACES.starts_with(output.into_inner().as_slice()));
         } else {
-            assert!(rt; answer == Ok((Some(Fault::Place), Notes::NONE)));
+            assert!(rt; answer == Ok((Some(Fault::Codec(CodecFault::Place)), Notes::NONE)));
         }
     }
     assert!(rt; 10 < refused && refused < 40);
@@ -101,7 +102,7 @@ fn the_byte_where_a_file_is_cut(rt: HostRuntime) -> Result<(), Fail> {
     let mut output = ToWrite::new(Vec::new(rt.alloc()));
     let mut input = FromRead::new(file.get(..270).unwrap_or(b""));
     let answer = check_all(rt.alloc(), Profile::Wide, &mut input, &mut output, true);
-    assert!(rt; answer == Ok((Some(Fault::Place), Notes::NONE)));
+    assert!(rt; answer == Ok((Some(Fault::Codec(CodecFault::Place)), Notes::NONE)));
     assert!(rt; output.into_inner().as_slice() == CUT);
     Ok(())
 }

@@ -3,6 +3,7 @@
 use super::sums::{PAIR, file_of};
 use ffv1_doubles::{FailingReader, Scarce};
 use ffv1_engine::{Fault, ListFault, Notes, Profile, Unlike, check_against, read_list};
+use ffv1_reads::FileFault;
 use ffv1_wire::FromRead;
 use std::alloc::Global;
 use std::io::ErrorKind;
@@ -144,7 +145,7 @@ fn pictures(rt: HostRuntime) -> Result<(), Fail> {
         rt.alloc(),
         cut,
         &PAIR_MD5S,
-        Err(Unlike::Fault(Fault::Truncated)),
+        Err(Unlike::Fault(Fault::File(FileFault::Truncated))),
     );
     Ok(())
 }

@@ -2,6 +2,7 @@
 
 use super::orders::NO_COLOUR;
 use ffv1_engine::{Choice, CodecIdChoice, CoderChoice, Fault, Packed, Profile, pack};
+use ffv1_record::RecordFault;
 use ffv1_wire::{FromRead, ToWrite};
 use std::alloc::Global;
 use std::process::Abort;
@@ -117,42 +118,54 @@ fn frames(rt: HostRuntime) -> Result<(), Fail> {
 
 /// Texts that are refused, and why; choices that do not suit come last.
 static REFUSED: [(&[u8], Choice, Fault); 11] = [
-    (b"", PLAIN, Fault::Header),
+    (b"", PLAIN, Fault::Text(ffv1_y4m::Fault::Header)),
     (b"YUV4MPEG2 W2 H2\n", PLAIN, Fault::NoFrames),
-    (b"YUV4MPEG2 W2 H2 C420p10\n", PLAIN, Fault::Unsupported),
-    (b"YUV4MPEG2 W2\n", PLAIN, Fault::Tag),
+    (
+        b"YUV4MPEG2 W2 H2 C420p10\n",
+        PLAIN,
+        Fault::Text(ffv1_y4m::Fault::Unsupported),
+    ),
+    (b"YUV4MPEG2 W2\n", PLAIN, Fault::Text(ffv1_y4m::Fault::Tag)),
     (
         b"YUV4MPEG2 W1 H1 Cmono\nFRAME Ip\n\x00",
         PLAIN,
-        Fault::FrameLine,
+        Fault::Text(ffv1_y4m::Fault::FrameLine),
     ),
     (
         b"YUV4MPEG2 W1 H1 Cmono\nFRAME\n",
         PLAIN,
-        Fault::FrameTruncated,
+        Fault::Text(ffv1_y4m::Fault::FrameTruncated),
     ),
     (
         b"P6\n1 1\n255\n\xFF\x00\x00P6\n2 1\n255\n\x00\x00\x00\x00\x00\x00",
         PLAIN,
         Fault::FormatChanged,
     ),
-    (b"P5\n1 1\n255\n\xFF", PLAIN, Fault::Header),
+    (
+        b"P5\n1 1\n255\n\xFF",
+        PLAIN,
+        Fault::Text(ffv1_y4m::Fault::Header),
+    ),
     (
         TEXT,
         Choice {
             columns: 3,
             ..PLAIN
         },
-        Fault::Grid,
+        Fault::Record(RecordFault::Grid),
     ),
-    (TEXT, Choice { rows: 0, ..PLAIN }, Fault::Grid),
+    (
+        TEXT,
+        Choice { rows: 0, ..PLAIN },
+        Fault::Record(RecordFault::Grid),
+    ),
     (
         TEXT,
         Choice {
             columns: 2,
             ..PLAIN
         },
-        Fault::ChromaEdge,
+        Fault::Record(RecordFault::ChromaEdge),
     ),
 ];
 

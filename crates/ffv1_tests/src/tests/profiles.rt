@@ -2,9 +2,11 @@
 //! the first `movi`.
 
 use crate::tests::shows;
+use ffv1_codec::CodecFault;
 use ffv1_doubles::made;
 use ffv1_doubles::riffs::MORE;
 use ffv1_engine::{Fault, FrameRange, Notes, Profile, check, show, unpack, unpack_range};
+use ffv1_reads::FileFault;
 use ffv1_wire::{FromRead, ToWrite};
 use std::alloc::Global;
 use std::test::Fail;
@@ -115,7 +117,15 @@ fn what_stands_behind_is_looked_at(rt: HostRuntime) -> Result<(), Fail> {
 #[test]
 fn another_file_is_refused(rt: HostRuntime) -> Result<(), Fail> {
     let file = file_of(rt.alloc(), 2, b"RIFF\x04\0\0\0AVI ")?;
-    assert!(rt; checks(rt.alloc(), Profile::Wide, &file, Err(Fault::Another), TWO));
+    assert!(rt;
+        checks(
+            rt.alloc(),
+            Profile::Wide,
+            &file,
+            Err(Fault::File(FileFault::Another)),
+            TWO
+        )
+    );
     assert!(rt; checks(rt.alloc(), Profile::Strict, &file, Ok(Notes::NONE), ONE));
     Ok(())
 }
@@ -166,7 +176,7 @@ fn empty_chunks_are_checked(rt: HostRuntime) -> Result<(), Fail> {
             rt.alloc(),
             Profile::Strict,
             &first,
-            Err(Fault::EmptyFrame),
+            Err(Fault::File(FileFault::EmptyFrame)),
             b""
         )
     );
@@ -233,6 +243,14 @@ fn parts_begin_with_empty_chunks(rt: HostRuntime) -> Result<(), Fail> {
     let config = made::mono(rt.alloc(), 1, 1, 1, false)?;
     let mut refused = shows::file_of(rt.alloc(), config, 25, 1, b"\x00\x00\x00\x00\x02", 1)?;
     refused.extend_from_slice(AGAIN)?;
-    assert!(rt; unpacks_one(rt.alloc(), &refused, 1, Err(Fault::NotKey), b""));
+    assert!(rt;
+        unpacks_one(
+            rt.alloc(),
+            &refused,
+            1,
+            Err(Fault::Codec(CodecFault::NotKey)),
+            b""
+        )
+    );
     Ok(())
 }

@@ -2,10 +2,11 @@
 //! model.
 
 use ffv1_avi::write_avi;
+use ffv1_codec::CodecFault;
 use ffv1_doubles::{Scarce, ShortWriter, made};
 use ffv1_engine::{Fault, JudgedCounts, Notes, Profile, unpack_all};
 use ffv1_reads::FileHead;
-use ffv1_record::{Colour, Config, write_record};
+use ffv1_record::{Colour, Config, RecordFault, write_record};
 use ffv1_wire::{FromRead, ToWrite};
 use std::alloc::Global;
 use std::io::ErrorKind;
@@ -30,7 +31,7 @@ const HALF: &[u8] = b"\xFE\x78\xDF\x83\xD9\x3B\xC7\xB3\x5F\xE1\x00\x00\x0A";
 fn file_with(alloc: Global, config: Config, frames: &[&[u8]]) -> Result<Vec<u8>, Fault> {
     let (width, height) = (config.width, config.height);
     if width > 8192 || height > 8192 {
-        return Err(Fault::Size);
+        return Err(Fault::Record(RecordFault::Size));
     }
     let head = FileHead {
         width,
@@ -98,7 +99,7 @@ static SECOND: &[u8] = b"frame 1: fault 35 Footer\n";
 #[test]
 fn the_last_good_picture_again(rt: HostRuntime) -> Result<(), Fail> {
     let file = mono_file(rt.alloc(), &[SEVEN, NONE, NINE])?;
-    let answer = counts(3, 1, Some(Fault::Footer));
+    let answer = counts(3, 1, Some(Fault::Codec(CodecFault::Footer)));
     comes_to(&rt, rt.alloc(), &file, answer, SECOND, THREE);
     Ok(())
 }
@@ -106,7 +107,7 @@ fn the_last_good_picture_again(rt: HostRuntime) -> Result<(), Fail> {
 #[test]
 fn none_before_the_first_good_one(rt: HostRuntime) -> Result<(), Fail> {
     let file = mono_file(rt.alloc(), &[NONE, NINE])?;
-    let answer = counts(2, 1, Some(Fault::Footer));
+    let answer = counts(2, 1, Some(Fault::Codec(CodecFault::Footer)));
     let text = b"YUV4MPEG2 W1 H1 F25:1 I? A0:0 Cmono\nFRAME\n\x09";
     comes_to(
         &rt,
@@ -122,7 +123,7 @@ fn none_before_the_first_good_one(rt: HostRuntime) -> Result<(), Fail> {
 #[test]
 fn no_good_one(rt: HostRuntime) -> Result<(), Fail> {
     let file = mono_file(rt.alloc(), &[NONE, NONE])?;
-    let answer = counts(2, 2, Some(Fault::Footer));
+    let answer = counts(2, 2, Some(Fault::Codec(CodecFault::Footer)));
     let lines = b"frame 0: fault 35 Footer\nframe 1: fault 35 Footer\n";
     comes_to(&rt, rt.alloc(), &file, answer, lines, b"");
     let empty = mono_file(rt.alloc(), &[])?;
@@ -149,7 +150,7 @@ static IMAGES: &[u8] =
 #[test]
 fn images(rt: HostRuntime) -> Result<(), Fail> {
     let file = image_file(rt.alloc(), &[HALF, IMAGE, HALF])?;
-    let answer = counts(3, 2, Some(Fault::Colour));
+    let answer = counts(3, 2, Some(Fault::Codec(CodecFault::Colour)));
     let lines = b"frame 0: fault 7 Colour\nframe 2: fault 7 Colour\n";
     comes_to(&rt, rt.alloc(), &file, answer, lines, IMAGES);
     Ok(())
@@ -199,7 +200,10 @@ fn refused_memory_ends_it(rt: HostRuntime) -> Result<(), Fail> {
             refused = refused.saturating_add(1);
             assert!(rt; THREE.starts_with(text.into_inner().as_slice()));
         } else {
-            let sound = counts(3, 1, Some(Fault::Footer)).map(|counts| (counts, Notes::NONE));
+            let sound = counts(3, 1, Some(Fault::Codec(CodecFault::Footer))).map(|counts| (
+                counts,
+                Notes::NONE,
+            ));
             assert!(rt; answer == sound);
         }
     }

@@ -2,10 +2,11 @@
 //! `model/known_answers/shown.py`.
 
 use ffv1_avi::write_avi;
+use ffv1_codec::CodecFault;
 use ffv1_doubles::made;
 use ffv1_engine::{Fault, Profile, show};
 use ffv1_plane::QuantSet;
-use ffv1_reads::FileHead;
+use ffv1_reads::{FileFault, FileHead};
 use ffv1_record::{Coder, Colour, Config, RecordFault, Sets, write_record};
 use ffv1_wire::{FromRead, ToWrite};
 use std::alloc::Global;
@@ -68,7 +69,7 @@ pub(super) fn file_of(
     }
     let mut out = ToWrite::new(Vec::new(alloc));
     if width > 8192 || height > 8192 {
-        return Err(Fault::Size);
+        return Err(Fault::Record(RecordFault::Size));
     }
     write_avi(&mut out, &head, frames.as_slice())?;
     Ok(out.into_inner())
@@ -166,7 +167,7 @@ fn faults(rt: HostRuntime) -> Result<(), Fail> {
         rt.alloc(),
         &file,
         true,
-        Err(Fault::NotKey),
+        Err(Fault::Codec(CodecFault::NotKey)),
         (MONO, b""),
     );
     let file = file_of(rt.alloc(), mono(rt.alloc())?, 25, 1, b"", 1)?;
@@ -175,7 +176,7 @@ fn faults(rt: HostRuntime) -> Result<(), Fail> {
         rt.alloc(),
         &file,
         true,
-        Err(Fault::EmptyFrame),
+        Err(Fault::File(FileFault::EmptyFrame)),
         (MONO, b""),
     );
     shows(
@@ -183,7 +184,7 @@ fn faults(rt: HostRuntime) -> Result<(), Fail> {
         rt.alloc(),
         b"RIFX",
         false,
-        Err(Fault::Truncated),
+        Err(Fault::File(FileFault::Truncated)),
         (b"", b""),
     );
     shows(
@@ -191,7 +192,7 @@ fn faults(rt: HostRuntime) -> Result<(), Fail> {
         rt.alloc(),
         b"RIFX\x04\x00\x00\x00AVI ",
         true,
-        Err(Fault::NotAvi),
+        Err(Fault::File(FileFault::NotAvi)),
         (b"", b""),
     );
     Ok(())

@@ -2,6 +2,7 @@
 
 use super::orders::NO_COLOUR;
 use ffv1_engine::{Choice, CodecIdChoice, CoderChoice, Fault, Profile, check, pack};
+use ffv1_record::RecordFault;
 use ffv1_wire::{FromRead, ToWrite};
 use std::alloc::Global;
 use std::test::Fail;
@@ -55,12 +56,12 @@ fn each_bit_of_a_record(rt: HostRuntime) -> Result<(), Fail> {
     let mut file = file(rt.alloc())?;
     for bit in 0..208usize {
         let got = checked(rt.alloc(), &mut file, 212 + bit / 8, 128 >> (bit % 8));
-        assert!(rt; got == (Err(Fault::Parity), 0));
+        assert!(rt; got == (Err(Fault::Record(RecordFault::Parity)), 0));
     }
     assert!(rt; checked(rt.alloc(), &mut file, 0, 0) == (Ok(()), 51));
     if file.len() >= 180 {
         file[176..180].fill(255);
     }
-    assert!(rt; checked(rt.alloc(), &mut file, 0, 0) == (Err(Fault::Size), 0));
+    assert!(rt; checked(rt.alloc(), &mut file, 0, 0) == (Err(Fault::Record(RecordFault::Size)), 0));
     Ok(())
 }

@@ -3,6 +3,7 @@
 
 use super::orders::NO_COLOUR;
 use ffv1_avi::write_avi;
+use ffv1_codec::CodecFault;
 use ffv1_doubles::{FailingWriter, Scarce, made};
 use ffv1_engine::{
     Choice, CodecIdChoice, CoderChoice, Fault, Notes, Profile, framemd5, framemd5_text, pack,
@@ -194,7 +195,14 @@ fn a_fault_ends_it(rt: HostRuntime) -> Result<(), Fail> {
     frames.push(Vec::from_slice(alloc, FRAME)?)?;
     frames.push(Vec::from_slice(alloc, b"\x00\x00\x00")?)?;
     let file = file_with(alloc, &frames)?;
-    comes_to(&rt, alloc, &file, Err(Fault::NotKey), ONE.0, ONE.1)?;
+    comes_to(
+        &rt,
+        alloc,
+        &file,
+        Err(Fault::Codec(CodecFault::NotKey)),
+        ONE.0,
+        ONE.1,
+    )?;
     Ok(())
 }
 
@@ -279,23 +287,39 @@ fn texts_as_their_files(rt: HostRuntime) -> Result<(), Fail> {
 
 /// Texts, their faults, and whether the lines of `ONE` are written before.
 static TEXT_FAULTS: [(&[u8], Fault, bool); 9] = [
-    (b"", Fault::Header, false),
-    (b"P6\n1 1\n254\n", Fault::Header, false),
-    (b"YUV4MPEG2 W2\n", Fault::Tag, false),
-    (b"YUV4MPEG2 W1 H1 C420p11\n", Fault::Unsupported, false),
+    (b"", Fault::Text(ffv1_y4m::Fault::Header), false),
+    (
+        b"P6\n1 1\n254\n",
+        Fault::Text(ffv1_y4m::Fault::Header),
+        false,
+    ),
+    (b"YUV4MPEG2 W2\n", Fault::Text(ffv1_y4m::Fault::Tag), false),
+    (
+        b"YUV4MPEG2 W1 H1 C420p11\n",
+        Fault::Text(ffv1_y4m::Fault::Unsupported),
+        false,
+    ),
     (b"YUV4MPEG2 W1 H1 Cmono\n", Fault::NoFrames, false),
-    (b"YUV4MPEG2 W1 H1 Cmono\nFRAMX", Fault::FrameLine, false),
+    (
+        b"YUV4MPEG2 W1 H1 Cmono\nFRAMX",
+        Fault::Text(ffv1_y4m::Fault::FrameLine),
+        false,
+    ),
     (
         b"YUV4MPEG2 W1 H1 Cmono\nFRAME\n\0FRAME\n",
-        Fault::FrameTruncated,
+        Fault::Text(ffv1_y4m::Fault::FrameTruncated),
         true,
     ),
     (
         b"YUV4MPEG2 W1 H1 Cmono\nFRAME\n\0\0",
-        Fault::FrameLine,
+        Fault::Text(ffv1_y4m::Fault::FrameLine),
         true,
     ),
-    (b"P6\n1 1\n65535\n\0\0\0\0\0", Fault::FrameTruncated, false),
+    (
+        b"P6\n1 1\n65535\n\0\0\0\0\0",
+        Fault::Text(ffv1_y4m::Fault::FrameTruncated),
+        false,
+    ),
 ];
 
 #[test]

@@ -79,15 +79,39 @@ fn pictures(rt: HostRuntime) -> Result<(), Fail> {
 /// Texts that are refused, and why.
 static REFUSED: [(&[u8], Fault); 10] = [
     (b"YUV4MPEG2 W1 H1 Cmono\n", Fault::NoFrames),
-    (b"YUV4MPEG2 W1 H1 Cmono\nFRAME\n", Fault::FrameTruncated),
-    (b"YUV4MPEG2 W1 H1 Cmono\nFRA", Fault::FrameTruncated),
-    (b"YUV4MPEG2 W1 H1 Cmono\nFRAME X\n\x80", Fault::FrameLine),
-    (b"YUV4MPEG2 W1 H1\nFRAME\n\x80", Fault::Unsupported),
-    (b"YUV4MPEG2 W1 H1 C420\n", Fault::Unsupported),
-    (b"YUV4MPEG2 W1 C420jpeg\n", Fault::Tag),
-    (b"YUV4MPEG2 W1 H0 Cmono\n", Fault::Tag),
-    (b"P6\n1 1\n255\n\x01\x02\x03", Fault::Header),
-    (b"", Fault::Header),
+    (
+        b"YUV4MPEG2 W1 H1 Cmono\nFRAME\n",
+        Fault::Text(ffv1_y4m::Fault::FrameTruncated),
+    ),
+    (
+        b"YUV4MPEG2 W1 H1 Cmono\nFRA",
+        Fault::Text(ffv1_y4m::Fault::FrameTruncated),
+    ),
+    (
+        b"YUV4MPEG2 W1 H1 Cmono\nFRAME X\n\x80",
+        Fault::Text(ffv1_y4m::Fault::FrameLine),
+    ),
+    (
+        b"YUV4MPEG2 W1 H1\nFRAME\n\x80",
+        Fault::Text(ffv1_y4m::Fault::Unsupported),
+    ),
+    (
+        b"YUV4MPEG2 W1 H1 C420\n",
+        Fault::Text(ffv1_y4m::Fault::Unsupported),
+    ),
+    (
+        b"YUV4MPEG2 W1 C420jpeg\n",
+        Fault::Text(ffv1_y4m::Fault::Tag),
+    ),
+    (
+        b"YUV4MPEG2 W1 H0 Cmono\n",
+        Fault::Text(ffv1_y4m::Fault::Tag),
+    ),
+    (
+        b"P6\n1 1\n255\n\x01\x02\x03",
+        Fault::Text(ffv1_y4m::Fault::Header),
+    ),
+    (b"", Fault::Text(ffv1_y4m::Fault::Header)),
 ];
 
 #[test]

@@ -3,6 +3,7 @@
 //! what `model/commands.py` writes of the same input.
 
 use super::orders::NO_COLOUR;
+use ffv1_codec::CodecFault;
 use ffv1_doubles::{FailingReader, Scarce, ShortWriter};
 use ffv1_engine::{
     Choice, CodecIdChoice, CoderChoice, Fault, Profile, check, pack, pack_matroska, show, trial,
@@ -431,7 +432,7 @@ fn places(rt: HostRuntime) -> Result<(), Fail> {
         owed: b"frame 0: 5 bytes, 1 slices, 11 decisions\n\
                 fault frame 1 slice 0 plane 0 line 0 x 0 decisions 1\n",
         told: 41,
-        ends: Err(Fault::NotKey),
+        ends: Err(Fault::Codec(CodecFault::NotKey)),
     };
     assert!(rt; in_turn(&rt, rt.alloc(), &case) == (0, 0));
     let file = file_of(rt.alloc(), &MONO[..29], true)?;
@@ -441,7 +442,7 @@ fn places(rt: HostRuntime) -> Result<(), Fail> {
         steps: &[(264, 53)],
         owed: b"fault frame 0 slice 0 plane 0 line 0 x 0 decisions 1\n",
         told: 0,
-        ends: Err(Fault::NotKey),
+        ends: Err(Fault::Codec(CodecFault::NotKey)),
     };
     assert!(rt; in_turn(&rt, rt.alloc(), &case) == (0, 0));
     Ok(())

@@ -2,10 +2,11 @@
 
 use super::orders::NO_COLOUR;
 use ffv1_avi::write_avi;
+use ffv1_codec::CodecFault;
 use ffv1_doubles::made;
 use ffv1_engine::{Choice, CodecIdChoice, CoderChoice, Fault, Notes, Profile, pack, unpack};
-use ffv1_reads::FileHead;
-use ffv1_record::{Colour, Config, write_record};
+use ffv1_reads::{FileFault, FileHead};
+use ffv1_record::{Colour, Config, RecordFault, write_record};
 use ffv1_wire::{FromRead, ToWrite};
 use std::alloc::Global;
 use std::process::Abort;
@@ -116,7 +117,7 @@ fn config_of(
 fn file_with(alloc: Global, config: Config, frames: &[Vec<u8>]) -> Result<Vec<u8>, Fault> {
     let (width, height) = (config.width, config.height);
     if width > 8192 || height > 8192 {
-        return Err(Fault::Size);
+        return Err(Fault::Record(RecordFault::Size));
     }
     let head = FileHead {
         width,
@@ -167,12 +168,18 @@ fn no_text_and_no_frames(rt: HostRuntime) -> Result<(), Fail> {
 
 #[test]
 fn no_file(rt: HostRuntime) {
-    comes_to(&rt, rt.alloc(), b"RIFX", Err(Fault::Truncated), b"");
+    comes_to(
+        &rt,
+        rt.alloc(),
+        b"RIFX",
+        Err(Fault::File(FileFault::Truncated)),
+        b"",
+    );
     comes_to(
         &rt,
         rt.alloc(),
         b"RIFX\0\0\0\0AVI ",
-        Err(Fault::NotAvi),
+        Err(Fault::File(FileFault::NotAvi)),
         b"",
     );
 }
@@ -202,7 +209,13 @@ fn damaged(rt: &impl Abort, alloc: Global) -> Result<(), Fault> {
     if let Some(place) = file.len().checked_sub(3) {
         file[place] ^= 1;
     }
-    comes_to(rt, alloc, &file, Err(Fault::SliceParity), &images[..17]);
+    comes_to(
+        rt,
+        alloc,
+        &file,
+        Err(Fault::Codec(CodecFault::SliceParity)),
+        &images[..17],
+    );
     Ok(())
 }
 

@@ -9,16 +9,17 @@ use Rattle.ffv1_files.specs.Readers.{Standing}
 use Rattle.ffv1_video.specs.declared.profile.Profile.{Profile}
 use Rattle.ffv1_video.specs.declared.profile.Profile.TheVariants.{Strict, Wide}
 use Rattle.ffv1_video.specs.declared.fault.Fault.{Fault}
+use Rattle.ffv1_reads.specs.declared.fault.FileFault.TheVariants as file_fault
 use Rattle.ffv1_video.specs.declared.fault.Fault.TheVariants as fault
 use Rattle.ffv1_unpack.specs.Located.{Stands}
 
 -- the faults of the frames of a Segment, and of what comes after it, beside those that every file
 -- has: that it lacks Tracks is met before
 abbrev pub is_segment_fault : Fault → Bool
-is_segment_fault fault.BadElement = true
-is_segment_fault fault.Laced = true
-is_segment_fault fault.Checksum = true
-is_segment_fault fault.Another = true
+is_segment_fault (fault.File file_fault.BadElement) = true
+is_segment_fault (fault.File file_fault.Laced) = true
+is_segment_fault (fault.File file_fault.Checksum) = true
+is_segment_fault (fault.File file_fault.Another) = true
 is_segment_fault f = false
 
 -- the faults of a position beside those that every file has, by what is left of the file there: in
@@ -26,7 +27,7 @@ is_segment_fault f = false
 -- the file is read
 abbrev pub told_at : Standing → Option (List ℕ) → Place → Fault → Type 0
 told_at r left (InAvi place) f =
-    (f ≡ fault.Another)
+    (f ≡ fault.File file_fault.Another)
     × ((scope : Scope) (text : Option (List ℕ)) → Stands scope text left r → scope ≡ Whole)
 told_at r left (InMatroska segment track place) f = is_segment_fault f ≡ true
 

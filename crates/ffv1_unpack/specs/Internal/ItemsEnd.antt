@@ -46,5 +46,5 @@ module _ (r : Standing) (c : Course) (cued : Bool) (input output : Passage) wher
       (ReadsAs (items_noted r c cued) input notes × Silent output × (new ≡ old))
       ⊎ (AnotherBehind × (notes ≡ no_notes) × (output.after ≡ output.before)
       × Appends output.old output.new (told_line r.end file_fault.Another)
-      × (new ≡ told_counted old fault.Another))
+      × (new ≡ told_counted old (fault.File file_fault.Another)))
   BehindAnswers old new (Err f) = BehindFailsBy (cause_of f)

@@ -1,7 +1,7 @@
 -- The next item of an AVI.
 use Rattle.ffv1_wire.specs.Passage.{passage}
 use Rattle.ffv1_files.proofs.ItemNexts.{chunk_ended, chunk_items, other_chunk, other_ended}
-use Rattle.ffv1_files.proofs.ItemNexts.{plain_ended, plain_items}
+use Rattle.ffv1_files.proofs.ItemNexts.{plain_ended, plain_held, plain_items, plain_room}
 use Rattle.ffv1_files.proofs.items.read_chunk_item.Goals as goal
 
 pub returns-in-Plain-clause-answer : goal.returns-in-Plain-clause-answer
@@ -43,3 +43,10 @@ returns-in-Matroska-clause-answer g c = rw c.in-Matroska.is
 pub returns-in-Matroska-clause-ended : goal.returns-in-Matroska-clause-ended
 returns-in-Matroska-clause-ended g c = rw c.in-Matroska.is
     (λ none end. other_ended c.in-Matroska._other _)
+
+pub returns-in-Plain-clause-room : goal.returns-in-Plain-clause-room
+returns-in-Plain-clause-room g c = plain_room c.next_frame.result _ _ _ c.next_frame.ensures.room
+
+pub returns-in-Plain-clause-held : goal.returns-in-Plain-clause-held
+returns-in-Plain-clause-held g c = rw c.plain_answer.ensures
+    (plain_held c.next_frame.result _ _ _ c.next_frame.ensures.room)

@@ -14,7 +14,7 @@ use Rattle.ffv1_files.specs.Endings.{opening_endings}
 use Rattle.ffv1_files.specs.Files.{once_read}
 use Rattle.ffv1_files.proofs.FirstByte.{nothing_read, other_first, same_first}
 use Rattle.ffv1_files.proofs.Locations.{avi_reached, avi_stopped, first_stopped, matroska_reached}
-use Rattle.ffv1_files.proofs.Locations.{matroska_stopped}
+use Rattle.ffv1_files.proofs.Locations.{matroska_stopped, once_stopped}
 use Rattle.ffv1_files.proofs.Openings.{avi_apart, avi_opens, avi_stops, matroska_late}
 use Rattle.ffv1_files.proofs.Openings.{matroska_opens, matroska_stops, none_short}
 use Rattle.ffv1_files.proofs.NotedStreams.{avi_streams, segment_streams}
@@ -163,3 +163,15 @@ pub returns-in-Ok-open_located-2-clause-times : goal.returns-in-Ok-open_located-
 returns-in-Ok-open_located-2-clause-times g c = lists_begin _ _ _
     c.in-Ok-open_located-2.reader.place (times_begun 0)
     (returns-in-Ok-open_located-2-clause-answer g c).1
+
+pub returns-in_default-clause-first : goal.returns-in_default-clause-first
+returns-in_default-clause-first g c = λ is. avi_apart fault.Read refl is
+
+pub returns-in-Err-clause-first : goal.returns-in-Err-clause-first
+returns-in-Err-clause-first g c = λ is. once_stopped c.in-Ok.first _ _ _ _ _ _
+    c.in-Ok.ensures.counted c.in-Ok.ensures.ok c.in-Err.fault c.open_located.new.offset
+    c.in-Err.ensures.offset
+
+pub returns-in-Err-open_located-clause-first : goal.returns-in-Err-open_located-clause-first
+returns-in-Err-open_located-clause-first g c = λ is.
+    avi_apart c.in-Err-open_located.fault c.in-Err-open_located.ensures.own is

@@ -8,7 +8,7 @@ use Rattle.ffv1_files.specs.Endings.{opening_endings}
 use Rattle.ffv1_files.specs.Files.{once_read}
 use Rattle.ffv1_files.specs.Readers.{opened_at as file_opened}
 use Rattle.ffv1_files.specs.declared.container.Scope.TheVariants.{Whole}
-use Rattle.ffv1_files.proofs.AgainOpenings.{call_opens, call_reached, call_stopped, call_stops}
+use Rattle.ffv1_files.proofs.AgainOpenings.{call_opens, call_reached, call_stays, call_stops}
 use Rattle.ffv1_files.proofs.AgainOpenings.{late_counted}
 use Rattle.ffv1_files.proofs.NotedStreams.{segment_streams}
 use Rattle.ffv1_files.proofs.Openings.{once_opens}
@@ -63,6 +63,7 @@ returns-clause-stopped g c =
     let late : lacks_tracks c.in-Err.fault ≡ true = search rules in
     let counted = late_counted (opening_endings Whole) (once_read Whole) _ c.in-Err.fault late
     c.in-Err.ensures.answer in
-    call_stopped _ _ (g.R.ByteIn.remaining c.open_once.new.input) _ _ _ _
-    c.in-Some.ensures.there counted c.in-Err-open_again.fault c.open_again.new.offset
-    c.in-Err-open_again.ensures.offset
+    rw c.stop_of.ensures (call_stays _ _ (g.R.ByteIn.remaining c.open_once.new.input) _ _ _ _
+    c.in-Some.ensures.there counted (c.in-Err.ensures.late late) c.in-Err.fault
+    c.in-Err-open_again.fault _ c.open_again.new.offset late (c.in-Err.ensures.first late)
+    c.in-Err-open_again.ensures.answer c.in-Err-open_again.ensures.offset)

@@ -15,13 +15,14 @@ use Rattle.ffv1_files.specs.Endings.{opening_endings}
 use Rattle.ffv1_files.specs.Files.{once_read}
 use Rattle.ffv1_files.proofs.FirstByte.{nothing_read, other_first, same_first}
 use Rattle.ffv1_files.proofs.Locations.{avi_reached, avi_stopped, first_stopped, matroska_reached}
-use Rattle.ffv1_files.proofs.Locations.{matroska_stopped}
+use Rattle.ffv1_files.proofs.Locations.{matroska_stopped, once_stopped}
 use Rattle.ffv1_files.proofs.Openings.{avi_apart, avi_opens, avi_stops, matroska_late}
 use Rattle.ffv1_files.proofs.Openings.{matroska_opens, matroska_stops, none_short}
 use Rattle.ffv1_files.proofs.NotedStreams.{avi_streams, segment_streams}
 use Rattle.ffv1_files.proofs.NotedTimes.{lists_begin, segment_begins}
 use Rattle.ffv1_files.proofs.OpenedRooms.{room_with}
-use Rattle.ffv1_files.proofs.SalvagedOpenings.{refused_plainly, salvaged_first, tells_first, tried_first}
+use Rattle.ffv1_files.proofs.SalvagedOpenings.{lacks_counted, lacks_first, refused_plainly}
+use Rattle.ffv1_files.proofs.SalvagedOpenings.{refused_told, salvaged_first, tells_first, tried_first}
 use Rattle.ffv1_matroska.specs.Times.{times_begun}
 use Rattle.ffv1_files.proofs.salvaging.tell_once.Goals as goal
 
@@ -206,10 +207,61 @@ returns-in-Err-clause-refused g c = λ some.
     (let first = same_first c.in-Ok.first 26 c.eq.result c.eq.ensures c.if-eq.true in
     let answer = rw first at c.in-Err.ensures.answer in
     tells_first _ _ _ (rw first at c.in-Ok.ensures.ok) _ _ _ c.in-Ok.ensures.counted c.in-Err.fault answer _ _ _
-    (rw first at c.in-Err.ensures.stopped) (rw first at c.in-Err.ensures.told))
+    (rw first at c.in-Err.ensures.stopped) (rw first at c.in-Err.ensures.told) some)
 
 pub returns-in-Err-clause-tried : goal.returns-in-Err-clause-tried
 returns-in-Err-clause-tried g c = λ told.
     (let first = same_first c.in-Ok.first 26 c.eq.result c.eq.ensures c.if-eq.true in
     let answer = rw first at c.in-Err.ensures.answer in
     tried_first _ _ _ (rw first at c.in-Ok.ensures.ok) _ _ _ c.in-Ok.ensures.counted c.in-Err.fault answer told)
+
+pub returns-in_default-clause-first : goal.returns-in_default-clause-first
+returns-in_default-clause-first g c = λ none is. avi_apart fault.Read refl is
+
+pub returns-in-Err-clause-first : goal.returns-in-Err-clause-first
+returns-in-Err-clause-first g c = λ none is. once_stopped c.in-Ok.first _ _ _ _ _ _
+    c.in-Ok.ensures.counted c.in-Ok.ensures.ok c.in-Err.fault c.open_salvaged.new.offset
+    (c.in-Err.ensures.plain none)
+
+pub returns-in-Err-open_located-clause-first : goal.returns-in-Err-open_located-clause-first
+returns-in-Err-open_located-clause-first g c = λ none is.
+    avi_apart c.in-Err-open_located.fault c.in-Err-open_located.ensures.own is
+
+pub returns-in_default-clause-plainly : goal.returns-in_default-clause-plainly
+returns-in_default-clause-plainly g c = λ some. absurd (some c.clear.ensures.items)
+
+pub returns-in-Err-clause-plainly : goal.returns-in-Err-clause-plainly
+returns-in-Err-clause-plainly g c = λ some.
+    (let first = same_first c.in-Ok.first 26 c.eq.result c.eq.ensures c.if-eq.true in
+    let tells = rw first at c.in-Err.ensures.told in
+    refused_told _ _ _ (rw first at c.in-Ok.ensures.ok)
+    c.what_is_told_says_what_plain_reading_meets.ensures.first tells.bytes
+    (λ none. some (tells.is ∙ none)) tells.consumed)
+
+pub returns-in_default-clause-lacks : goal.returns-in_default-clause-lacks
+returns-in_default-clause-lacks g c = λ is. avi_apart fault.Read refl is
+
+pub returns-in-Err-clause-lacks : goal.returns-in-Err-clause-lacks
+returns-in-Err-clause-lacks g c = λ is.
+    (let first = same_first c.in-Ok.first 26 c.eq.result c.eq.ensures c.if-eq.true in
+    let answer = rw first at c.in-Err.ensures.answer in
+    lacks_first _ _ _ (rw first at c.in-Ok.ensures.ok) _ _ _ c.in-Ok.ensures.counted c.in-Err.fault
+    answer _ is (rw first at c.in-Err.ensures.stopped))
+
+pub returns-in-Err-open_located-clause-lacks : goal.returns-in-Err-open_located-clause-lacks
+returns-in-Err-open_located-clause-lacks g c = λ is.
+    avi_apart c.in-Err-open_located.fault c.in-Err-open_located.ensures.own is
+
+pub returns-in_default-clause-counted : goal.returns-in_default-clause-counted
+returns-in_default-clause-counted g c = λ is. avi_apart fault.Read refl is
+
+pub returns-in-Err-clause-counted : goal.returns-in-Err-clause-counted
+returns-in-Err-clause-counted g c = λ is.
+    (let first = same_first c.in-Ok.first 26 c.eq.result c.eq.ensures c.if-eq.true in
+    let answer = rw first at c.in-Err.ensures.answer in
+    lacks_counted _ _ _ (rw first at c.in-Ok.ensures.ok) _ _ _ c.in-Ok.ensures.counted
+    c.in-Err.fault answer is)
+
+pub returns-in-Err-open_located-clause-counted : goal.returns-in-Err-open_located-clause-counted
+returns-in-Err-open_located-clause-counted g c = λ is.
+    avi_apart c.in-Err-open_located.fault c.in-Err-open_located.ensures.own is

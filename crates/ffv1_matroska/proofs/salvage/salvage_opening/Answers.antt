@@ -54,7 +54,7 @@ pub returns-in-Err-clause-told : goal.returns-in-Err-clause-told
 returns-in-Err-clause-told g c =
     let none : c.clear.new.self.items ≡ [] = search rules in
     ebml_tells _ _ c.salvage_ebml.new.other c.tell_pending.new.faults.items c.in-Err.ensures.other
-    (rw none at c.tell_pending.ensures)
+    (rw none at c.tell_pending.ensures.too)
 
 pub returns-in-Err-clause-stopped : goal.returns-in-Err-clause-stopped
 returns-in-Err-clause-stopped g c =
@@ -73,13 +73,13 @@ pub returns-in-Err-clause-opens : goal.returns-in-Err-clause-opens
 unfolding open_read
 returns-in-Err-clause-opens g c = λ nothing.
     (let none : c.clear.new.self.items ≡ [] = search rules in
-    let both = none_too [] c.salvage_ebml.new.other None (sym (rw none at c.tell_pending.ensures) ∙ nothing) in
+    let both = none_too [] c.salvage_ebml.new.other None (sym (rw none at c.tell_pending.ensures.too) ∙ nothing) in
     faults_refused fault.NoTracks HasEnded _ _ _ _ _ (goes_none open_read _ _) (c.in-Err.ensures.plain both.1))
 
 pub returns-in-Err-clause-from : goal.returns-in-Err-clause-from
 returns-in-Err-clause-from g c = λ nothing.
     (let none : c.clear.new.self.items ≡ [] = search rules in
-    let both = none_too [] c.salvage_ebml.new.other None (sym (rw none at c.tell_pending.ensures) ∙ nothing) in (
+    let both = none_too [] c.salvage_ebml.new.other None (sym (rw none at c.tell_pending.ensures.too) ∙ nothing) in (
       Start,
       0,
       opening_stops _ c.in-Err.fault refl (reads_none spot_taken Start _)

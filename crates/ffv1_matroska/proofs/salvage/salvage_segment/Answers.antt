@@ -255,7 +255,7 @@ returns-in-Err-clause-told g c =
     told_stops inv.6 (visit_tells inv.0 c.args.here.now found here c.loop-element.faults.items e test _ _ _
     c.salvage_visit.new.noted.other c.tell_pending.new.faults.items
     (some_read (header_read here) _ _ e (rw c.in-Some.is at c.in_ok-element.ensures.answer).1)
-    c.in-Err.ensures.other (rw c.passed.ensures at c.tell_pending.ensures))
+    c.in-Err.ensures.other (rw c.passed.ensures at c.tell_pending.ensures.too))
 
 pub returns-in_err-tell-clause-told : goal.returns-in_err-tell-clause-told
 returns-in_err-tell-clause-told g c =
@@ -413,7 +413,7 @@ returns-in-Err-clause-opens g c = λ none.
     let e = c.in-Some.element in
     let on = begin_up_to inv.0 in
     let found = found_kept c.loop-element.found c.loop-element.config.items in
-    let both = none_too c.loop-element.faults.items c.salvage_visit.new.noted.other _ (sym c.tell_pending.ensures ∙ none) in
+    let both = none_too c.loop-element.faults.items c.salvage_visit.new.noted.other _ (sym c.tell_pending.ensures.too ∙ none) in
     let next = none_read (header_read here) (element_or_begun on found here) _ _ e (inv.10 both.0).goes
     (rw c.in-Some.is at c.in_ok-element.ensures.answer) in
     let other : (e.ident == cluster) ≡ false = ne_eqb _ _
@@ -502,7 +502,7 @@ returns-in-Err-clause-from g c = λ none.
     let e = c.in-Some.element in
     let f = c.in-Err.fault in
     let found = found_kept c.loop-element.found c.loop-element.config.items in
-    let both = none_too c.loop-element.faults.items c.salvage_visit.new.noted.other _ (sym c.tell_pending.ensures ∙ none) in
+    let both = none_too c.loop-element.faults.items c.salvage_visit.new.noted.other _ (sym c.tell_pending.ensures.too ∙ none) in
     let so = inv.10 both.0 in
     let answer = rw c.in-Some.is at c.in_ok-element.ensures.answer in
     let other : (e.ident == cluster) ≡ false = ne_eqb _ _
@@ -568,7 +568,7 @@ returns-then-element-eq-CLUSTER-clause-sooner g c = c.loop-element.invariant.11
 
 pub returns-in-Err-clause-sooner : goal.returns-in-Err-clause-sooner
 returns-in-Err-clause-sooner g c = λ none. c.loop-element.invariant.11 (none_too c.loop-element.faults.items
-    c.salvage_visit.new.noted.other _ (sym c.tell_pending.ensures ∙ none)).0
+    c.salvage_visit.new.noted.other _ (sym c.tell_pending.ensures.too ∙ none)).0
 
 pub returns-in_err-tell-clause-sooner : goal.returns-in_err-tell-clause-sooner
 returns-in_err-tell-clause-sooner g c = λ none. c.loop-element.invariant.11 (none_too c.loop-element.faults.items

@@ -6,6 +6,7 @@ use Rattle.ffv1_pack.proofs.ConfigurationJudged.{has_accepted, no_memory_head}
 use Rattle.ffv1_pack.proofs.FrameBytes.{empty_of}
 use Rattle.ffv1_pack.proofs.VideoEnds.{encodes_video, no_frames, some_frames}
 use Rattle.ffv1_pack.proofs.VideoEncoded.{no_head, none, rejected, stops, wants_memory}
+use Rattle.ffv1_reads.specs.declared.fault.FileFault.TheVariants as file_fault
 use Rattle.ffv1_video.specs.declared.fault.Fault.TheVariants as fault
 use Rattle.ffv1_pack.specs.Pack.{is_pack_fault}
 use Rattle.ffv1_pack.proofs.ReadableFrames.{own_in}
@@ -51,7 +52,7 @@ returns-in_err-encode_pictures-clause-own g c =
     c.from_residual-in_err-encode_pictures.ensures.1 in
     rw (p.1, p.2) (own_in c.args.profile c.in_err-encode_pictures.field-0.0
     (subst (λ k. (is_pack_fault c.in_err-encode_pictures.field-0.0 ≡ true)
-    ⊎ ((k ≡ record_profiles.Wide) × (c.in_err-encode_pictures.field-0.0 ≡ fault.ChunkTooLong)))
+    ⊎ ((k ≡ record_profiles.Wide) × (c.in_err-encode_pictures.field-0.0 ≡ fault.File file_fault.ChunkTooLong)))
     c.in_ok-encoder.ensures.ok.profiled c.in_err-encode_pictures.ensures.own))
 
 pub returns-then-is_empty-clause-err : goal.returns-then-is_empty-clause-err

@@ -63,7 +63,7 @@ fn is_cut(rt: &impl Abort, alloc: Global, part: &[u8], text: &[u8]) {
     let mut output = ToWrite::new(Vec::new(alloc));
     let mut input = FromRead::new(part);
     let answer = check(alloc, Profile::Wide, &mut input, &mut output, true);
-    assert!(rt; answer == Err(Fault::Truncated));
+    assert!(rt; answer == Err(Fault::File(FileFault::Truncated)));
     assert!(rt; output.into_inner().as_slice() == text);
 }
 

@@ -1,6 +1,7 @@
 //! Files that are damaged, read to their end.
 
 use super::closed::{BLOCK, INNER, NUMBER, POSITION, UNKNOWN};
+use ffv1_codec::CodecFault;
 use ffv1_engine::{Fault, Notes, Profile, check_all};
 use ffv1_matroska::MatroskaReader;
 use ffv1_reads::{FileFault, Item};
@@ -264,6 +265,18 @@ frames 2 faults 3
 
 #[test]
 fn frames_and_faults_are_judged(rt: HostRuntime) {
-    comes_to(&rt, rt.alloc(), &SUMMED, Fault::Overread, SUMMED_LINES);
-    comes_to(&rt, rt.alloc(), &SHORT, Fault::Truncated, SHORT_LINES);
+    comes_to(
+        &rt,
+        rt.alloc(),
+        &SUMMED,
+        Fault::Codec(CodecFault::Overread),
+        SUMMED_LINES,
+    );
+    comes_to(
+        &rt,
+        rt.alloc(),
+        &SHORT,
+        Fault::File(FileFault::Truncated),
+        SHORT_LINES,
+    );
 }

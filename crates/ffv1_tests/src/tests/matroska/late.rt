@@ -116,13 +116,13 @@ fn told_of_clusters_before_tracks(rt: HostRuntime) {
     let failing = FromFile::new(SoughtReader::new(&file, 1), true);
     assert!(rt; told(alloc, failing) == (Err(Fault::Read), false));
     let pipe = FromRead::new(file.as_slice());
-    assert!(rt; told(alloc, pipe) == (Err(Fault::NoTracks), false));
+    assert!(rt; told(alloc, pipe) == (Err(Fault::File(FileFault::NoTracks)), false));
 }
 
-/// Tracks are sought up to the end of the Segment.
+/// Tracks are sought up to the end of the Segment, and they lack at its first Cluster.
 #[test]
 fn no_tracks(rt: HostRuntime) {
-    assert!(rt; sought(rt.alloc(), &lacking(), 2) == (0, 291, Some(FileFault::NoTracks)));
+    assert!(rt; sought(rt.alloc(), &lacking(), 2) == (0, 200, Some(FileFault::NoTracks)));
     assert!(rt; sought(rt.alloc(), &cut(), 2) == (0, 200, Some(FileFault::Truncated)));
 }
 

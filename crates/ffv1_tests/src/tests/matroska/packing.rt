@@ -5,6 +5,7 @@ use crate::tests::orders::NO_COLOUR;
 use ffv1_engine::{
     Choice, CodecIdChoice, CoderChoice, Fault, PackedMatroska, Profile, pack_matroska,
 };
+use ffv1_reads::FileFault;
 use ffv1_wire::{FromRead, ToMemory};
 use std::alloc::Allocator;
 use std::process::Abort;
@@ -34,29 +35,33 @@ const BEGUN: usize = 354;
 
 /// Texts and their faults, and whether the Cluster of the example's frame is written before.
 static FAULTS: [(&[u8], Fault, bool); 9] = [
-    (b"", Fault::Header, false),
-    (b"YUV4MPEG2 W2\n", Fault::Tag, false),
+    (b"", Fault::Text(ffv1_y4m::Fault::Header), false),
+    (b"YUV4MPEG2 W2\n", Fault::Text(ffv1_y4m::Fault::Tag), false),
     (b"YUV4MPEG2 W1 H1 Cmono\n", Fault::NoFrames, false),
-    (b"YUV4MPEG2 W1 H1 F50:2 Cmono\nFRAMX", Fault::Rate, false),
-    (b"P6\n1 1\n255\n\0\0", Fault::Rate, false),
+    (
+        b"YUV4MPEG2 W1 H1 F50:2 Cmono\nFRAMX",
+        Fault::File(FileFault::Rate),
+        false,
+    ),
+    (b"P6\n1 1\n255\n\0\0", Fault::File(FileFault::Rate), false),
     (
         b"YUV4MPEG2 W1 H1 Cmono\nFRAME\n",
-        Fault::FrameTruncated,
+        Fault::Text(ffv1_y4m::Fault::FrameTruncated),
         false,
     ),
     (
         b"YUV4MPEG2 W1 H1 Cmono\nFRAME\n\0FRAME\n",
-        Fault::FrameTruncated,
+        Fault::Text(ffv1_y4m::Fault::FrameTruncated),
         true,
     ),
     (
         b"YUV4MPEG2 W1 H1 Cmono\nFRAME\n\0FRAMX",
-        Fault::FrameLine,
+        Fault::Text(ffv1_y4m::Fault::FrameLine),
         true,
     ),
     (
         b"YUV4MPEG2 W1 H1 Cmono\nFRAME\n\0\0",
-        Fault::FrameLine,
+        Fault::Text(ffv1_y4m::Fault::FrameLine),
         true,
     ),
 ];

@@ -2,18 +2,18 @@
 -- and at `Wide` after a fault of the file itself.
 use Rattle.std.proofs.Common.{◌≡◌, true, false, ap, sym, ◌∙◌, inl, inr}
 use Rattle.ffv1_wire.specs.Passage.{passage}
-use Rattle.ffv1_files.proofs.ToldLists.{none_told, some_told}
 use Rattle.ffv1_unpack.specs.Internal.Plainly.{is_plain}
 use Rattle.ffv1_unpack.proofs.OpenedAs.{read_on_as}
 use Rattle.ffv1_unpack.proofs.OwnFaults.{opening_checks, passing_checks}
 use Rattle.ffv1_unpack.proofs.ReadAgain.{passing_again}
 use Rattle.ffv1_unpack.proofs.ToldChecks.{check_refused, err_so, ok_so, on_again, on_checks, on_tried}
 use Rattle.ffv1_unpack.proofs.ToldChecks.{plain_tried, refused_again, refused_own, refused_tried}
+use Rattle.ffv1_unpack.proofs.ToldChecks.{way_plain, way_tells}
 use Rattle.ffv1_unpack.proofs.checking.check_all.Goals as goal
 
 pub returns-then-is_plain-clause-ok : goal.returns-then-is_plain-clause-ok
 returns-then-is_plain-clause-ok g c =
-    let none = none_told c.open_telling.new.told.faults _ c.is_empty.ensures c.if-not-is_empty.false in
+    let none = way_plain c.open_telling.new.way c.tells.result c.tells.ensures c.if-tells.false in
     let stands = c.in-Ok.ensures.stands none in
     let is = ap is_plain (sym c.course.ensures) ∙ sym c.is_plain.ensures ∙ c.if-is_plain.true in
     let read = read_on_as c.args.profile (g.R.ByteIn.remaining c.args.input.now)
@@ -25,7 +25,7 @@ returns-then-is_plain-clause-ok g c =
 
 pub returns-then-is_plain-clause-err : goal.returns-then-is_plain-clause-err
 returns-then-is_plain-clause-err g c =
-    let none = none_told c.open_telling.new.told.faults _ c.is_empty.ensures c.if-not-is_empty.false in
+    let none = way_plain c.open_telling.new.way c.tells.result c.tells.ensures c.if-tells.false in
     let stands = c.in-Ok.ensures.stands none in
     let is = ap is_plain (sym c.course.ensures) ∙ sym c.is_plain.ensures ∙ c.if-is_plain.true in
     let read = read_on_as c.args.profile (g.R.ByteIn.remaining c.args.input.now)
@@ -37,7 +37,7 @@ returns-then-is_plain-clause-err g c =
 
 pub returns-then-is_plain-clause-own : goal.returns-then-is_plain-clause-own
 returns-then-is_plain-clause-own g c =
-    let none = none_told c.open_telling.new.told.faults _ c.is_empty.ensures c.if-not-is_empty.false in
+    let none = way_plain c.open_telling.new.way c.tells.result c.tells.ensures c.if-tells.false in
     let stands = c.in-Ok.ensures.stands none in
     err_so _ _ c.judge_plainly.result (λ f h. passing_checks c.args.profile c.in-Ok.player.reader
     (g.R.ByteIn.remaining c.args.input.now) (g.R.ByteIn.remaining c.open_telling.new.input)
@@ -59,7 +59,7 @@ returns-then-is_plain-clause-tried g c =
 
 pub returns-clause-ok : goal.returns-clause-ok
 returns-clause-ok g c =
-    let none = none_told c.open_telling.new.told.faults _ c.is_empty.ensures c.if-not-is_empty.false in
+    let none = way_plain c.open_telling.new.way c.tells.result c.tells.ensures c.if-tells.false in
     let stands = c.in-Ok.ensures.stands none in
     let is = ap is_plain (sym c.course.ensures) ∙ sym c.is_plain.ensures ∙ c.if-is_plain.false in
     let read = read_on_as c.args.profile (g.R.ByteIn.remaining c.args.input.now)
@@ -71,7 +71,7 @@ returns-clause-ok g c =
 
 pub returns-clause-err : goal.returns-clause-err
 returns-clause-err g c =
-    let none = none_told c.open_telling.new.told.faults _ c.is_empty.ensures c.if-not-is_empty.false in
+    let none = way_plain c.open_telling.new.way c.tells.result c.tells.ensures c.if-tells.false in
     let stands = c.in-Ok.ensures.stands none in
     let is = ap is_plain (sym c.course.ensures) ∙ sym c.is_plain.ensures ∙ c.if-is_plain.false in
     let read = read_on_as c.args.profile (g.R.ByteIn.remaining c.args.input.now)
@@ -106,8 +106,9 @@ returns-in-Err-clause-err g c =
     (g.R.ByteIn.failures c.open_telling.new.input) (g.W.ByteOut.failures c.args.output.now)
     (g.W.ByteOut.failures c.tell_refused.new.output) c.open_telling.new.told.data
     c.open_telling.new.told.faults.items c.in-Err.fault c.open_telling.new.offset
-    c.tells_byte-byte.result c.tell_refused.result c.tells_byte-byte.ensures c.in-Err.ensures.err
-    c.in-Err.ensures.stopped c.in-Err.ensures.refused (rw refused at c.tell_refused.ensures.none)
+    c.tells_byte-byte.result c.tell_refused.result c.open_telling.new.way c.tells_byte-byte.ensures
+    c.in-Err.ensures.none c.in-Err.ensures.err c.in-Err.ensures.stopped c.in-Err.ensures.plainly
+    c.in-Err.ensures.refused (rw refused at c.tell_refused.ensures.none)
     (rw refused at c.tell_refused.ensures.some)
 
 pub returns-in-Err-clause-own : goal.returns-in-Err-clause-own
@@ -131,41 +132,41 @@ returns-in-Err-clause-tried g c =
 
 -- ---- something is told
 
-pub returns-then-not-is_empty-clause-ok : goal.returns-then-not-is_empty-clause-ok
-returns-then-not-is_empty-clause-ok g c =
-    let some = some_told c.open_telling.new.told.faults _ c.is_empty.ensures c.if-not-is_empty.true in
+pub returns-then-tells-clause-ok : goal.returns-then-tells-clause-ok
+returns-then-tells-clause-ok g c =
+    let some = way_tells c.open_telling.new.way c.tells.result c.tells.ensures c.if-tells.true in
     ok_so _ _ c.judge_told.result (λ r h. inr (inr (c.in-Ok.ensures.plainly some, h)))
     (c.judge_told.ensures.ok c.args.profile (g.R.ByteIn.remaining c.args.input.now)
     (g.R.ByteIn.failures c.args.input.now) (c.in-Ok.ensures.told some) c.in-Ok.ensures.uncued)
 
-pub returns-then-not-is_empty-clause-err : goal.returns-then-not-is_empty-clause-err
-returns-then-not-is_empty-clause-err g c =
-    let some = some_told c.open_telling.new.told.faults _ c.is_empty.ensures c.if-not-is_empty.true in
+pub returns-then-tells-clause-err : goal.returns-then-tells-clause-err
+returns-then-tells-clause-err g c =
+    let some = way_tells c.open_telling.new.way c.tells.result c.tells.ensures c.if-tells.true in
     err_so _ _ c.judge_told.result (λ f h. inr (inr (inl (c.in-Ok.ensures.plainly some, h))))
     (c.judge_told.ensures.err c.args.profile (g.R.ByteIn.remaining c.args.input.now)
     (g.R.ByteIn.failures c.args.input.now) (c.in-Ok.ensures.told some) c.in-Ok.ensures.uncued)
 
-pub returns-then-not-is_empty-clause-own : goal.returns-then-not-is_empty-clause-own
-returns-then-not-is_empty-clause-own g c =
+pub returns-then-tells-clause-own : goal.returns-then-tells-clause-own
+returns-then-tells-clause-own g c =
     err_so _ _ c.judge_told.result (on_checks c.args.profile) c.judge_told.ensures.own
 
-pub returns-then-not-is_empty-clause-again : goal.returns-then-not-is_empty-clause-again
-returns-then-not-is_empty-clause-again g c =
+pub returns-then-tells-clause-again : goal.returns-then-tells-clause-again
+returns-then-tells-clause-again g c =
     err_so _ _ c.judge_told.result (λ f h. inl (on_again c.args.profile
     (g.R.AgainIn.begins c.args.input.now) (passage g.R.ByteIn.remaining g.R.ByteIn.failures
     c.args.input.now c.judge_told.new.input) f h)) c.judge_told.ensures.own
 
-pub returns-then-not-is_empty-clause-tried : goal.returns-then-not-is_empty-clause-tried
-returns-then-not-is_empty-clause-tried g c =
+pub returns-then-tells-clause-tried : goal.returns-then-tells-clause-tried
+returns-then-tells-clause-tried g c =
     err_so _ _ c.judge_told.result (on_tried (passage g.R.ByteIn.remaining g.R.ByteIn.failures
     c.args.input.now c.judge_told.new.input)) c.judge_told.ensures.own
 
 pub judge_plainly-requires-clause-sound : goal.judge_plainly-requires-clause-sound
 judge_plainly-requires-clause-sound g c =
-    let none = none_told c.open_telling.new.told.faults _ c.is_empty.ensures c.if-not-is_empty.false in
+    let none = way_plain c.open_telling.new.way c.tells.result c.tells.ensures c.if-tells.false in
     (c.in-Ok.ensures.ok none).sound
 
 pub judge_on-requires-clause-sound : goal.judge_on-requires-clause-sound
 judge_on-requires-clause-sound g c =
-    let none = none_told c.open_telling.new.told.faults _ c.is_empty.ensures c.if-not-is_empty.false in
+    let none = way_plain c.open_telling.new.way c.tells.result c.tells.ensures c.if-tells.false in
     (c.in-Ok.ensures.ok none).sound

@@ -2,7 +2,7 @@
 use Rattle.std.proofs.Common.{rules, ◌≡◌, inl, length}
 use Rattle.std.proofs.lemmas.Result.{err_from_is_err_and}
 use Rattle.ffv1_unpack.proofs.FileJudged.{all_done, count_stops, judging_stops, none_judged}
-use Rattle.ffv1_unpack.proofs.OwnFaults.{told_checks}
+use Rattle.ffv1_unpack.proofs.OwnFaults.{line_checks, told_checks}
 use Rattle.ffv1_unpack.proofs.FramesNoted.{noted_file}
 use Rattle.ffv1_unpack.specs.Plays.{has_more}
 use Rattle.ffv1_wire.specs.Passage.{passage}
@@ -117,3 +117,9 @@ returns-in_err-write_counts-clause-again g c =
     (g.R.AgainIn.begins c.args.input.now)
     (passage g.R.ByteIn.remaining g.R.ByteIn.failures c.args.input.now c.judge_frames.new.input)
     _ _ c.in_err-write_counts.field-0.0 c.in_err-write_counts.ensures)
+
+pub returns-in_err-write_counts-clause-own : goal.returns-in_err-write_counts-clause-own
+returns-in_err-write_counts-clause-own g c =
+    let p = err_from_is_err_and c.from_residual-in_err-write_counts.result
+    c.from_residual-in_err-write_counts.ensures.1 in
+    rw (p.1, p.2) (line_checks c.args.profile _ _ c.in_err-write_counts.field-0.0 c.in_err-write_counts.ensures)

@@ -2,7 +2,7 @@
 use Rattle.std.proofs.Common.{rules, ◌≡◌, inl, inr, length}
 use Rattle.std.proofs.lemmas.Result.{err_from_is_err_and}
 use Rattle.ffv1_unpack.proofs.FileChecked.{count_stops, done, none_told, telling_stops}
-use Rattle.ffv1_unpack.proofs.OwnFaults.{told_checks}
+use Rattle.ffv1_unpack.proofs.OwnFaults.{line_checks, told_checks}
 use Rattle.ffv1_unpack.proofs.FramesNoted.{noted_file}
 use Rattle.ffv1_unpack.specs.Plays.{has_more}
 use Rattle.ffv1_wire.specs.Passage.{passage}
@@ -116,3 +116,9 @@ returns-in_err-write_count-clause-again g c =
     (g.R.AgainIn.begins c.args.input.now)
     (passage g.R.ByteIn.remaining g.R.ByteIn.failures c.args.input.now c.tell_frames.new.input)
     _ _ c.in_err-write_count.field-0.0 c.in_err-write_count.ensures)
+
+pub returns-in_err-write_count-clause-own : goal.returns-in_err-write_count-clause-own
+returns-in_err-write_count-clause-own g c =
+    let p = err_from_is_err_and c.from_residual-in_err-write_count.result
+    c.from_residual-in_err-write_count.ensures.1 in
+    rw (p.1, p.2) (line_checks c.args.profile _ _ c.in_err-write_count.field-0.0 c.in_err-write_count.ensures)

@@ -11,7 +11,7 @@ use Rattle.ffv1_unpack.specs.Opens.{HasSoundRecord}
 use Rattle.ffv1_unpack.specs.Stream.{IsStream}
 use Rattle.ffv1_unpack.specs.Internal.Containers.{is_segment}
 use Rattle.ffv1_unpack.proofs.FaultsLocated.{record_located}
-use Rattle.ffv1_unpack.proofs.OpenedTold.{file_again_told, has_told, record_lacks, record_tried, told_may_be}
+use Rattle.ffv1_unpack.proofs.OpenedTold.{file_again_told, record_lacks, record_tried, tells_has, told_may_be}
 use Rattle.ffv1_unpack.proofs.Openings.{lacks_file, lacks_record}
 use Rattle.ffv1_unpack.proofs.OwnFaults.{file_opens, record_opens, within_of}
 use Rattle.ffv1_unpack.proofs.ReadAgain.{record_again}
@@ -45,9 +45,8 @@ pub returns-in_err-reader-clause-again : goal.returns-in_err-reader-clause-again
 returns-in_err-reader-clause-again g c =
     let p = err_from_is_err_and c.from_residual.result c.from_residual.ensures.1 in
     rw (p.1, p.2) (file_again_told (passage g.R.ByteIn.remaining g.R.ByteIn.failures c.args.input.now
-    c.open_told.new.input) (g.R.AgainIn.begins c.args.input.now) c.open_told.new.told.data
-    c.open_told.new.told.faults.items c.in_err-reader.field-0.0 c.open_told.new.offset
-    c.in_err-reader.ensures.answer c.in_err-reader.ensures.refused)
+    c.open_told.new.input) (g.R.AgainIn.begins c.args.input.now) c.open_told.new.way
+    c.in_err-reader.field-0.0 c.in_err-reader.ensures.answer c.in_err-reader.ensures.again)
 
 pub returns-in_err-reader-clause-tried : goal.returns-in_err-reader-clause-tried
 returns-in_err-reader-clause-tried g c =
@@ -156,5 +155,16 @@ returns-clause-told g c = λ some. record {
 }
 
 pub returns-clause-plainly : goal.returns-clause-plainly
-returns-clause-plainly g c = λ some. has_told (passage g.R.ByteIn.remaining g.R.ByteIn.failures
-    c.args.input.now c.open_told.new.input) (c.in_ok-reader.ensures.plainly some)
+returns-clause-plainly g c = tells_has (passage g.R.ByteIn.remaining g.R.ByteIn.failures
+    c.args.input.now c.open_told.new.input) c.open_told.new.way c.in_ok-reader.ensures.plainly
+    c.in_ok-reader.ensures.late
+
+pub returns-in_err-reader-clause-plainly : goal.returns-in_err-reader-clause-plainly
+returns-in_err-reader-clause-plainly g c = tells_has (passage g.R.ByteIn.remaining
+    g.R.ByteIn.failures c.args.input.now c.open_told.new.input) c.open_told.new.way
+    c.in_err-reader.ensures.plainly c.in_err-reader.ensures.late
+
+pub returns-in_err-checked-clause-plainly : goal.returns-in_err-checked-clause-plainly
+returns-in_err-checked-clause-plainly g c = tells_has (passage g.R.ByteIn.remaining
+    g.R.ByteIn.failures c.args.input.now c.open_told.new.input) c.open_told.new.way
+    c.in_ok-reader.ensures.plainly c.in_ok-reader.ensures.late

@@ -15,3 +15,7 @@ returns-in-Ok-open_player_told-clause-told g c = λ some.
 pub returns-in-Ok-open_player_told-clause-plainly : goal.returns-in-Ok-open_player_told-clause-plainly
 returns-in-Ok-open_player_told-clause-plainly g c = λ some.
     rw c.in-Wide.is (c.in-Ok-open_player_told.ensures.plainly some)
+
+pub returns-in-Err-open_player_told-clause-plainly : goal.returns-in-Err-open_player_told-clause-plainly
+returns-in-Err-open_player_told-clause-plainly g c = λ some.
+    rw c.in-Wide.is (c.in-Err-open_player_told.ensures.plainly some)

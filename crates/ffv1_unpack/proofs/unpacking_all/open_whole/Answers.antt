@@ -1,12 +1,12 @@
 -- Opens a file whose pictures have a text, and tells the faults before its first frame.
-use Rattle.std.proofs.Common.{◌≡◌, [], refl, inl, inr}
+use Rattle.std.proofs.Common.{inl, inr}
 use Rattle.std.proofs.lemmas.Result.{err_from_is_err_and}
 use Rattle.ffv1_wire.specs.Passage.{passage}
 use Rattle.ffv1_record.specs.Configuration.{is_rct}
 use Rattle.ffv1_unpack.proofs.FileUnpacked.{lacks_text, text_own}
 use Rattle.ffv1_unpack.proofs.OwnFaults.{opening_unpacks}
 use Rattle.ffv1_unpack.proofs.ReadAgain.{unpack_again}
-use Rattle.ffv1_unpack.proofs.ToldChecks.{either_told}
+use Rattle.ffv1_unpack.proofs.ToldChecks.{either_way, not_plain}
 use Rattle.ffv1_unpack.proofs.ToldUnpacked.{told_lacks}
 use Rattle.ffv1_unpack.proofs.UnpackedTold.{plainly_lacks, text_tried}
 use Rattle.ffv1_unpack.proofs.unpacking_all.open_whole.Goals as goal
@@ -41,7 +41,7 @@ returns-in_err-player-clause-tried g c =
 pub returns-in-Err-clause-err : goal.returns-in-Err-clause-err
 returns-in-Err-clause-err g c = λ cleared.
     (let lacks = rw c.config.ensures at c.in-Err.ensures.err in
-    elim (either_told c.open_telling.new.told.faults.items) [
+    elim (either_way c.open_telling.new.way) [
       | inl none ↦ inl (lacks_text c.args.profile (g.R.ByteIn.remaining c.args.input.now)
           (g.R.ByteIn.remaining c.open_telling.new.input) (g.R.ByteIn.failures c.args.input.now)
           (g.R.ByteIn.failures c.open_telling.new.input)
@@ -57,7 +57,10 @@ returns-in-Err-clause-err g c = λ cleared.
     ])
 
 pub returns-in-Err-clause-refused : goal.returns-in-Err-clause-refused
-returns-in-Err-clause-refused g c = λ some. absurd (some c.clear.ensures.items)
+returns-in-Err-clause-refused g c = λ telling. not_plain telling
+
+pub returns-in-Err-clause-plainly : goal.returns-in-Err-clause-plainly
+returns-in-Err-clause-plainly g c = λ telling. not_plain telling
 
 pub returns-in-Err-clause-own : goal.returns-in-Err-clause-own
 returns-in-Err-clause-own g c =

@@ -1,7 +1,6 @@
 -- Decodes all frames of a file that the profile reads, and goes on after a frame that is refused.
 use Rattle.std.proofs.Common.{◌≡◌, true, inl, inr, sym, ◌∙◌}
 use Rattle.ffv1_wire.specs.Passage.{passage}
-use Rattle.ffv1_files.proofs.ToldLists.{none_told, some_told}
 use Rattle.ffv1_video.proofs.Output.{silent}
 use Rattle.ffv1_video.specs.Profiles.{scope_in}
 use Rattle.ffv1_unpack.proofs.FileSalvaged.{all_fails}
@@ -10,13 +9,14 @@ use Rattle.ffv1_unpack.proofs.SalvagedEnd.{end_done, end_fails, end_none, first_
 use Rattle.ffv1_unpack.proofs.OwnFaults.{written_unpacks}
 use Rattle.ffv1_unpack.proofs.ReadAgain.{unpack_again, written_again}
 use Rattle.ffv1_unpack.proofs.ToldChecks.{err_so, ok_so, refused_again, refused_tried}
+use Rattle.ffv1_unpack.proofs.ToldChecks.{way_plain, way_tells}
 use Rattle.ffv1_unpack.proofs.UnpackedTold.{own_told, reads_again, refused_unpacks, segment_writes}
 use Rattle.ffv1_unpack.proofs.UnpackedTold.{tried_untold, unpack_refused}
 use Rattle.ffv1_unpack.proofs.unpacking_all.unpack_all.Goals as goal
 
 pub returns-in-Err-answer-clause-err : goal.returns-in-Err-answer-clause-err
 returns-in-Err-answer-clause-err g c =
-    let nothing = none_told c.open_whole.new.told.faults _ c.is_empty.ensures c.if-not-is_empty.false in
+    let nothing = way_plain c.open_whole.new.way c.tells.result c.tells.ensures c.if-tells.false in
     inl (inr (all_fails c.args.profile (g.R.ByteIn.remaining c.args.input.now)
     (g.R.ByteIn.remaining c.open_whole.new.input)
     (g.R.ByteIn.remaining c.salvage_file-output.new.input)
@@ -32,7 +32,7 @@ returns-in-Err-answer-clause-err g c =
 
 pub returns-in-Err-answer-clause-own : goal.returns-in-Err-answer-clause-own
 returns-in-Err-answer-clause-own g c =
-    let nothing = none_told c.open_whole.new.told.faults _ c.is_empty.ensures c.if-not-is_empty.false in
+    let nothing = way_plain c.open_whole.new.way c.tells.result c.tells.ensures c.if-tells.false in
     written_unpacks c.args.profile c.in-Ok.player.reader
     (g.R.ByteIn.remaining c.args.input.now)
     (g.R.ByteIn.remaining c.open_whole.new.input) c.in-Err-answer.fault
@@ -41,7 +41,7 @@ returns-in-Err-answer-clause-own g c =
 
 pub returns-in-Ok-end_all-clause-ok : goal.returns-in-Ok-end_all-clause-ok
 returns-in-Ok-end_all-clause-ok g c =
-    let nothing = none_told c.open_whole.new.told.faults _ c.is_empty.ensures c.if-not-is_empty.false in
+    let nothing = way_plain c.open_whole.new.way c.tells.result c.tells.ensures c.if-tells.false in
     let all = rw c.in-Ok-answer.is at c.salvage_file-output.ensures.ok in
     let last = c.salvage_file-output.new.player.reader in
     let cues = rw (c.in-Ok.ensures.uncued, c.in-Ok-answer.is) at
@@ -107,7 +107,7 @@ returns-in-Ok-end_all-clause-ok g c =
 
 pub returns-clause-err : goal.returns-clause-err
 returns-clause-err g c =
-    let nothing = none_told c.open_whole.new.told.faults _ c.is_empty.ensures c.if-not-is_empty.false in
+    let nothing = way_plain c.open_whole.new.way c.tells.result c.tells.ensures c.if-tells.false in
     let all = rw c.in-Ok-answer.is at c.salvage_file-output.ensures.ok in
     let last = c.salvage_file-output.new.player.reader in
     let cues = rw (c.in-Ok.ensures.uncued, c.in-Ok-answer.is) at
@@ -214,7 +214,8 @@ returns-in-Err-clause-err g c =
     g.W.ByteOut.failures c.args.output c.args.output)
     (silent (g.W.ByteOut.contents c.args.output) (g.W.ByteOut.failures c.args.output))
     c.open_whole.new.told.data c.open_whole.new.told.faults.items c.in-Err.fault
-    c.tell_refused-fault.result c.in-Err.ensures.err c.in-Err.ensures.refused
+    c.tell_refused-fault.result c.open_whole.new.way c.in-Err.ensures.none c.in-Err.ensures.err
+    c.in-Err.ensures.plainly c.in-Err.ensures.refused
     (rw refused at c.tell_refused-fault.ensures.none) (rw refused at c.tell_refused-fault.ensures.some)
 
 pub returns-in-Err-clause-own : goal.returns-in-Err-clause-own
@@ -237,42 +238,42 @@ returns-in-Err-clause-tried g c =
 
 -- ---- something is told
 
-pub returns-then-not-is_empty-clause-ok : goal.returns-then-not-is_empty-clause-ok
-returns-then-not-is_empty-clause-ok g c =
-    let some = some_told c.open_whole.new.told.faults _ c.is_empty.ensures c.if-not-is_empty.true in
+pub returns-then-tells-clause-ok : goal.returns-then-tells-clause-ok
+returns-then-tells-clause-ok g c =
+    let some = way_tells c.open_whole.new.way c.tells.result c.tells.ensures c.if-tells.true in
     ok_so _ _ c.salvage_told.result.1 (λ r h. inr (c.in-Ok.ensures.plainly some, h))
     (c.salvage_told.ensures.ok c.args.profile (g.R.ByteIn.remaining c.args.input.now)
     (g.R.ByteIn.failures c.args.input.now) (c.in-Ok.ensures.told some) c.in-Ok.ensures.uncued)
 
-pub returns-then-not-is_empty-clause-err : goal.returns-then-not-is_empty-clause-err
-returns-then-not-is_empty-clause-err g c =
-    let some = some_told c.open_whole.new.told.faults _ c.is_empty.ensures c.if-not-is_empty.true in
+pub returns-then-tells-clause-err : goal.returns-then-tells-clause-err
+returns-then-tells-clause-err g c =
+    let some = way_tells c.open_whole.new.way c.tells.result c.tells.ensures c.if-tells.true in
     err_so _ _ c.salvage_told.result.1 (λ f h. inr (inl (c.in-Ok.ensures.plainly some, h)))
     (c.salvage_told.ensures.err c.args.profile (g.R.ByteIn.remaining c.args.input.now)
     (g.R.ByteIn.failures c.args.input.now) (c.in-Ok.ensures.told some) c.in-Ok.ensures.uncued)
 
-pub returns-then-not-is_empty-clause-own : goal.returns-then-not-is_empty-clause-own
-returns-then-not-is_empty-clause-own g c =
-    let some = some_told c.open_whole.new.told.faults _ c.is_empty.ensures c.if-not-is_empty.true in
+pub returns-then-tells-clause-own : goal.returns-then-tells-clause-own
+returns-then-tells-clause-own g c =
+    let some = way_tells c.open_whole.new.way c.tells.result c.tells.ensures c.if-tells.true in
     err_so _ _ c.salvage_told.result.1 (λ f h. own_told c.args.profile f (c.in-Ok.ensures.wide some)
     (segment_writes c.in-Ok.player.reader (g.R.ByteIn.remaining c.open_whole.new.input) f
     (c.in-Ok.ensures.told some).segment h)) c.salvage_told.ensures.own
 
-pub returns-then-not-is_empty-clause-again : goal.returns-then-not-is_empty-clause-again
-returns-then-not-is_empty-clause-again g c =
-    let some = some_told c.open_whole.new.told.faults _ c.is_empty.ensures c.if-not-is_empty.true in
+pub returns-then-tells-clause-again : goal.returns-then-tells-clause-again
+returns-then-tells-clause-again g c =
+    let some = way_tells c.open_whole.new.way c.tells.result c.tells.ensures c.if-tells.true in
     err_so _ _ c.salvage_told.result.1 (λ f h. inl (reads_again c.args.profile
     (g.R.AgainIn.begins c.args.input.now) (passage g.R.ByteIn.remaining g.R.ByteIn.failures
     c.args.input.now c.salvage_told.new.input) f (segment_writes c.in-Ok.player.reader
     (g.R.ByteIn.remaining c.open_whole.new.input) f (c.in-Ok.ensures.told some).segment h)))
     c.salvage_told.ensures.own
 
-pub returns-then-not-is_empty-clause-tried : goal.returns-then-not-is_empty-clause-tried
-returns-then-not-is_empty-clause-tried g c =
+pub returns-then-tells-clause-tried : goal.returns-then-tells-clause-tried
+returns-then-tells-clause-tried g c =
     err_so _ _ c.salvage_told.result.1 (tried_untold (passage g.R.ByteIn.remaining
     g.R.ByteIn.failures c.args.input.now c.salvage_told.new.input)) c.salvage_told.ensures.untold
 
 pub salvage_file-output-requires-clause-sound : goal.salvage_file-output-requires-clause-sound
 salvage_file-output-requires-clause-sound g c =
-    let nothing = none_told c.open_whole.new.told.faults _ c.is_empty.ensures c.if-not-is_empty.false in
+    let nothing = way_plain c.open_whole.new.way c.tells.result c.tells.ensures c.if-tells.false in
     (c.in-Ok.ensures.ok nothing).sound

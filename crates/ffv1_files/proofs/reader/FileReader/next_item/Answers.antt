@@ -76,3 +76,15 @@ returns-clause-ended g c = elim c.match-self.branch [
       )
       (λ none avi. absurd (cc (avi)))
 ]
+
+pub returns-clause-room : goal.returns-clause-room
+returns-clause-room g c = elim c.match-self.branch [
+  | in-Avi w ↦ rw w.frame-is w.read_chunk_item.ensures.room
+  | in-Matroska w ↦ rw w.frame-is w.read_element_item.ensures.room
+]
+
+pub returns-clause-held : goal.returns-clause-held
+returns-clause-held g c = elim c.match-self.branch [
+  | in-Avi w ↦ rw (w.result-is, w.frame-is) w.read_chunk_item.ensures.held
+  | in-Matroska w ↦ rw (w.result-is, w.frame-is) w.read_element_item.ensures.held
+]
